@@ -1,0 +1,6 @@
+mod FieldLemmas
+mod HeadLemmas
+mod FrontLemmas
+mod StayLemmas
+mod CutLemmas
+mod CallsOwned

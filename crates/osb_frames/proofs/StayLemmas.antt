@@ -1,0 +1,123 @@
+-- What stands at the front of bytes stays there where more follows.
+use Rattle.std.proofs.Common.{◌≡◌, ℕ, ◌+◌, ◌<◌, ◌≤◌, Bool, true, false, cond, List, ◌++◌, length, take, Option, Some, None, sym, refl, ap, subst, ◌∙◌, arith, ◌⊎◌, inl, inr}
+use Rattle.std.specs.Prelude.{nat_lt, codes}
+use Rattle.std.proofs.lemmas.List.{take-append-le, length-append}
+use Rattle.std.proofs.lemmas.Bool.{le-ltb, ltb-false, ltb-true}
+use Rattle.httparse.specs.Grammar.{RequestHead, print_request}
+use Rattle.httparse.proofs.GrammarLemmas.{ReadsRequest-append}
+use Rattle.osb_frames.specs.declared.limits.Limits.{Limits}
+use Rattle.osb_frames.specs.declared.request.Request.{Request}
+use Rattle.osb_frames.specs.declared.step.Step.{Step}
+use Rattle.osb_frames.specs.declared.step.Step.TheVariants.{Whole, Stop, Ended, More}
+use Rattle.osb_frames.specs.declared.step.StopKind.{StopKind}
+use Rattle.osb_frames.specs.declared.step.StopKind.TheVariants.{NoHead, Host, Coding, Length, TooLarge, Cut}
+use Rattle.osb_frames.specs.Fields.{Line, values_of, length_given}
+use Rattle.osb_frames.specs.Heads.{HeadAt, lines_of}
+use Rattle.osb_frames.specs.Cuts.{Message, length_fault, fault_of, number_or_zero, body_length, Front, fault, whole, with_body, front_from, IsFront, empty, headless, headed}
+use Rattle.osb_frames.specs.Steps.{Tells, Says, Stays, IfMore, IsFinal}
+use Rattle.osb_frames.proofs.FrontLemmas.{IsFinalIfSome, fault_is_final, final_not_cut, final_not_headless}
+
+head_stays : (limits : Limits) (bytes more : List ℕ) (h : RequestHead) (rest : List ℕ) → HeadAt limits bytes h rest → HeadAt limits (bytes ++ more) h (rest ++ more)
+head_stays limits bytes more h rest x = record { reads = ReadsRequest-append bytes h rest more x.reads; fits = x.fits; room = x.room }
+
+-- the request that a head and n bytes of body make
+abbrev request_of : RequestHead → List ℕ → ℕ → Front
+request_of h body n =
+    whole record { method = h.method; target = h.target; minor = h.minor; lines = lines_of h; body = body } (length (print_request h) + n)
+
+body_stays : (h : RequestHead) (rest more : List ℕ) (n : ℕ) (q : Message) (size : ℕ) → whole q size ≡ with_body h rest n → whole q size ≡ with_body h (rest ++ more) n
+body_stays h rest more n q size e = by_test (nat_lt (length rest) n) refl e
+  where
+    by_test : (b : Bool) → nat_lt (length rest) n ≡ b → whole q size ≡ cond b (fault Cut) (request_of h (take n rest) n) → whole q size ≡ with_body h (rest ++ more) n
+    by_test true was is = cc
+    by_test false was is =
+        let enough : n ≤ length rest = ltb-false _ _ was in
+        let still : nat_lt (length (rest ++ more)) n ≡ false = le-ltb _ _ (omega (arith, length-append rest more)) in
+        is
+        ∙ ap (λ body. request_of h body n) (sym (take-append-le n rest more enough))
+        ∙ ap (λ b. cond b (fault Cut) (request_of h (take n (rest ++ more)) n)) (sym still)
+
+whole_from_stays : (h : RequestHead) (rest more : List ℕ) (f : Option StopKind) (q : Message) (n : ℕ) → whole q n ≡ front_from h rest f → whole q n ≡ front_from h (rest ++ more) f
+whole_from_stays h rest more (Some f) q n e = cc
+whole_from_stays h rest more None q n e = body_stays h rest more (body_length (lines_of h)) q n e
+
+whole_stays : (limits : Limits) (bytes : List ℕ) (q : Message) (n : ℕ) → IsFront limits bytes (whole q n) → (more : List ℕ) → IsFront limits (bytes ++ more) (whole q n)
+whole_stays limits bytes q n (empty m e) more = cc
+whole_stays limits bytes q n (headless some none e) more = cc
+whole_stays limits bytes q n (headed h rest x e) more =
+    headed h (rest ++ more) (head_stays limits bytes more h rest x) (whole_from_stays h rest more (fault_of limits h.minor (lines_of h)) q n e)
+
+fault_from_stays : (h : RequestHead) (rest more : List ℕ) (g : Option StopKind) (f : StopKind) → IsFinal f → fault f ≡ front_from h rest g → fault f ≡ front_from h (rest ++ more) g
+fault_from_stays h rest more (Some g) f final e = e
+fault_from_stays h rest more None f final e = absurd (by_test (nat_lt (length rest) (body_length (lines_of h))) e)
+  where
+    by_test : (b : Bool) → fault f ≡ cond b (fault Cut) (request_of h (take (body_length (lines_of h)) rest) (body_length (lines_of h))) → ⊥
+    by_test true is = final_not_cut f final is
+    by_test false is = cc
+
+fault_stays : (limits : Limits) (bytes : List ℕ) (f : StopKind) → IsFinal f → IsFront limits bytes (fault f) → (more : List ℕ) → IsFront limits (bytes ++ more) (fault f)
+fault_stays limits bytes f final (empty m e) more = cc
+fault_stays limits bytes f final (headless some none e) more = absurd (final_not_headless f final e)
+fault_stays limits bytes f final (headed h rest x e) more =
+    headed h (rest ++ more) (head_stays limits bytes more h rest x) (fault_from_stays h rest more (fault_of limits h.minor (lines_of h)) f final e)
+
+told_stays : (limits : Limits) (bytes : List ℕ) (over : Bool) (f : StopKind) → Tells limits bytes over f → ((more : List ℕ) → IsFront limits (bytes ++ more) (fault f)) ⊎ (IsFront limits bytes (fault f) × (over ≡ true))
+told_stays limits bytes over NoHead (inl here) = inr (here.1, here.0)
+told_stays limits bytes over NoHead (inr always) = inl always
+told_stays limits bytes over Host at = inl (fault_stays limits bytes Host tt at)
+told_stays limits bytes over Coding at = inl (fault_stays limits bytes Coding tt at)
+told_stays limits bytes over Length at = inl (fault_stays limits bytes Length tt at)
+told_stays limits bytes over TooLarge at = inl (fault_stays limits bytes TooLarge tt at)
+told_stays limits bytes over Cut at = inr (at.1, at.0)
+
+pub step_stays : (limits : Limits) (bytes : List ℕ) (over : Bool) (step : Step Request) → Says limits bytes over step → Stays limits bytes over step
+step_stays limits bytes over (Whole q n) says = whole_stays limits bytes _ n says
+step_stays limits bytes over (Stop f) says = told_stays limits bytes over f says
+step_stays limits bytes over Ended says = tt
+step_stays limits bytes over More says = tt
+
+-- ---- what waits is smaller than a head and a body
+
+-- a length without a fault is within its limit
+length_fits : (limits : Limits) (n : Option ℕ) → length_fault limits n ≡ None → number_or_zero n ≤ limits.body
+length_fits limits None e = cc
+length_fits limits (Some n) e = by_test (nat_lt limits.body n) refl e
+  where
+    by_test : (b : Bool) → nat_lt limits.body n ≡ b → cond b (Some TooLarge) None ≡ None → n ≤ limits.body
+    by_test true was none = cc
+    by_test false was none = ltb-false _ _ was
+
+later_none : (b : Bool) (f : StopKind) (later : Option StopKind) → cond b (Some f) later ≡ None → later ≡ None
+later_none true f later e = cc
+later_none false f later e = e
+
+-- a head without a fault of its own asks for no more body than the limit
+body_fits : (limits : Limits) (minor : ℕ) (lines : List Line) → fault_of limits minor lines ≡ None → body_length lines ≤ limits.body
+body_fits limits minor lines e =
+    length_fits limits (length_given (values_of (codes "content-length") lines)) (later_none _ Coding _ (later_none _ Host _ e))
+
+cut_fits : (limits : Limits) (bytes : List ℕ) → IsFront limits bytes (fault Cut) → length bytes < limits.head + limits.body
+cut_fits limits bytes (empty m e) = cc
+cut_fits limits bytes (headless some none e) = cc
+cut_fits limits bytes (headed h rest x e) = by_fault (fault_of limits h.minor (lines_of h)) refl e
+  where
+    by_test : (b : Bool) → nat_lt (length rest) (body_length (lines_of h)) ≡ b → body_length (lines_of h) ≤ limits.body → fault Cut ≡ cond b (fault Cut) (request_of h (take (body_length (lines_of h)) rest) (body_length (lines_of h))) → length bytes < limits.head + limits.body
+    by_test true was small is =
+        let parts = simp length-append at (ap length x.reads.1) in
+        let fits = x.fits in
+        let short : length rest < body_length (lines_of h) = ltb-true _ _ was in
+        omega arith
+    by_test false was small is = cc
+
+    by_fault : (g : Option StopKind) → fault_of limits h.minor (lines_of h) ≡ g → fault Cut ≡ front_from h rest g → length bytes < limits.head + limits.body
+    by_fault None was is = by_test (nat_lt (length rest) (body_length (lines_of h))) refl (body_fits limits h.minor (lines_of h) was) is
+    by_fault (Some f) was is =
+        let same : f ≡ Cut = cc in
+        absurd (subst IsFinalIfSome (was ∙ ap Some same) (fault_is_final limits h.minor (lines_of h)))
+
+pub more_fits : (limits : Limits) (bytes : List ℕ) (over : Bool) (step : Step Request) → Says limits bytes over step → IfMore step (length bytes < limits.head + limits.body)
+more_fits limits bytes over (Whole q n) says = tt
+more_fits limits bytes over (Stop f) says = tt
+more_fits limits bytes over Ended says = tt
+more_fits limits bytes over More (open_yet, inl short) = cut_fits limits bytes short
+more_fits limits bytes over More (open_yet, inr waits) = let below = waits.1 in omega arith

@@ -1,0 +1,88 @@
+-- What a step says of the bytes that it was given, of which more may come.
+use Rattle.std.specs.Prelude.{◌≡◌, ℕ, ◌<◌, ◌⊎◌, Bool, List, [], ◌++◌, map, length, take, IsTrue, IsFalse, ⊤}
+use Rattle.osb_frames.specs.declared.limits.Limits.{Limits}
+use Rattle.osb_frames.specs.declared.request.Request.{Request}
+use Rattle.osb_frames.specs.declared.step.Step.{Step}
+use Rattle.osb_frames.specs.declared.step.Step.TheVariants.{Whole, Stop, Ended, More}
+use Rattle.osb_frames.specs.declared.step.StopKind.{StopKind}
+use Rattle.osb_frames.specs.declared.step.StopKind.TheVariants.{NoHead, Host, Coding, Length, TooLarge, Cut}
+use Rattle.osb_frames.specs.Line.{line}
+use Rattle.osb_frames.specs.Heads.{HasNoHead, MayBecomeHead}
+use Rattle.osb_frames.specs.Cuts.{Message, Front, nothing, fault, whole, IsFront}
+
+-- a request as contracts see it
+abbrev pub message : Request → Message
+message q = record {
+  method = q.method.now;
+  target = q.target.now;
+  minor = q.minor;
+  lines = map line (take q.count q.fields);
+  body = q.body.now;
+}
+
+-- the fault f is told: NoHead where no bytes that follow mend it, or none will come; Cut where none will come
+abbrev pub Tells : Limits → List ℕ → Bool → StopKind → Type 0
+Tells limits bytes over NoHead =
+    (IsTrue over × IsFront limits bytes (fault NoHead))
+    ⊎ ((more : List ℕ) → IsFront limits (bytes ++ more) (fault NoHead))
+Tells limits bytes over Host = IsFront limits bytes (fault Host)
+Tells limits bytes over Coding = IsFront limits bytes (fault Coding)
+Tells limits bytes over Length = IsFront limits bytes (fault Length)
+Tells limits bytes over TooLarge = IsFront limits bytes (fault TooLarge)
+Tells limits bytes over Cut = IsTrue over × IsFront limits bytes (fault Cut)
+
+-- no head stands there yet, the limit of a head isn't reached, and a head may still come
+abbrev pub Waits : Limits → List ℕ → Type 0
+Waits limits bytes =
+    HasNoHead limits bytes × (length bytes < limits.head) × ((bytes ≡ []) ⊎ MayBecomeHead limits bytes)
+
+-- a step tells what stands at the front of the bytes, or wants more of them: a body lacks a part, or a head may come
+abbrev pub Says : Limits → List ℕ → Bool → Step Request → Type 0
+Says limits bytes over (Whole q n) = IsFront limits bytes (whole (message q) n)
+Says limits bytes over (Stop f) = Tells limits bytes over f
+Says limits bytes over Ended = IsTrue over × (bytes ≡ [])
+Says limits bytes over More = IsFalse over × (IsFront limits bytes (fault Cut) ⊎ Waits limits bytes)
+
+-- whatever follows, the same stands there; but a fault that ends the input stands there by itself
+abbrev pub Stays : Limits → List ℕ → Bool → Step Request → Type 0
+Stays limits bytes over (Whole q n) = (more : List ℕ) → IsFront limits (bytes ++ more) (whole (message q) n)
+Stays limits bytes over (Stop f) =
+    ((more : List ℕ) → IsFront limits (bytes ++ more) (fault f)) ⊎ (IsFront limits bytes (fault f) × IsTrue over)
+Stays limits bytes over Ended = ⊤
+Stays limits bytes over More = ⊤
+
+-- the step is that request, of so many bytes
+abbrev pub IsWhole : Message → ℕ → Step Request → Type 0
+IsWhole m n (Whole q used) = (message q ≡ m) × (used ≡ n)
+IsWhole m n (Stop f) = ⊥
+IsWhole m n Ended = ⊥
+IsWhole m n More = ⊥
+
+-- a fault of a whole head, which no further bytes mend
+abbrev pub IsFinal : StopKind → Type 0
+IsFinal NoHead = ⊥
+IsFinal Host = ⊤
+IsFinal Coding = ⊤
+IsFinal Length = ⊤
+IsFinal TooLarge = ⊤
+IsFinal Cut = ⊥
+
+-- the step is what stands there
+abbrev pub Shows : Front → Step Request → Type 0
+Shows nothing step = step ≡ Ended
+Shows (fault f) step = step ≡ Stop f
+Shows (whole q n) step = IsWhole q n step
+
+-- P of the request and of its number of bytes, where there is one
+abbrev pub IfWhole : Step Request → (Request → ℕ → Type 0) → Type 0
+IfWhole (Whole q n) P = P q n
+IfWhole (Stop f) P = ⊤
+IfWhole Ended P = ⊤
+IfWhole More P = ⊤
+
+-- P where more bytes are needed
+abbrev pub IfMore : Step Request → Type 0 → Type 0
+IfMore (Whole q n) P = ⊤
+IfMore (Stop f) P = ⊤
+IfMore Ended P = ⊤
+IfMore More P = P

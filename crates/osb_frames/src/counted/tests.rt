@@ -1,0 +1,138 @@
+ghost use Rattle.std.specs.Prelude.{◌≡◌, ◌≤◌, ◌<◌, ◌+◌, ◌++◌, ℕ, OnOk, OnErr, IfOk, take};
+
+use super::*;
+use std::mem::size_of;
+use std::test::Fail;
+
+/// Gives or takes at most `most` bytes in one call, and fails at the call with the number `bad`.
+#[derive(Drop)]
+struct Pieces<'a> {
+    rest: &'a [u8],
+    most: usize,
+    calls: u64,
+    bad: u64,
+}
+
+impl Pieces<'_> {
+    /// How many of `wanted` bytes go over in this call.
+    fn step(&mut self, wanted: usize) -> io::Result<usize>
+        ensures { IfOk result (λ n. n ≤ wanted) }
+    {
+        self.calls = self.calls.saturating_add(1);
+        if self.calls == self.bad {
+            return Err(io::Error::from(io::ErrorKind::TimedOut));
+        }
+        Ok(wanted.min(self.most))
+    }
+}
+
+impl Read for Pieces<'_> {
+    fn read(&mut self, buf: &mut [u8]) -> io::Result<usize> {
+        let count = self.step(buf.len())?.min(self.rest.len());
+        buf[..count].copy_from_slice(&self.rest[..count]);
+        self.rest = &self.rest[count..];
+        Ok(count)
+    }
+}
+
+impl Write for Pieces<'_> {
+    fn write(&mut self, buf: &[u8]) -> io::Result<usize> {
+        self.step(buf.len())
+    }
+
+    fn flush(&mut self) -> io::Result<()> {
+        Ok(())
+    }
+}
+
+fn in_pieces(rest: &[u8], most: usize, bad: u64) -> Counted<Pieces<'_>> {
+    Counted::new(Pieces {
+        rest,
+        most,
+        calls: 0,
+        bad,
+    })
+}
+
+/// Reads once and writes once what came: what a caller of the traits knows of both.
+fn pass_on<S: Source, W: Sink>(source: &mut S, sink: &mut W, buf: &mut [u8]) -> io::Result<usize>
+    ensures read_once { S.reads source.new ≡ S.reads source.old + 1 }
+    ensures written_once { W.writes sink.new ≤ W.writes sink.old + 1 }
+    ensures passed { IfOk result (λ n. W.taken sink.new ≡ W.taken sink.old ++ take n buf.new) }
+    ensures cause { OnErr result
+        (S.failures source.old + W.failures sink.old < S.failures source.new + W.failures sink.new) }
+{
+    let count = source.read(buf)?;
+    sink.write(&buf[..count])
+}
+
+#[test]
+fn gives_what_the_reader_gives(rt: HostRuntime) {
+    let mut source = in_pieces(b"catalog", 3, 0);
+    let mut buf = [0; 8];
+    for (want, count) in [
+        (b"cat".as_slice(), 3),
+        (b"alo", 3),
+        (b"g", 1),
+        (b"", 0),
+        (b"", 0),
+    ] {
+        assert!(rt; matches!(source.read(&mut buf), Ok(n) if n == count));
+        assert_eq!(rt; &buf[..count], want);
+    }
+}
+
+#[test]
+fn hands_a_failed_read_on(rt: HostRuntime) {
+    for bad in 1..4 {
+        let mut source = in_pieces(b"catalog", 2, bad);
+        let mut buf = [0; 2];
+        for call in 1..4 {
+            assert_eq!(rt;
+                source.read(&mut buf).is_err(),
+                call == bad,
+                "call {call} of bad {bad}"
+            );
+        }
+    }
+}
+
+#[test]
+fn takes_what_the_writer_takes(rt: HostRuntime) -> Result<(), Fail> {
+    for (most, want) in [(0, 0), (1, 1), (6, 6), (7, 7), (8, 7)] {
+        assert_eq!(rt; in_pieces(b"", most, 0).write(b"catalog")?, want);
+    }
+    Ok(())
+}
+
+#[test]
+fn hands_a_failed_write_on(rt: HostRuntime) {
+    for bad in 1..4 {
+        let mut sink = in_pieces(b"", 2, bad);
+        for call in 1..4 {
+            assert_eq!(rt;
+                sink.write(b"catalog").is_err(),
+                call == bad,
+                "call {call} of bad {bad}"
+            );
+        }
+    }
+}
+
+#[test]
+fn passes_bytes_on(rt: HostRuntime) -> Result<(), Fail> {
+    let mut source = Counted::new(b"catalog".as_slice());
+    let mut sink = Counted::new(Vec::new(rt.alloc()));
+    let mut buf = [0; 4];
+    for want in [4, 3, 0] {
+        assert_eq!(rt; pass_on(&mut source, &mut sink, &mut buf)?, want);
+    }
+    assert_eq!(rt; sink.into_inner().as_slice(), b"catalog".as_slice());
+    assert!(rt; source.into_inner().is_empty());
+    Ok(())
+}
+
+#[test]
+fn counts_take_no_bytes(rt: HostRuntime) {
+    assert_eq!(rt; size_of::<Counted<u64>>(), size_of::<u64>());
+}

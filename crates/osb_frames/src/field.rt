@@ -1,0 +1,79 @@
+//! Field lines: names without case, values that list items, and numbers.
+
+ghost use Rattle.std.specs.Prelude.{◌≡◌, reverse};
+ghost use Rattle.httparse.specs.Grammar.{skip_ows, trim_ows};
+ghost use Rattle.osb_frames.specs.Fields.{same_ignoring_case, lists_item, number_in};
+
+use httparse::is_space_or_tab;
+
+/// A field line of a head (RFC 9112, 5): its name, and its value without the spaces and tabs
+/// around it.
+#[derive(Clone, Copy, Debug)]
+pub struct Field<'a> {
+    /// The name, in the case that it came in.
+    pub name: &'a [u8],
+    /// The value.
+    pub value: &'a [u8],
+}
+
+/// Whether the two are the same but for the case of ASCII letters.
+pub(crate) fn same_ignoring_case(a: &[u8], b: &[u8]) -> bool
+    ensures { result ≡ same_ignoring_case a.now b.now }
+{
+    a.eq_ignore_ascii_case(b)
+}
+
+fn trim_start(mut value: &[u8]) -> &[u8]
+    ensures { result.now ≡ skip_ows value.now }
+{
+    while let [first, rest @ ..] = value
+        && is_space_or_tab(*first)
+    {
+        value = rest;
+    }
+    value
+}
+
+fn trim_end(mut value: &[u8]) -> &[u8]
+    ensures { result.now ≡ reverse (skip_ows (reverse value.now)) }
+{
+    while let [rest @ .., last] = value
+        && is_space_or_tab(*last)
+    {
+        value = rest;
+    }
+    value
+}
+
+/// The bytes without the spaces and tabs at both ends.
+fn trim(value: &[u8]) -> &[u8]
+    ensures { result.now ≡ trim_ows value.now }
+{
+    trim_end(trim_start(value))
+}
+
+/// Whether one of the comma-separated items of the value is the word, in any case.
+pub(crate) fn lists_item(word: &[u8], value: &[u8]) -> bool
+    ensures { result ≡ lists_item word.now value.now }
+{
+    value
+        .split(|byte| *byte == b',')
+        .any(|item| same_ignoring_case(trim(item), word))
+}
+
+/// The number that 1 to 19 digits write, leading zeros among them.
+pub(crate) fn number_in(value: &[u8]) -> Option<u64>
+    ensures { result ≡ number_in value.now }
+{
+    if value.is_empty() || value.len() > 19 {
+        return None;
+    }
+    let mut number = 0;
+    for digit in value {
+        if !digit.is_ascii_digit() {
+            return None;
+        }
+        number = 10 * number + u64::from(*digit - b'0');
+    }
+    Some(number)
+}

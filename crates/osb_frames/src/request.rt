@@ -1,0 +1,79 @@
+//! A request, as slices of the buffer that it was read from.
+
+ghost use Rattle.std.specs.Prelude.{◌≡◌, ◌≤◌, length, map, option_copied};
+ghost use Rattle.osb_frames.specs.Fields.{values_of, first_value};
+
+use crate::field::{Field, lists_item, same_ignoring_case};
+use crate::limits::MOST_FIELDS;
+
+/// A request (RFC 9112, 2.1), as slices of the buffer that it was read from.
+#[derive(Clone, Copy, Debug)]
+pub struct Request<'a> {
+    /// The method, in the case that it came in.
+    pub method: &'a [u8],
+    /// The request target, as it came.
+    pub target: &'a [u8],
+    /// The minor version: 1 for HTTP/1.1, 0 for HTTP/1.0.
+    pub minor: u8,
+    /// The content, as many bytes as Content-Length says.
+    pub body: &'a [u8],
+    pub(crate) fields: [Field<'a>; MOST_FIELDS],
+    pub(crate) count: usize,
+    ghost has_all: { length fields ≡ 64 },
+    ghost in_range: { count ≤ 64 },
+}
+
+impl<'a> Request<'a> {
+    ghost use Rattle.osb_frames.specs.Steps.{message};
+    ghost use Rattle.osb_frames.specs.Line.{line};
+    ghost use Rattle.osb_frames.specs.Cuts.{closes};
+
+    /// The field lines, in the order that they came in.
+    pub fn fields(&self) -> &[Field<'a>]
+        ensures { map line result.now ≡ (message self.now).lines }
+    {
+        &self.fields[..self.count]
+    }
+
+    /// The value of the first field line with that name, in any case (RFC 9110, 5.1), without the
+    /// spaces and tabs around it.
+    pub fn field(&self, name: &[u8]) -> Option<&'a [u8]>
+        ensures { option_copied result ≡ first_value (values_of name.now (message self.now).lines) }
+    {
+        for field in self.fields() {
+            if same_ignoring_case(field.name, name) {
+                return Some(field.value);
+            }
+        }
+        None
+    }
+
+    /// How many field lines have the name, in any case.
+    pub(crate) fn count_named(&self, name: &[u8]) -> usize
+        ensures { result ≡ length (values_of name.now (message self.now).lines) }
+    {
+        let mut count = 0;
+        for field in self.fields() {
+            if same_ignoring_case(field.name, name) {
+                count += 1;
+            }
+        }
+        count
+    }
+
+    /// Whether the request closes its connection by itself: it is HTTP/1.0, or a Connection line
+    /// has the item `close` (RFC 9112, 9.3 and 9.6).
+    pub fn closes(&self) -> bool
+        ensures { result ≡ closes (message self.now) }
+    {
+        if self.minor == 0 {
+            return true;
+        }
+        for field in self.fields() {
+            if same_ignoring_case(field.name, b"connection") && lists_item(b"close", field.value) {
+                return true;
+            }
+        }
+        false
+    }
+}

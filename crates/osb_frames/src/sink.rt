@@ -1,0 +1,40 @@
+//! A writer of bytes, one write per call.
+
+ghost use Rattle.std.specs.Prelude.{◌≡◌, ◌==◌, if◌then◌else◌, ◌≤◌, ◌+◌, ◌++◌, ℕ, List, Option, length, take, IfOk, MatchResult};
+ghost use Rattle.std.specs.Io.KnownBytes.{WriteAppends};
+
+use std::io;
+
+/// A writer of bytes whose calls contracts can count. The counts stand in contracts alone.
+pub trait Sink {
+    /// The bytes that it has taken.
+    ghost taken: { Self → List ℕ };
+
+    /// How often it was written to.
+    ghost writes: { Self → ℕ };
+
+    /// How many of the writes failed.
+    ghost failures: { Self → ℕ };
+
+    /// How many of the writes failed or took nothing.
+    ghost fruitless: { Self → ℕ };
+
+    /// All bytes that it holds, where they are known.
+    ghost contents: { Self → Option (List ℕ) };
+
+    /// Writes once, as `std::io::Write::write`: the number of bytes, from the first on, that were
+    /// taken. A write of no bytes takes nothing.
+    fn write(&mut self, bytes: &[u8]) -> io::Result<usize>
+        ensures bound { IfOk result (λ n. n ≤ length bytes.now) }
+        ensures bytes { MatchResult result
+            (λ n. taken self.new ≡ taken self.old ++ take n bytes.now)
+            (λ _. taken self.new ≡ taken self.old) }
+        ensures counted { writes self.new ≡ writes self.old + 1 }
+        ensures failed { MatchResult result
+            (λ _. failures self.new ≡ failures self.old)
+            (λ _. failures self.new ≡ failures self.old + 1) }
+        ensures took { MatchResult result
+            (λ n. fruitless self.new ≡ (if n == 0 then fruitless self.old + 1 else fruitless self.old))
+            (λ _. fruitless self.new ≡ fruitless self.old + 1) }
+        ensures known { WriteAppends (contents self.old) (contents self.new) result bytes.now };
+}

@@ -1,0 +1,34 @@
+//! A reader of bytes, one read per call.
+
+ghost use Rattle.std.specs.Prelude.{◌≡◌, ◌≤◌, ◌+◌, ◌++◌, ℕ, List, Option, length, take, IfOk, MatchResult};
+ghost use Rattle.std.specs.Io.KnownBytes.{ReadConsumes};
+
+use std::io;
+
+/// A reader of bytes whose calls contracts can count. The counts stand in contracts alone.
+pub trait Source {
+    /// The bytes that it has given.
+    ghost given: { Self → List ℕ };
+
+    /// How often it was read.
+    ghost reads: { Self → ℕ };
+
+    /// How many of the reads failed.
+    ghost failures: { Self → ℕ };
+
+    /// The bytes that it will give, where they are known.
+    ghost rest: { Self → Option (List ℕ) };
+
+    /// Reads once, as `std::io::Read::read`: the number of bytes that were put at the front of the
+    /// buffer. In a buffer with room 0 is the end. What follows them in the buffer isn't said.
+    fn read(&mut self, buf: &mut [u8]) -> io::Result<usize>
+        ensures bound { IfOk result (λ n. n ≤ length buf.new) }
+        ensures bytes { MatchResult result
+            (λ n. given self.new ≡ given self.old ++ take n buf.new)
+            (λ _. given self.new ≡ given self.old) }
+        ensures counted { reads self.new ≡ reads self.old + 1 }
+        ensures failed { MatchResult result
+            (λ _. failures self.new ≡ failures self.old)
+            (λ _. failures self.new ≡ failures self.old + 1) }
+        ensures known { ReadConsumes (rest self.old) (rest self.new) result buf.new };
+}

@@ -1,0 +1,305 @@
+//! Heads, bodies and faults at their limits. Each input is looked at whole, byte by byte and in
+//! pieces of 7 bytes, and has to be answered alike.
+
+use super::*;
+use std::alloc::{AllocError, Global};
+use std::test::Fail;
+
+/// What the first request of the bytes is, where they come in pieces of that size.
+fn first_step(bytes: &[u8], piece: usize) -> Step<Request<'_>> {
+    for turn in 0..bytes.len() {
+        let came = turn.saturating_mul(piece).min(bytes.len());
+        match next(&bytes[..came], false, &Limits::STANDARD) {
+            Step::More => {}
+            step => return step,
+        }
+    }
+    next(bytes, true, &Limits::STANDARD)
+}
+
+/// The fault that the bytes end with, where it is the same in all pieces.
+fn stops_with(bytes: &[u8], kind: StopKind) -> bool {
+    [1, 7, bytes.len()].iter().all(|piece| match first_step(bytes, *piece) {
+        Step::Stop(found) => found == kind,
+        _ => false,
+    })
+}
+
+/// Whether the bytes begin with a request of so many bytes, in all pieces.
+fn reads(bytes: &[u8], size: usize) -> bool {
+    [1, 7, bytes.len()].iter().all(|piece| match first_step(bytes, *piece) {
+        Step::Whole(_, used) => used == size,
+        _ => false,
+    })
+}
+
+/// Whether the request at the front of the bytes closes its connection.
+fn closes(bytes: &[u8]) -> Option<bool> {
+    match next(bytes, true, &Limits::STANDARD) {
+        Step::Whole(request, _) => Some(request.closes()),
+        _ => None,
+    }
+}
+
+/// The front, so many times the middle, and the back.
+fn repeated(
+    alloc: Global,
+    front: &str,
+    middle: &str,
+    times: usize,
+    back: &str,
+) -> Result<String, AllocError> {
+    let mut text = String::from_str(alloc, front)?;
+    for _ in 0..times {
+        text.push_str(middle)?;
+    }
+    text.push_str(back)?;
+    Ok(text)
+}
+
+#[test]
+fn a_request_has_its_parts(rt: HostRuntime) {
+    let buf = b"POST /a?b HTTP/1.1\r\nHost: x\r\ncontent-LENGTH: \t3 \r\nHost-Not: \r\n\r\nabcGET";
+    let Step::Whole(request, used) = next(buf, false, &Limits::STANDARD) else {
+        panic!(rt; "no request");
+    };
+    assert_eq!(rt; used, 67);
+    assert_eq!(rt; request.method, b"POST".as_slice());
+    assert_eq!(rt; request.target, b"/a?b".as_slice());
+    assert_eq!(rt; request.minor, 1);
+    assert_eq!(rt; request.body, b"abc".as_slice());
+    let fields = request.fields();
+    assert_eq!(rt; fields.len(), 3);
+    assert_eq!(rt; fields[1].name, b"content-LENGTH".as_slice());
+    assert_eq!(rt; request.field(b"Content-Length"), Some(b"3".as_slice()));
+    assert_eq!(rt; request.field(b"HOST-NOT"), Some(b"".as_slice()));
+    assert_eq!(rt; request.field(b"cookie"), None);
+    assert!(rt; !request.closes());
+}
+
+#[test]
+fn the_first_of_repeated_fields_counts(rt: HostRuntime) {
+    let buf = b"GET / HTTP/1.1\r\nX-A: 1\r\nHost: x\r\nx-a: 2\r\n\r\n";
+    let Step::Whole(request, _) = next(buf, true, &Limits::STANDARD) else {
+        panic!(rt; "no request");
+    };
+    assert_eq!(rt; request.field(b"X-a"), Some(b"1".as_slice()));
+}
+
+#[test]
+fn nothing_and_too_little(rt: HostRuntime) {
+    let limits = &Limits::STANDARD;
+    assert!(rt; matches!(next(b"", true, limits), Step::Ended));
+    assert!(rt; matches!(next(b"", false, limits), Step::More));
+    assert!(rt; matches!(next(b"GET / HT", false, limits), Step::More));
+    assert!(rt; matches!(next(b"\r\n", false, limits), Step::More));
+    let body_missing = b"PUT / HTTP/1.1\r\nHost: b\r\nContent-Length: 2\r\n\r\n1";
+    assert!(rt; matches!(next(body_missing, false, limits), Step::More));
+}
+
+#[test]
+fn no_head(rt: HostRuntime) {
+    assert!(rt; stops_with(b"\r\n", StopKind::NoHead));
+    assert!(rt; stops_with(b"GET / HT", StopKind::NoHead));
+    assert!(rt; stops_with(b"GET /\r\n\r\n", StopKind::NoHead));
+    assert!(rt; stops_with(b"GET / HTTP/1.2\r\nHost: b\r\n\r\n", StopKind::NoHead));
+    assert!(rt; stops_with(b"GET / HTTP/1.1\r\nHost : b\r\n\r\n", StopKind::NoHead));
+    // What no bytes can mend is told before the input ends.
+    assert!(rt;
+        matches!(
+            next(b"\x01", false, &Limits::STANDARD),
+            Step::Stop(StopKind::NoHead)
+        )
+    );
+}
+
+#[test]
+fn heads_at_their_limit(rt: HostRuntime) -> Result<(), Fail> {
+    let alloc = rt.alloc();
+    let front = "GET /v2/catalog HTTP/1.1\r\nHost: b\r\nX-Pad: ";
+    let fits = repeated(alloc, front, "a", 8192 - 46, "\r\n\r\n")?;
+    assert_eq!(rt; fits.len(), 8192);
+    assert!(rt; reads(fits.as_bytes(), 8192));
+    let large = repeated(alloc, front, "a", 8193 - 46, "\r\n\r\n")?;
+    assert_eq!(rt; large.len(), 8193);
+    assert!(rt; stops_with(large.as_bytes(), StopKind::NoHead));
+    Ok(())
+}
+
+#[test]
+fn empty_lines_before_a_head_count(rt: HostRuntime) -> Result<(), Fail> {
+    let alloc = rt.alloc();
+    let request = "GET / HTTP/1.1\r\nHost: b\r\n\r\n";
+    let fits = repeated(alloc, "\n", "\r\n", 4082, request)?;
+    assert_eq!(rt; fits.len(), 8192);
+    assert!(rt; reads(fits.as_bytes(), 8192));
+    let large = repeated(alloc, "\r\n", "\r\n", 4082, request)?;
+    assert_eq!(rt; large.len(), 8193);
+    assert!(rt; stops_with(large.as_bytes(), StopKind::NoHead));
+    Ok(())
+}
+
+#[test]
+fn field_lines_at_their_limit(rt: HostRuntime) -> Result<(), Fail> {
+    let alloc = rt.alloc();
+    let front = "GET / HTTP/1.1\r\nHost: b\r\n";
+    let fits = repeated(alloc, front, "X: a\r\n", 63, "\r\n")?;
+    assert!(rt; reads(fits.as_bytes(), fits.len()));
+    let many = repeated(alloc, front, "X: a\r\n", 64, "\r\n")?;
+    assert!(rt; stops_with(many.as_bytes(), StopKind::NoHead));
+    // Too many lines are told at the limit of a head or at the end, and not before.
+    assert!(rt; matches!(next(many.as_bytes(), false, &Limits::STANDARD), Step::More));
+    let full = repeated(alloc, front, "X: a\r\n", 1400, "")?;
+    assert!(rt;
+        matches!(
+            next(full.as_bytes(), false, &Limits::STANDARD),
+            Step::Stop(StopKind::NoHead)
+        )
+    );
+    Ok(())
+}
+
+#[test]
+fn hosts(rt: HostRuntime) {
+    assert!(rt; stops_with(b"GET / HTTP/1.1\r\n\r\n", StopKind::Host));
+    assert!(rt;
+        stops_with(
+            b"GET / HTTP/1.1\r\nHost: a\r\nhost: a\r\n\r\n",
+            StopKind::Host
+        )
+    );
+    assert!(rt;
+        stops_with(
+            b"GET / HTTP/1.0\r\nHost: a\r\nhost: b\r\n\r\n",
+            StopKind::Host
+        )
+    );
+    assert!(rt; reads(b"GET / HTTP/1.0\r\n\r\n", 18));
+    assert!(rt; reads(b"GET / HTTP/1.0\r\nHost: a\r\n\r\n", 27));
+    // A Host line without a value is one.
+    assert!(rt; reads(b"GET / HTTP/1.1\r\nHost:\r\n\r\n", 25));
+}
+
+#[test]
+fn codings(rt: HostRuntime) {
+    let front = b"PUT / HTTP/1.1\r\nHost: b\r\nTransfer-Encoding: chunked\r\n\r\n";
+    assert!(rt; stops_with(front, StopKind::Coding));
+    let both =
+        b"PUT / HTTP/1.1\r\nHost: b\r\nTransfer-Encoding: identity\r\nContent-Length: x\r\n\r\n";
+    assert!(rt; stops_with(both, StopKind::Coding));
+    let host_first = b"PUT / HTTP/1.1\r\nTransfer-Encoding: chunked\r\n\r\n";
+    assert!(rt; stops_with(host_first, StopKind::Host));
+}
+
+fn length_is(alloc: Global, value: &str, kind: StopKind) -> Result<bool, AllocError> {
+    let mut text = String::from_str(alloc, "PUT / HTTP/1.0\r\nContent-Length: ")?;
+    text.push_str(value)?;
+    text.push_str("\r\n\r\n1")?;
+    Ok(stops_with(text.as_bytes(), kind))
+}
+
+#[test]
+fn lengths(rt: HostRuntime) -> Result<(), Fail> {
+    let alloc = rt.alloc();
+    for bad in [
+        "",
+        "x",
+        "+1",
+        "-1",
+        "1 1",
+        "0x1",
+        "1,1",
+        "00000000000000000001",
+    ] {
+        assert!(rt; length_is(alloc, bad, StopKind::Length)?, "{bad}");
+    }
+    for twice in ["1\r\nContent-Length: 1", "1\r\ncontent-length: 65537"] {
+        assert!(rt; length_is(alloc, twice, StopKind::Length)?, "{twice}");
+    }
+    for large in ["65537", "9999999999999999999"] {
+        assert!(rt; length_is(alloc, large, StopKind::TooLarge)?, "{large}");
+    }
+    for cut in ["2", "0000000000000000002", "65536"] {
+        assert!(rt; length_is(alloc, cut, StopKind::Cut)?, "{cut}");
+    }
+    Ok(())
+}
+
+#[test]
+fn bodies_at_their_limit(rt: HostRuntime) -> Result<(), Fail> {
+    let alloc = rt.alloc();
+    let front = "PUT / HTTP/1.1\r\nHost: b\r\nContent-Length: 65536\r\n\r\n";
+    let fits = repeated(alloc, front, "b", 65536, "PUT")?;
+    let Step::Whole(request, used) = next(fits.as_bytes(), false, &Limits::STANDARD) else {
+        panic!(rt; "no request");
+    };
+    assert_eq!(rt; used, front.len() + 65536);
+    assert_eq!(rt; request.body.len(), 65536);
+    let cut = repeated(alloc, front, "b", 65535, "")?;
+    assert!(rt; matches!(next(cut.as_bytes(), false, &Limits::STANDARD), Step::More));
+    assert!(rt;
+        matches!(
+            next(cut.as_bytes(), true, &Limits::STANDARD),
+            Step::Stop(StopKind::Cut)
+        )
+    );
+    Ok(())
+}
+
+#[test]
+fn smaller_limits_hold(rt: HostRuntime) {
+    let limits = &Limits {
+        head: 30,
+        fields: 1,
+        body: 2,
+    };
+    let fits = b"GET / HTTP/1.1\r\nHost: b\r\n\r\n";
+    assert!(rt; matches!(next(fits, true, limits), Step::Whole(_, 27)));
+    let long = b"GET /abc HTTP/1.1\r\nHost: bc\r\n\r\n";
+    assert!(rt; matches!(next(long, true, limits), Step::Stop(StopKind::NoHead)));
+    let lines = b"GET / HTTP/1.0\r\nA: 1\r\nB: 2\r\n\r\n";
+    assert!(rt; matches!(next(lines, true, limits), Step::Stop(StopKind::NoHead)));
+}
+
+#[test]
+fn closing(rt: HostRuntime) {
+    assert_eq!(rt; closes(b"GET / HTTP/1.1\r\nHost: b\r\n\r\n"), Some(false));
+    assert_eq!(rt;
+        closes(b"GET / HTTP/1.0\r\nConnection: keep-alive\r\n\r\n"),
+        Some(true)
+    );
+    for line in [
+        "close",
+        "Close",
+        "CLOSE",
+        "a, close",
+        "close,b",
+        "a ,\t cLose ,b",
+    ] {
+        assert!(rt; with_connection(line), "{line}");
+    }
+    for line in ["", "closed", "clos", "a close", "keep-alive", "\"close\""] {
+        assert!(rt; !with_connection(line), "{line}");
+    }
+    let second = b"GET / HTTP/1.1\r\nHost: b\r\nConnection: a\r\nConnection: close\r\n\r\n";
+    assert_eq!(rt; closes(second), Some(true));
+    let other = b"GET / HTTP/1.1\r\nHost: b\r\nConnections: close\r\n\r\n";
+    assert_eq!(rt; closes(other), Some(false));
+}
+
+/// Whether a request with that Connection line closes.
+fn with_connection(value: &str) -> bool {
+    let field = Field {
+        name: b"Connection",
+        value: value.as_bytes(),
+    };
+    let request = Request {
+        method: b"GET",
+        target: b"/",
+        minor: 1,
+        body: b"",
+        fields: [field; MOST_FIELDS],
+        count: 1,
+    };
+    request.closes()
+}
