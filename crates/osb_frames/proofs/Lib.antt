@@ -1,6 +1,7 @@
 mod FieldLemmas
 mod HeadLemmas
-mod FrontLemmas
+pub mod FrontLemmas
 mod StayLemmas
 mod CutLemmas
 mod CallsOwned
+mod SendLemmas

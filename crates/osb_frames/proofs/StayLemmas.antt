@@ -14,7 +14,7 @@ use Rattle.osb_frames.specs.declared.step.StopKind.TheVariants.{NoHead, Host, Co
 use Rattle.osb_frames.specs.Fields.{Line, values_of, length_given}
 use Rattle.osb_frames.specs.Heads.{HeadAt, lines_of}
 use Rattle.osb_frames.specs.Cuts.{Message, length_fault, fault_of, number_or_zero, body_length, Front, fault, whole, with_body, front_from, IsFront, empty, headless, headed}
-use Rattle.osb_frames.specs.Steps.{Tells, Says, Stays, IfMore, IsFinal}
+use Rattle.osb_frames.specs.Steps.{Tells, Says, FaultStays, Stays, IfMore, IsFinal}
 use Rattle.osb_frames.proofs.FrontLemmas.{IsFinalIfSome, fault_is_final, final_not_cut, final_not_headless}
 
 head_stays : (limits : Limits) (bytes more : List ℕ) (h : RequestHead) (rest : List ℕ) → HeadAt limits bytes h rest → HeadAt limits (bytes ++ more) h (rest ++ more)
@@ -61,7 +61,7 @@ fault_stays limits bytes f final (headless some none e) more = absurd (final_not
 fault_stays limits bytes f final (headed h rest x e) more =
     headed h (rest ++ more) (head_stays limits bytes more h rest x) (fault_from_stays h rest more (fault_of limits h.minor (lines_of h)) f final e)
 
-told_stays : (limits : Limits) (bytes : List ℕ) (over : Bool) (f : StopKind) → Tells limits bytes over f → ((more : List ℕ) → IsFront limits (bytes ++ more) (fault f)) ⊎ (IsFront limits bytes (fault f) × (over ≡ true))
+told_stays : (limits : Limits) (bytes : List ℕ) (over : Bool) (f : StopKind) → Tells limits bytes over f → FaultStays limits bytes over f
 told_stays limits bytes over NoHead (inl here) = inr (here.1, here.0)
 told_stays limits bytes over NoHead (inr always) = inl always
 told_stays limits bytes over Host at = inl (fault_stays limits bytes Host tt at)

@@ -43,11 +43,15 @@ Says limits bytes over (Stop f) = Tells limits bytes over f
 Says limits bytes over Ended = IsTrue over × (bytes ≡ [])
 Says limits bytes over More = IsFalse over × (IsFront limits bytes (fault Cut) ⊎ Waits limits bytes)
 
--- whatever follows, the same stands there; but a fault that ends the input stands there by itself
+-- the fault stands there whatever follows, or it is what the end of the input makes of the bytes
+abbrev pub FaultStays : Limits → List ℕ → Bool → StopKind → Type 0
+FaultStays limits bytes over f =
+    ((more : List ℕ) → IsFront limits (bytes ++ more) (fault f)) ⊎ (IsFront limits bytes (fault f) × IsTrue over)
+
+-- what is told stands there whatever follows
 abbrev pub Stays : Limits → List ℕ → Bool → Step Request → Type 0
 Stays limits bytes over (Whole q n) = (more : List ℕ) → IsFront limits (bytes ++ more) (whole (message q) n)
-Stays limits bytes over (Stop f) =
-    ((more : List ℕ) → IsFront limits (bytes ++ more) (fault f)) ⊎ (IsFront limits bytes (fault f) × IsTrue over)
+Stays limits bytes over (Stop f) = FaultStays limits bytes over f
 Stays limits bytes over Ended = ⊤
 Stays limits bytes over More = ⊤
 

@@ -40,13 +40,15 @@ impl<T> Counted<T> {
 }
 
 impl<T: Read> Source for Counted<T> {
-    ghost given = { λ s. all_bytes s.calls.list };
+    ghost use Rattle.osb_frames.specs.Counted.{calls_of, inner_of};
 
-    ghost reads = { λ s. length s.calls.list };
+    ghost given = { λ s. all_bytes (calls_of s) };
 
-    ghost failures = { λ s. failure_count s.calls.list };
+    ghost reads = { λ s. length (calls_of s) };
 
-    ghost rest = { λ s. T.remaining s.inner };
+    ghost failures = { λ s. failure_count (calls_of s) };
+
+    ghost rest = { λ s. T.remaining (inner_of s) };
 
     fn read(&mut self, buf: &mut [u8]) -> io::Result<usize> {
         match self.inner.read(buf) {
@@ -63,15 +65,17 @@ impl<T: Read> Source for Counted<T> {
 }
 
 impl<T: Write> Sink for Counted<T> {
-    ghost taken = { λ s. all_bytes s.calls.list };
+    ghost use Rattle.osb_frames.specs.Counted.{calls_of, inner_of};
 
-    ghost writes = { λ s. length s.calls.list };
+    ghost taken = { λ s. all_bytes (calls_of s) };
 
-    ghost failures = { λ s. failure_count s.calls.list };
+    ghost writes = { λ s. length (calls_of s) };
 
-    ghost fruitless = { λ s. fruitless_count s.calls.list };
+    ghost failures = { λ s. failure_count (calls_of s) };
 
-    ghost contents = { λ s. T.contents s.inner };
+    ghost fruitless = { λ s. fruitless_count (calls_of s) };
+
+    ghost contents = { λ s. T.contents (inner_of s) };
 
     fn write(&mut self, bytes: &[u8]) -> io::Result<usize> {
         match self.inner.write(bytes) {

@@ -1,6 +1,6 @@
 //! A writer of bytes, one write per call.
 
-ghost use Rattle.std.specs.Prelude.{◌≡◌, ◌==◌, if◌then◌else◌, ◌≤◌, ◌+◌, ◌++◌, ℕ, List, Option, length, take, IfOk, MatchResult};
+ghost use Rattle.std.specs.Prelude.{◌≡◌, ◌==◌, if◌then◌else◌, ◌<◌, ◌≤◌, ◌+◌, ◌++◌, ℕ, List, Option, length, take, Ok, IfOk, MatchResult};
 ghost use Rattle.std.specs.Io.KnownBytes.{WriteAppends};
 
 use std::io;
@@ -22,6 +22,10 @@ pub trait Sink {
     /// All bytes that it holds, where they are known.
     ghost contents: { Self → Option (List ℕ) };
 
+    /// A number of bytes that it surely takes: a write of at most so many takes them all. It is 0
+    /// where nothing is known, as of a socket.
+    ghost room: { Self → ℕ } = { λ _. 0 };
+
     /// Writes once, as `std::io::Write::write`: the number of bytes, from the first on, that were
     /// taken. A write of no bytes takes nothing.
     fn write(&mut self, bytes: &[u8]) -> io::Result<usize>
@@ -36,5 +40,8 @@ pub trait Sink {
         ensures took { MatchResult result
             (λ n. fruitless self.new ≡ (if n == 0 then fruitless self.old + 1 else fruitless self.old))
             (λ _. fruitless self.new ≡ fruitless self.old + 1) }
+        ensures roomy { 0 < length bytes.now → length bytes.now ≤ room self.old →
+            result ≡ Ok (length bytes.now) }
+        ensures room_left { IfOk result (λ n. room self.old ≤ room self.new + n) }
         ensures known { WriteAppends (contents self.old) (contents self.new) result bytes.now };
 }

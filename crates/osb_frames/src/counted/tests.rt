@@ -1,6 +1,8 @@
-ghost use Rattle.std.specs.Prelude.{◌≡◌, ◌≤◌, ◌<◌, ◌+◌, ◌++◌, ℕ, OnOk, OnErr, IfOk, take};
+ghost use Rattle.std.specs.Prelude.{◌≡◌, ◌≤◌, ◌<◌, ◌+◌, ◌++◌, ℕ, ◌-◌, OnErr, IfOk, Some, length, take};
+ghost use Rattle.osb_frames.specs.Calls.{all_bytes, failure_count, fruitless_count};
 
 use super::*;
+use crate::send::send_all;
 use std::mem::size_of;
 use std::test::Fail;
 
@@ -42,6 +44,38 @@ impl Write for Pieces<'_> {
 
     fn flush(&mut self) -> io::Result<()> {
         Ok(())
+    }
+}
+
+/// A writer with room for eight bytes.
+#[derive(Drop)]
+struct Slate {
+    bytes: [u8; 8],
+    used: usize,
+    calls: Calls,
+    ghost inside: { used ≤ 8 },
+}
+
+impl Sink for Slate {
+    ghost taken = { λ s. all_bytes s.calls.list };
+
+    ghost writes = { λ s. length s.calls.list };
+
+    ghost failures = { λ s. failure_count s.calls.list };
+
+    ghost fruitless = { λ s. fruitless_count s.calls.list };
+
+    ghost contents = { λ s. Some (take s.used s.bytes) };
+
+    ghost room = { λ s. 8 - s.used };
+
+    fn write(&mut self, bytes: &[u8]) -> io::Result<usize> {
+        let count = bytes.len().min(8 - self.used);
+        let end = self.used + count;
+        self.bytes[self.used..end].copy_from_slice(&bytes[..count]);
+        self.used = end;
+        self.calls = self.calls.then(&Some(&bytes[..count]));
+        Ok(count)
     }
 }
 
@@ -130,6 +164,48 @@ fn passes_bytes_on(rt: HostRuntime) -> Result<(), Fail> {
     assert_eq!(rt; sink.into_inner().as_slice(), b"catalog".as_slice());
     assert!(rt; source.into_inner().is_empty());
     Ok(())
+}
+
+#[test]
+fn sends_all(rt: HostRuntime) {
+    for (most, bad, want) in [
+        (3, 0, Ok(())),
+        (7, 0, Ok(())),
+        (3, 1, Err(0)),
+        (3, 2, Err(3)),
+        (3, 3, Err(6)),
+        (0, 0, Err(0)),
+    ] {
+        let mut sink = in_pieces(b"", most, bad);
+        assert_eq!(rt;
+            send_all(&mut sink, b"catalog"),
+            want,
+            "{most} at a time, bad {bad}"
+        );
+    }
+    assert_eq!(rt; send_all(&mut in_pieces(b"", 0, 1), b""), Ok(()));
+}
+
+/// What has room is written whole.
+fn write_short<W: Sink>(sink: &mut W, bytes: &[u8]) -> usize
+    requires some { 0 < length bytes.now }
+    requires fits { length bytes.now ≤ W.room sink.old }
+    ensures { result ≡ length bytes.now }
+{
+    sink.write(bytes).unwrap()
+}
+
+#[test]
+fn room_is_kept(rt: HostRuntime) {
+    let mut slate = Slate {
+        bytes: [0; 8],
+        used: 0,
+        calls: Calls::none(),
+    };
+    assert_eq!(rt; write_short(&mut slate, b"catalog"), 7);
+    assert!(rt; matches!(slate.write(b"id"), Ok(1)));
+    assert!(rt; matches!(slate.write(b"d"), Ok(0)));
+    assert_eq!(rt; slate.bytes, *b"catalogi");
 }
 
 #[test]

@@ -1,0 +1,9 @@
+pub mod Body
+pub mod FixedError
+pub mod Parts
+pub mod Sending
+pub mod Staging
+pub mod Status
+pub mod Tally
+pub mod Text
+pub mod Written

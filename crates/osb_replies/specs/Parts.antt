@@ -1,0 +1,23 @@
+-- What a reply says.
+use Rattle.std.specs.Prelude.{true, None, codes, option_copied}
+use Rattle.osb_replies.specs.declared.reply.Reply.{Reply}
+use Rattle.osb_replies.specs.declared.status.Status.TheVariants.{InternalServerError}
+use Rattle.osb_replies.specs.Body.{body_bytes}
+use Rattle.osb_replies.specs.Text.{ReplyParts}
+
+abbrev pub parts : Reply → ReplyParts
+parts reply = record {
+  status = reply.status;
+  body = body_bytes reply.body;
+  echo = option_copied reply.echo;
+  close = reply.close;
+}
+
+-- the reply to a request that met want of memory or a refusal of the store
+abbrev pub refused : ReplyParts
+refused = record {
+  status = InternalServerError;
+  body = codes "{}";
+  echo = None;
+  close = true;
+}

@@ -1,0 +1,349 @@
+ghost use Rattle.std.specs.Prelude.{◌≡◌};
+ghost use Rattle.osb_replies.specs.Parts.{parts, refused};
+
+use super::*;
+use osb_frames::Counted;
+use std::alloc::Global;
+use std::io::{self, Write};
+use std::process::Abort;
+use std::test::Fail;
+
+/// The reply of a refusal, and what is proved of the constant.
+fn refusal() -> Reply<'static>
+    ensures { parts result ≡ refused }
+{
+    REFUSED
+}
+
+fn plain(status: Status, body: &[u8]) -> Reply<'_> {
+    Reply {
+        status,
+        body: Body::Lent(body),
+        echo: None,
+        close: false,
+    }
+}
+
+/// How a writer goes wrong.
+#[derive(Clone, Copy, PartialEq, Eq)]
+enum Wrong {
+    Never,
+    Fails,
+    TakesNothing,
+}
+
+/// Takes at most `most` bytes in one write, and goes wrong at the write with the number `bad`.
+#[derive(Drop)]
+struct Paper {
+    bytes: Vec<u8>,
+    most: usize,
+    writes: usize,
+    wrong: Wrong,
+    bad: usize,
+}
+
+impl Write for Paper {
+    fn write(&mut self, buf: &[u8]) -> io::Result<usize> {
+        self.writes = self.writes.saturating_add(1);
+        if self.writes == self.bad {
+            match self.wrong {
+                Wrong::Never => {}
+                Wrong::Fails => return Err(io::Error::from(io::ErrorKind::BrokenPipe)),
+                Wrong::TakesNothing => return Ok(0),
+            }
+        }
+        let count = buf.len().min(self.most);
+        self.bytes.extend_from_slice(&buf[..count])?;
+        Ok(count)
+    }
+
+    fn flush(&mut self) -> io::Result<()> {
+        Ok(())
+    }
+}
+
+fn write_on(
+    alloc: Global,
+    reply: &Reply<'_>,
+    most: usize,
+    wrong: Wrong,
+    bad: usize,
+) -> (Result<(), WriteFault>, Paper) {
+    let mut sink = Counted::new(Paper {
+        bytes: Vec::new(alloc),
+        most,
+        writes: 0,
+        wrong,
+        bad,
+    });
+    let result = write_reply(&mut sink, reply);
+    (result, sink.into_inner())
+}
+
+/// Checks that the reply is written as `text`, whole and in pieces, and that its length is told.
+fn check(rt: &impl Abort, alloc: Global, reply: &Reply<'_>, text: &[u8]) {
+    for most in [usize::MAX, 1, 7] {
+        let (result, paper) = write_on(alloc, reply, most, Wrong::Never, 0);
+        assert_eq!(rt; result, Ok(()));
+        assert_eq!(rt; paper.bytes.as_slice(), text);
+    }
+    assert_eq!(rt; reply.length(), text.len());
+}
+
+#[test]
+fn texts(rt: HostRuntime) {
+    check(
+        &rt,
+        rt.alloc(),
+        &FixedError::NoHead.reply(None, true),
+        b"HTTP/1.1 400 Bad Request\r\nContent-Type: application/json\r\nContent-Length: 44\r\nConnection: close\r\n\r\n{\"description\":\"No request head was found.\"}",
+    );
+    check(
+        &rt,
+        rt.alloc(),
+        &plain(Status::Created, b"{}"),
+        b"HTTP/1.1 201 Created\r\nContent-Type: application/json\r\nContent-Length: 2\r\n\r\n{}",
+    );
+    let mut unauthorized = plain(Status::Unauthorized, b"{}");
+    unauthorized.close = true;
+    check(
+        &rt,
+        rt.alloc(),
+        &unauthorized,
+        b"HTTP/1.1 401 Unauthorized\r\nContent-Type: application/json\r\nContent-Length: 2\r\nWWW-Authenticate: Basic realm=\"broker\"\r\nConnection: close\r\n\r\n{}",
+    );
+    check(
+        &rt,
+        rt.alloc(),
+        &refusal(),
+        b"HTTP/1.1 500 Internal Server Error\r\nContent-Type: application/json\r\nContent-Length: 2\r\nConnection: close\r\n\r\n{}",
+    );
+}
+
+#[test]
+fn echoes(rt: HostRuntime) {
+    let mut reply = plain(Status::Ok, b"{}");
+    reply.echo = Some(b"r1");
+    reply.close = true;
+    check(
+        &rt,
+        rt.alloc(),
+        &reply,
+        b"HTTP/1.1 200 OK\r\nContent-Type: application/json\r\nContent-Length: 2\r\nX-Broker-API-Request-Identity: r1\r\nConnection: close\r\n\r\n{}",
+    );
+    reply.echo = Some(b"");
+    reply.close = false;
+    check(
+        &rt,
+        rt.alloc(),
+        &reply,
+        b"HTTP/1.1 200 OK\r\nContent-Type: application/json\r\nContent-Length: 2\r\nX-Broker-API-Request-Identity: \r\n\r\n{}",
+    );
+}
+
+#[test]
+fn statuses(rt: HostRuntime) {
+    for (status, code, phrase) in [
+        (Status::Ok, 200, "OK"),
+        (Status::Created, 201, "Created"),
+        (Status::Accepted, 202, "Accepted"),
+        (Status::BadRequest, 400, "Bad Request"),
+        (Status::Unauthorized, 401, "Unauthorized"),
+        (Status::NotFound, 404, "Not Found"),
+        (Status::Conflict, 409, "Conflict"),
+        (Status::Gone, 410, "Gone"),
+        (Status::LengthRequired, 411, "Length Required"),
+        (Status::PreconditionFailed, 412, "Precondition Failed"),
+        (Status::PayloadTooLarge, 413, "Payload Too Large"),
+        (Status::UnprocessableEntity, 422, "Unprocessable Entity"),
+        (Status::InternalServerError, 500, "Internal Server Error"),
+    ] {
+        assert_eq!(rt; status.code().as_u16(), code);
+        assert_eq!(rt; status.phrase(), phrase);
+    }
+}
+
+fn check_error(rt: &impl Abort, error: FixedError, code: u16, body: &str) {
+    assert_eq!(rt; error.status().code().as_u16(), code);
+    assert_eq!(rt; error.body(), body.as_bytes());
+}
+
+#[test]
+fn errors_of_requests(rt: HostRuntime) {
+    for (error, code, body) in [
+        (
+            FixedError::NoHead,
+            400,
+            r#"{"description":"No request head was found."}"#,
+        ),
+        (
+            FixedError::Host,
+            400,
+            r#"{"description":"A request needs one Host line."}"#,
+        ),
+        (
+            FixedError::Coding,
+            411,
+            r#"{"description":"Transfer codings are not supported."}"#,
+        ),
+        (
+            FixedError::Length,
+            400,
+            r#"{"description":"The Content-Length is not usable."}"#,
+        ),
+        (
+            FixedError::TooLarge,
+            413,
+            r#"{"description":"The body is too large."}"#,
+        ),
+        (
+            FixedError::Cut,
+            400,
+            r#"{"description":"The input ended inside the body."}"#,
+        ),
+        (
+            FixedError::Version,
+            412,
+            r#"{"description":"This broker speaks version 2 of the API."}"#,
+        ),
+        (
+            FixedError::Id,
+            400,
+            r#"{"description":"An identifier is not usable."}"#,
+        ),
+        (
+            FixedError::Query,
+            400,
+            r#"{"description":"The query is not usable."}"#,
+        ),
+        (
+            FixedError::Body,
+            400,
+            r#"{"description":"The body is not usable."}"#,
+        ),
+    ] {
+        check_error(&rt, error, code, body);
+    }
+}
+
+#[test]
+fn errors_of_instances(rt: HostRuntime) {
+    for (error, code, body) in [
+        (
+            FixedError::NotInCatalog,
+            400,
+            r#"{"description":"The catalog has no such service or plan."}"#,
+        ),
+        (
+            FixedError::Mismatch,
+            400,
+            r#"{"description":"The service or plan is not the instance's."}"#,
+        ),
+        (
+            FixedError::NotBindable,
+            400,
+            r#"{"description":"The plan is not bindable."}"#,
+        ),
+        (
+            FixedError::Operation,
+            400,
+            r#"{"description":"The operation is not known for this resource."}"#,
+        ),
+        (
+            FixedError::AsyncRequired,
+            422,
+            r#"{"description":"The plan needs asynchronous operations.","error":"AsyncRequired"}"#,
+        ),
+        (
+            FixedError::ConcurrencyError,
+            422,
+            r#"{"description":"Another operation is in progress.","error":"ConcurrencyError"}"#,
+        ),
+        (
+            FixedError::MaintenanceInfoConflict,
+            422,
+            r#"{"description":"The maintenance version is not the catalog's.","error":"MaintenanceInfoConflict"}"#,
+        ),
+        (
+            FixedError::NoPlanChange,
+            422,
+            r#"{"description":"The plan does not allow a change of plan."}"#,
+        ),
+        (
+            FixedError::BindingsRemain,
+            422,
+            r#"{"description":"The instance still has bindings."}"#,
+        ),
+        (
+            FixedError::Full,
+            422,
+            r#"{"description":"The instance has no order numbers left."}"#,
+        ),
+    ] {
+        check_error(&rt, error, code, body);
+    }
+}
+
+/// A writer that takes seven bytes at a time, and goes wrong at any of its writes.
+#[test]
+fn broken_writers(rt: HostRuntime) {
+    let reply = FixedError::AsyncRequired.reply(Some(b"r1"), true);
+    let (_, whole) = write_on(rt.alloc(), &reply, usize::MAX, Wrong::Never, 0);
+    let text = whole.bytes.as_slice();
+    for wrong in [Wrong::Fails, Wrong::TakesNothing] {
+        for bad in 1..text.len().div_ceil(7) + 1 {
+            let (result, paper) = write_on(rt.alloc(), &reply, 7, wrong, bad);
+            let written = (bad - 1).saturating_mul(7);
+            assert_eq!(rt; result, Err(WriteFault { written }), "write {bad}");
+            assert_eq!(rt; paper.bytes.len(), written);
+            assert!(rt; text.starts_with(paper.bytes.as_slice()));
+            assert_eq!(rt; paper.writes, bad);
+        }
+    }
+}
+
+/// A reply of up to 1,024 bytes is one write, and a longer one two.
+#[test]
+fn few_writes(rt: HostRuntime) -> Result<(), Fail> {
+    for (size, length, writes) in [
+        (2, 72, 1),
+        (952, 1024, 1),
+        (953, 1025, 2),
+        (65536, 65610, 2),
+    ] {
+        let reply = Reply {
+            status: Status::Ok,
+            body: Body::Built(Vec::from_elem(rt.alloc(), b'x', size)?),
+            echo: None,
+            close: false,
+        };
+        let (result, paper) = write_on(rt.alloc(), &reply, usize::MAX, Wrong::Never, 0);
+        assert_eq!(rt; result, Ok(()));
+        assert_eq!(rt; paper.bytes.len(), length);
+        assert_eq!(rt; paper.writes, writes, "at {length} bytes");
+    }
+    Ok(())
+}
+
+/// An identity that isn't gathered with the lines around it.
+#[test]
+fn long_identity(rt: HostRuntime) -> Result<(), Fail> {
+    let identity = Vec::from_elem(rt.alloc(), b'i', 8000)?;
+    let mut reply = plain(Status::Ok, b"{}");
+    reply.echo = Some(identity.as_slice());
+    let (result, paper) = write_on(rt.alloc(), &reply, usize::MAX, Wrong::Never, 0);
+    assert_eq!(rt; result, Ok(()));
+    assert_eq!(rt; paper.bytes.len(), 8105);
+    assert_eq!(rt; reply.length(), 8105);
+    assert_eq!(rt; paper.writes, 3);
+    Ok(())
+}
+
+#[test]
+fn bodies(rt: HostRuntime) -> Result<(), Fail> {
+    let text = format!(in rt.alloc(); "{{\"operation\":\"create-{}\"}}", 1)?;
+    let body: Body<'_> = text.into();
+    assert_eq!(rt; body.bytes(), b"{\"operation\":\"create-1\"}".as_slice());
+    assert_eq!(rt; Body::EMPTY_OBJECT.bytes(), b"{}".as_slice());
+    Ok(())
+}

@@ -1,0 +1,103 @@
+//! Writing a reply.
+
+ghost use Rattle.std.specs.Prelude.{◌≡◌, ◌≤◌, ◌<◌, ◌+◌, ◌-◌, ◌^◌, ◌++◌, ℕ, List, length, min, take, IsOk, OnOk, OnErr, IfErr, option_copied};
+ghost use Rattle.osb_replies.specs.Parts.{parts};
+ghost use Rattle.osb_replies.specs.Sending.{Seen, seen};
+ghost use Rattle.osb_replies.specs.Staging.{Carries};
+ghost use Rattle.osb_replies.specs.Text.{reply_text, status_line, type_line, length_line, echo_line};
+ghost use Rattle.osb_replies.specs.Written.{WroteFirst};
+
+use crate::reply::{Reply, challenge, closing};
+use crate::stage::Stage;
+use crate::status::Status;
+use itoa::Buffer;
+use osb_frames::Sink;
+
+/// A write failed or took nothing.
+#[derive(Clone, Copy, Debug, PartialEq, Eq)]
+pub struct WriteFault {
+    /// How many bytes of the text went out, or the greatest `usize` where they are more.
+    pub written: usize,
+}
+
+/// Adds the lines with which a reply begins, up to the one that tells its body's length.
+fn put_front<W: Sink>(stage: &mut Stage, sink: &mut W, status: Status, size: usize)
+    ensures { let old = seen (W.taken sink.old) (W.writes sink.old) (W.fruitless sink.old) (W.room sink.old) in
+        let new = seen (W.taken sink.new) (W.writes sink.new) (W.fruitless sink.new) (W.room sink.new) in
+        (start : Seen) (text : List ℕ) →
+        Carries start text old stage.old →
+        Carries start (text ++ (status_line status ++ type_line ++ length_line size)) new stage.new }
+{
+    stage.put(sink, b"HTTP/1.1 ");
+    stage.put(
+        sink,
+        Buffer::new().format(status.code().as_u16()).as_bytes(),
+    );
+    stage.put(sink, b" ");
+    stage.put(sink, status.phrase().as_bytes());
+    stage.put(
+        sink,
+        b"\r\nContent-Type: application/json\r\nContent-Length: ",
+    );
+    stage.put(sink, Buffer::new().format(size).as_bytes());
+    stage.put(sink, b"\r\n");
+}
+
+/// Adds the line that repeats the request's identity, where it has one.
+fn put_echo<W: Sink>(stage: &mut Stage, sink: &mut W, echo: Option<&[u8]>)
+    ensures { let old = seen (W.taken sink.old) (W.writes sink.old) (W.fruitless sink.old) (W.room sink.old) in
+        let new = seen (W.taken sink.new) (W.writes sink.new) (W.fruitless sink.new) (W.room sink.new) in
+        (start : Seen) (text : List ℕ) →
+        Carries start text old stage.old →
+        Carries start (text ++ echo_line (option_copied echo.entry)) new stage.new }
+{
+    if let Some(identity) = echo {
+        stage.put(sink, b"X-Broker-API-Request-Identity: ");
+        stage.put(sink, identity);
+        stage.put(sink, b"\r\n");
+    }
+}
+
+/// Adds the text of a reply.
+fn put_reply<W: Sink>(stage: &mut Stage, sink: &mut W, reply: &Reply<'_>)
+    ensures { let old = seen (W.taken sink.old) (W.writes sink.old) (W.fruitless sink.old) (W.room sink.old) in
+        let new = seen (W.taken sink.new) (W.writes sink.new) (W.fruitless sink.new) (W.room sink.new) in
+        (start : Seen) (text : List ℕ) →
+        Carries start text old stage.old →
+        Carries start (text ++ reply_text (parts reply.now)) new stage.new }
+{
+    let body = reply.body.bytes();
+    put_front(stage, sink, reply.status, body.len());
+    stage.put(sink, challenge(reply.status));
+    put_echo(stage, sink, reply.echo);
+    stage.put(sink, closing(reply.close));
+    stage.put(sink, b"\r\n");
+    stage.put(sink, body);
+}
+
+/// Writes the text of a reply, in as few writes as fit: a text of up to 1,024 bytes is offered to
+/// the sink in one. It takes no memory.
+pub fn write_reply<W: Sink>(sink: &mut W, reply: &Reply<'_>) -> Result<(), WriteFault>
+    ensures sent { OnOk result (W.taken sink.new ≡ W.taken sink.old ++ reply_text (parts reply.now)) }
+    ensures quiet { OnOk result (W.fruitless sink.new ≡ W.fruitless sink.old) }
+    ensures cut { IfErr result (λ fault.
+        WroteFirst (W.taken sink.old) (W.taken sink.new) (reply_text (parts reply.now)) fault.written) }
+    ensures cause { OnErr result (W.fruitless sink.old < W.fruitless sink.new) }
+    ensures short { OnErr result (W.room sink.old < length (reply_text (parts reply.now))) }
+    ensures room_left { OnOk result
+        (W.room sink.old ≤ W.room sink.new + length (reply_text (parts reply.now))) }
+    ensures once { length (reply_text (parts reply.now)) ≤ 1024 →
+        length (reply_text (parts reply.now)) ≤ W.room sink.old →
+        W.writes sink.new ≡ W.writes sink.old + 1 }
+{
+    let mut stage = Stage::new();
+    put_reply(&mut stage, sink, reply);
+    stage.flush(sink);
+    let sender = stage.sender();
+    if sender.broken {
+        return Err(WriteFault {
+            written: sender.written,
+        });
+    }
+    Ok(())
+}
