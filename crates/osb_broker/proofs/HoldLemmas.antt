@@ -1,0 +1,184 @@
+-- The steps of the loop over a buffer.
+use Rattle.std.proofs.Common.{◌≡◌, ℕ, zero-add, suc, ◌+◌, ◌-◌, ◌<◌, ◌≤◌, ◌==◌, inl, inr, Bool, true, false, cond, List, [], ◌∷◌, ◌++◌, length, take, drop, Option, Some, None, Result, Ok, Err, OnOk, IfSome, sym, refl, ap, subst, ◌∙◌, arith}
+use Rattle.std.specs.Io.KnownBytes.{Consumes, IsAtEnd, Keeps}
+use Rattle.std.specs.List.{copy_within}
+use Rattle.std.proofs.lemmas.List.Edits.{take-paste}
+use Rattle.std.proofs.lemmas.List.{drop-take, append_assoc, append-nil, drop-append-le, length-append, length-take, length-drop}
+use Rattle.osb_frames.specs.declared.limits.Limits.{Limits}
+use Rattle.osb_frames.specs.declared.step.StopKind.{StopKind}
+use Rattle.osb_frames.specs.Cuts.{Message, whole, IsFront}
+use Rattle.osb_frames.specs.Steps.{FaultStays}
+use Rattle.osb_replies.specs.declared.write.WriteFault.{WriteFault}
+use Rattle.osb_replies.specs.Text.{reply_text}
+use Rattle.osb_broker.specs.Machine.{Machine, fault_reply}
+use Rattle.osb_broker.specs.Connection.{After}
+use Rattle.osb_broker.specs.Served.{Served, Reached, BrokenOff}
+use Rattle.osb_broker.specs.Answering.{Answers, WritesText}
+use Rattle.osb_broker.specs.Serving.{Gave, OfConnection, Holding, Looked, Outcome}
+use Rattle.osb_broker.specs.declared.fault.ServeFault.{ServeFault}
+use Rattle.osb_broker.proofs.RunLemmas.{after_more, concat_more, served_silent, text_of_end, text_of_none, not_marked}
+use Rattle.osb_broker.proofs.LoopLemmas.{AtRequest, closing, breaking, refusing}
+
+pub gave_nothing : (given : List ℕ) (known : Option (List ℕ)) → Gave given given known known []
+gave_nothing given None = record { given = sym (append-nil given); consumed = tt }
+gave_nothing given (Some all) = record { given = sym (append-nil given); consumed = refl }
+
+consumes_more : (a b c : Option (List ℕ)) (xs ys : List ℕ) → Consumes a b xs → Consumes b c ys → Consumes a c (xs ++ ys)
+consumes_more None b c xs ys x y = tt
+consumes_more (Some all) None c xs ys x y = absurd x
+consumes_more (Some all) (Some mid) None xs ys x y = absurd y
+consumes_more (Some all) (Some mid) (Some rest) xs ys x y = x ∙ ap (λ l. xs ++ l) y ∙ sym (append_assoc xs ys rest)
+
+consumes_kept : (a b c : Option (List ℕ)) (xs : List ℕ) → Consumes a b xs → Keeps b c → Consumes a c xs
+consumes_kept None b c xs x y = tt
+consumes_kept (Some all) None c xs x y = absurd x
+consumes_kept (Some all) (Some mid) None xs x y = absurd y
+consumes_kept (Some all) (Some mid) (Some rest) xs x y = x ∙ ap (λ l. xs ++ l) (sym y)
+
+pub gave_more : (a b c : List ℕ) (ka kb kc : Option (List ℕ)) (got piece : List ℕ) → Gave a b ka kb got → c ≡ b ++ piece → Consumes kb kc piece → Gave a c ka kc (got ++ piece)
+gave_more a b c ka kb kc got piece gave e more = record {
+  given = e ∙ ap (λ l. l ++ piece) gave.given ∙ append_assoc a got piece;
+  consumed = consumes_more ka kb kc got piece gave.consumed more;
+}
+
+pub gave_kept : (a b c : List ℕ) (ka kb kc : Option (List ℕ)) (got : List ℕ) → Gave a b ka kb got → c ≡ b → Keeps kb kc → Gave a c ka kc got
+gave_kept a b c ka kb kc got gave e keeps = record { given = e ∙ gave.given; consumed = consumes_kept ka kb kc got gave.consumed keeps }
+
+pub holding_start : {S : Type 0} (machine : Machine S) (limits : Limits) (k : ℕ) (s : S) (old : List ℕ) → Holding machine limits k s [] old k old s []
+holding_start machine limits k s old = record { texts = []; is = λ more. (refl, refl, refl); written = sym (append-nil old) }
+
+-- what was reached, whatever follows
+pub reached_with : {S : Type 0} (machine : Machine S) (limits : Limits) (k : ℕ) (s : S) (got old : List ℕ) (left : ℕ) (now : List ℕ) (u : S) (held : List ℕ) → Holding machine limits k s got old left now u held → (more : List ℕ) → Reached machine limits k s (got ++ more) old left now u (held ++ more)
+reached_with machine limits k s got old left now u held h more = record { texts = h.texts; is = h.is more; written = h.written }
+
+pub reached_now : {S : Type 0} (machine : Machine S) (limits : Limits) (k : ℕ) (s : S) (got old : List ℕ) (left : ℕ) (now : List ℕ) (u : S) (held : List ℕ) → Holding machine limits k s got old left now u held → Reached machine limits k s got old left now u held
+reached_now machine limits k s got old left now u held h =
+    subst (λ l. Reached machine limits k s l old left now u held) (append-nil got)
+    (subst (λ l. Reached machine limits k s (got ++ []) old left now u l) (append-nil held) (reached_with machine limits k s got old left now u held h []))
+
+pub holding_fed : {S : Type 0} (machine : Machine S) (limits : Limits) (k : ℕ) (s : S) (got old : List ℕ) (left : ℕ) (now : List ℕ) (u : S) (held piece : List ℕ) → Holding machine limits k s got old left now u held → Holding machine limits k s (got ++ piece) old left now u (held ++ piece)
+holding_fed machine limits k s got old left now u held piece h = record {
+  texts = h.texts;
+  is = λ more.
+      subst (λ l. After machine limits k s l h.texts left u ((held ++ piece) ++ more)) (sym (append_assoc got piece more))
+      (subst (λ l. After machine limits k s (got ++ (piece ++ more)) h.texts left u l) (sym (append_assoc held piece more)) (h.is (piece ++ more)));
+  written = h.written;
+}
+
+-- a whole request at the front of what is held
+pub record HoldsRequest {S : Type 0} (machine : Machine S) (limits : Limits) (k : ℕ) (s : S) (got old : List ℕ) (left : ℕ) (now : List ℕ) (u : S) (held : List ℕ) (q : Message) (n j : ℕ) : Type 0 where
+  pub holding : Holding machine limits k s got old left now u held
+  pub front : (more : List ℕ) → IsFront limits (held ++ more) (whole q n)
+  pub inside : n ≤ length held
+  pub fewer : left ≡ suc j
+
+pub holding_more : {S : Type 0} (machine : Machine S) (limits : Limits) (k : ℕ) (s : S) (got old : List ℕ) (left : ℕ) (now : List ℕ) (u : S) (held : List ℕ) (q : Message) (n j : ℕ) (t : S) (before : ℕ) (new : List ℕ) (after : ℕ) (close : Bool) → HoldsRequest machine limits k s got old left now u held q n j → Answers machine q (j == 0) u t now before new after (Ok close) → close ≡ false → Holding machine limits k s got old j new t (drop n held)
+holding_more machine limits k s got old left now u held q n j t before new after close at (mark, reply, marked, wrote) e = record {
+  texts = at.holding.texts ++ reply_text reply ∷ [];
+  is = λ more. after_more machine limits k s (got ++ more) at.holding.texts left u (held ++ more) (reply_text reply) j t (drop n held ++ more) (at.holding.is more)
+      (record {
+        q = q;
+        n = n;
+        front = at.front more;
+        fewer = at.fewer;
+        reply = reply;
+        answered = not_marked machine mark q (j == 0) u reply t marked (sym wrote.2 ∙ e);
+        says = refl;
+        closed = sym wrote.2 ∙ e;
+        after = sym (drop-append-le n held more at.inside);
+      });
+  written = concat_more old now new at.holding.texts (reply_text reply) at.holding.written wrote.0;
+}
+
+at_request : {S : Type 0} (machine : Machine S) (limits : Limits) (k : ℕ) (s : S) (got old : List ℕ) (left : ℕ) (now : List ℕ) (u : S) (held : List ℕ) (q : Message) (n j : ℕ) → HoldsRequest machine limits k s got old left now u held q n j → (more : List ℕ) → AtRequest machine limits k s (got ++ more) old left now u (held ++ more) q n j
+at_request machine limits k s got old left now u held q n j at more = record {
+  reached = reached_with machine limits k s got old left now u held at.holding more;
+  front = at.front more;
+  fewer = at.fewer;
+}
+
+pub closing_held : {S : Type 0} (machine : Machine S) (limits : Limits) (k : ℕ) (s : S) (got old : List ℕ) (left : ℕ) (now : List ℕ) (u : S) (held : List ℕ) (q : Message) (n j : ℕ) (t : S) (before : ℕ) (new : List ℕ) (after : ℕ) (close : Bool) → HoldsRequest machine limits k s got old left now u held q n j → Answers machine q (j == 0) u t now before new after (Ok close) → close ≡ true → (more : List ℕ) → Served machine limits k s (got ++ more) old new t
+closing_held machine limits k s got old left now u held q n j t before new after close at answers e more =
+    closing machine limits k s (got ++ more) old left now u (held ++ more) q n j t before new after close
+    (at_request machine limits k s got old left now u held q n j at more) answers e
+
+pub breaking_held : {S : Type 0} (machine : Machine S) (limits : Limits) (k : ℕ) (s : S) (got old : List ℕ) (left : ℕ) (now : List ℕ) (u : S) (held : List ℕ) (q : Message) (n j : ℕ) (t : S) (before : ℕ) (new : List ℕ) (after : ℕ) (f : WriteFault) → HoldsRequest machine limits k s got old left now u held q n j → Answers machine q (j == 0) u t now before new after (Err f) → (more : List ℕ) → BrokenOff machine limits k s (got ++ more) old new t
+breaking_held machine limits k s got old left now u held q n j t before new after f at answers more =
+    breaking machine limits k s (got ++ more) old left now u (held ++ more) q n j t before new after f
+    (at_request machine limits k s got old left now u held q n j at more) answers
+
+pub refusing_ok : {S : Type 0} (machine : Machine S) (limits : Limits) (k : ℕ) (s : S) (got old : List ℕ) (left : ℕ) (now : List ℕ) (u : S) (held : List ℕ) (f : StopKind) (over : Bool) (known : Option (List ℕ)) (j : ℕ) (before : ℕ) (new : List ℕ) (after : ℕ) (x : Unit {0}) → Holding machine limits k s got old left now u held → FaultStays limits held over f → (over ≡ true → IsAtEnd known) → left ≡ suc j → WritesText now before new after (Ok x) (reply_text (fault_reply f)) → OfConnection (λ bytes. Served machine limits k s bytes old new u) got known
+refusing_ok machine limits k s got old left now u held f over known j before new after x h told end fewer wrote = by told
+  where
+    by : FaultStays limits held over f → OfConnection (λ bytes. Served machine limits k s bytes old new u) got known
+    by (inl always) = inl (λ more. (refusing machine limits k s (got ++ more) old left now u (held ++ more) f j before new after (Ok x) (reached_with machine limits k s got old left now u held h more) (always more) fewer wrote).0)
+    by (inr here) = inr ((refusing machine limits k s got old left now u held f j before new after (Ok x) (reached_now machine limits k s got old left now u held h) here.0 fewer wrote).0, end here.1)
+
+pub refusing_err : {S : Type 0} (machine : Machine S) (limits : Limits) (k : ℕ) (s : S) (got old : List ℕ) (left : ℕ) (now : List ℕ) (u : S) (held : List ℕ) (f : StopKind) (over : Bool) (known : Option (List ℕ)) (j : ℕ) (before : ℕ) (new : List ℕ) (after : ℕ) (e : WriteFault) → Holding machine limits k s got old left now u held → FaultStays limits held over f → (over ≡ true → IsAtEnd known) → left ≡ suc j → WritesText now before new after (Err e) (reply_text (fault_reply f)) → OfConnection (λ bytes. BrokenOff machine limits k s bytes old new u) got known
+refusing_err machine limits k s got old left now u held f over known j before new after e h told end fewer wrote = by told
+  where
+    by : FaultStays limits held over f → OfConnection (λ bytes. BrokenOff machine limits k s bytes old new u) got known
+    by (inl always) = inl (λ more. (refusing machine limits k s (got ++ more) old left now u (held ++ more) f j before new after (Err e) (reached_with machine limits k s got old left now u held h more) (always more) fewer wrote).1)
+    by (inr here) = inr ((refusing machine limits k s got old left now u held f j before new after (Err e) (reached_now machine limits k s got old left now u held h) here.0 fewer wrote).1, end here.1)
+
+pub ending_held : {S : Type 0} (machine : Machine S) (limits : Limits) (k : ℕ) (s : S) (got old : List ℕ) (left : ℕ) (now : List ℕ) (u : S) (held : List ℕ) (j : ℕ) → Holding machine limits k s got old left now u held → left ≡ suc j → held ≡ [] → Served machine limits k s got old now u
+ending_held machine limits k s got old left now u held j h fewer none =
+    served_silent machine limits k s got old left now u held (reached_now machine limits k s got old left now u held h) (text_of_end machine limits left j u held fewer none)
+
+pub none_held : {S : Type 0} (machine : Machine S) (limits : Limits) (k : ℕ) (s : S) (got old : List ℕ) (left : ℕ) (now : List ℕ) (u : S) (held : List ℕ) → Holding machine limits k s got old left now u held → left ≡ 0 → (more : List ℕ) → Served machine limits k s (got ++ more) old now u
+none_held machine limits k s got old left now u held h none more =
+    served_silent machine limits k s (got ++ more) old left now u (held ++ more) (reached_with machine limits k s got old left now u held h more) (text_of_none machine limits left u (held ++ more) none)
+
+-- ---- where what a source will give is known
+
+known_all : (known now : Option (List ℕ)) (got : List ℕ) (P : List ℕ → Type 0) → Consumes known now got → OfConnection P got now → IfSome known P
+known_all None now got P consumed of = tt
+known_all (Some all) None got P consumed of = absurd consumed
+known_all (Some all) (Some rest) got P consumed (inl each) = subst P (sym consumed) (each rest)
+known_all (Some all) (Some rest) got P consumed (inr last) = subst P (sym (append-nil got) ∙ ap (λ l. got ++ l) (sym last.1) ∙ sym consumed) last.0
+
+pub known_text : {S : Type 0} (machine : Machine S) (limits : Limits) (k : ℕ) (s : S) (a b : List ℕ) (known now : Option (List ℕ)) (got old new : List ℕ) (t : S) (result : Result (Unit {0}) ServeFault) → Gave a b known now got → Outcome result machine limits k s got now old new t → OnOk result (IfSome known (λ all. Served machine limits k s all old new t))
+known_text machine limits k s a b known now got old new t (Ok x) gave outcome = known_all known now got (λ all. Served machine limits k s all old new t) gave.consumed outcome
+known_text machine limits k s a b known now got old new t (Err e) gave outcome = tt
+
+-- ---- how much was read
+
+pub looked : {S : Type 0} (machine : Machine S) (limits : Limits) (k : ℕ) (s : S) (got old : List ℕ) (left : ℕ) (now : List ℕ) (u : S) (buf : List ℕ) (filled room reads_old reads_new : ℕ) → Holding machine limits k s got old left now u (take filled buf) → length buf ≡ room → reads_new ≤ reads_old + length got + 1 → Looked machine limits k s got room reads_old reads_new
+looked machine limits k s got old left now u buf filled room reads_old reads_new h len few = record {
+  texts = h.texts;
+  left = left;
+  u = u;
+  held = take filled buf;
+  is = h.is;
+  small = omega (arith, length-take filled buf);
+  few = few;
+}
+
+pub few_so_far : (a b : ℕ) (over : Bool) → a ≤ b + cond over 1 0 → a ≤ b + 1
+few_so_far a b true h = h
+few_so_far a b false h = omega arith
+
+not_over : (a b : ℕ) (over : Bool) → over ≡ false → a ≤ b + cond over 1 0 → a ≤ b
+not_over a b true e h = cc
+not_over a b false e h = omega arith
+
+pub few_after : (a b c : ℕ) (over : Bool) → c ≡ a + 1 → over ≡ false → a ≤ b + cond over 1 0 → c ≤ b + 1
+few_after a b c over e f h = let g = not_over a b over f h in omega arith
+
+pub one_read : (a b c : ℕ) (got piece : List ℕ) (over : Bool) → c ≡ a + 1 → over ≡ false → a ≤ b + length got + cond over 1 0 → c ≤ b + length (got ++ piece) + 1
+one_read a b c got piece over e f h = let g = not_over a (b + length got) over f h in omega (arith, length-append got piece)
+
+pub one_byte : (a b c : ℕ) (got buf : List ℕ) (filled n : ℕ) (over : Bool) → c ≡ a + 1 → over ≡ false → a ≤ b + length got + cond over 1 0 → 0 < n → filled + n ≤ length buf → c ≤ b + length (got ++ take n (drop filled buf)) + 0
+one_byte a b c got buf filled n over e f h some inside =
+    let g = not_over a (b + length got) over f h in
+    omega (arith, length-append got (take n (drop filled buf)), length-take n (drop filled buf), length-drop filled buf)
+
+-- ---- the front of the room
+
+pub shifted : (xs ys : List ℕ) (used filled : ℕ) → used ≤ filled → filled ≤ length xs → ys ≡ copy_within xs used filled 0 → take (filled - used) ys ≡ drop used (take filled xs)
+shifted xs ys used filled order inside e =
+    let n = filled - used in
+    let P : ℕ → Type 0 = λ m. take m (copy_within xs used filled 0) ≡ take n (drop used xs) in
+    let pasted = subst P (zero-add n) (take-paste xs 0 (drop used xs) n (omega arith) (omega (arith, length-drop used xs))) in
+    let all : used + n ≡ filled = omega arith in
+    ap (take n) e ∙ pasted ∙ sym (drop-take used n xs) ∙ ap (λ m. drop used (take m xs)) all

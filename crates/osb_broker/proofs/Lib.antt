@@ -1,0 +1,6 @@
+mod AskLemmas
+mod RunLemmas
+mod LoopLemmas
+mod HoldLemmas
+mod RunsLemmas
+mod TextLemmas

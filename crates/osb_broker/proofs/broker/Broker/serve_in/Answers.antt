@@ -1,0 +1,160 @@
+use Rattle.std.proofs.Common.{◌≡◌, [], ◌+◌, ◌-◌, ◌<◌, ◌≤◌, ◌++◌, true, false, take, drop, length, inl, inr, sym, refl, ap, ◌∙◌, arith}
+use Rattle.std.proofs.lemmas.List.{length-take}
+use Rattle.std.proofs.Math.Seq.{take-add}
+use Rattle.std.proofs.lemmas.Grind.{common_steps}
+use Rattle.osb_frames.specs.Steps.{message}
+use Rattle.osb_broker.specs.Lives.{machine}
+use Rattle.osb_broker.specs.Kept.{most_of}
+use Rattle.osb_broker.proofs.HoldLemmas.{gave_nothing, gave_more, gave_kept, holding_start, reached_now, holding_fed, holding_more, closing_held, breaking_held, refusing_ok, refusing_err, ending_held, none_held, looked, few_so_far, few_after, one_read, one_byte}
+use Rattle.osb_broker.proofs.broker.Broker.serve_in.Goals as goal
+use Rattle.osb_broker.proofs.broker.Broker.serve_in.Goals.{then-n-eq0, else-n-eq0}
+
+pub loop-left-init : goal.loop-left-init
+loop-left-init g c = record {
+  most = refl;
+  kept = refl;
+  failed = refl;
+  inside = omega arith;
+  over = λ e. cc;
+  holding = ([], gave_nothing _ _, holding_start machine c.args.limits.now (most_of c.args.self.now) _ _, omega arith);
+}
+
+pub returns-in-Ok-true-clause-outcome : goal.returns-in-Ok-true-clause-outcome
+returns-in-Ok-true-clause-outcome g c =
+    let q = message c.in-Whole.request in
+    let got = c.loop-left.invariant.holding.0 in
+    let held = take c.loop-left.filled c.loop-left.room in (
+      got,
+      c.loop-left.invariant.holding.1,
+      looked machine c.args.limits.now (most_of c.args.self.now) _ got _ c.loop-left.left _ _ c.loop-left.room c.loop-left.filled _ _ _ c.loop-left.invariant.holding.2 (omega (arith, c.loop-left.auto.room)) (few_so_far _ _ c.loop-left.ended c.loop-left.invariant.holding.3),
+      inl (closing_held machine c.args.limits.now (most_of c.args.self.now) _ got _ c.loop-left.left _ _ held q c.in-Whole.used (c.loop-left.left - 1) _ _ _ _ _
+          (record { holding = c.loop-left.invariant.holding.2; front = c.in-Whole.ensures.stays; inside = c.in-Whole.ensures.size.1; fewer = omega arith })
+          c.in-Ok-true.ensures.answers
+          c.in-Ok-true.field-0-test),
+    )
+
+pub returns-in-Err-clause-outcome : goal.returns-in-Err-clause-outcome
+returns-in-Err-clause-outcome g c =
+    let q = message c.in-Whole.request in
+    let got = c.loop-left.invariant.holding.0 in
+    let held = take c.loop-left.filled c.loop-left.room in (
+      got,
+      c.loop-left.invariant.holding.1,
+      looked machine c.args.limits.now (most_of c.args.self.now) _ got _ c.loop-left.left _ _ c.loop-left.room c.loop-left.filled _ _ _ c.loop-left.invariant.holding.2 (omega (arith, c.loop-left.auto.room)) (few_so_far _ _ c.loop-left.ended c.loop-left.invariant.holding.3),
+      inl (breaking_held machine c.args.limits.now (most_of c.args.self.now) _ got _ c.loop-left.left _ _ held q c.in-Whole.used (c.loop-left.left - 1) _ _ _ _ c.in-Err.field-0
+          (record { holding = c.loop-left.invariant.holding.2; front = c.in-Whole.ensures.stays; inside = c.in-Whole.ensures.size.1; fewer = omega arith })
+          c.in-Err.ensures.answers),
+    )
+
+pub loop-left-preserved-in-Whole : goal.loop-left-preserved-in-Whole
+loop-left-preserved-in-Whole g c =
+    let q = message c.in-Whole.request in
+    let got = c.loop-left.invariant.holding.0 in
+    let held = take c.loop-left.filled c.loop-left.room in
+    record {
+      most = c.in-Ok-false.ensures.most ∙ c.loop-left.invariant.most;
+      kept = c.in-Ok-false.ensures.answers.3.1 ∙ c.loop-left.invariant.kept;
+      failed = c.loop-left.invariant.failed;
+      inside = grind (arith, common_steps);
+      over = c.loop-left.invariant.over;
+      holding = (
+        got,
+        c.loop-left.invariant.holding.1,
+        rw c.shift.ensures (holding_more machine c.args.limits.now (most_of c.args.self.now) _ got _ c.loop-left.left _ _ held q c.in-Whole.used (c.loop-left.left - 1) _ _ _ _ _
+            (record { holding = c.loop-left.invariant.holding.2; front = c.in-Whole.ensures.stays; inside = c.in-Whole.ensures.size.1; fewer = omega arith })
+            c.in-Ok-false.ensures.answers
+            c.in-Ok-false.field-0-test),
+        c.loop-left.invariant.holding.3,
+      );
+    }
+
+pub returns-in-Ok-clause-outcome : goal.returns-in-Ok-clause-outcome
+returns-in-Ok-clause-outcome g c =
+    let got = c.loop-left.invariant.holding.0 in
+    let held = take c.loop-left.filled c.loop-left.room in (
+      got,
+      c.loop-left.invariant.holding.1,
+      looked machine c.args.limits.now (most_of c.args.self.now) _ got _ c.loop-left.left _ _ c.loop-left.room c.loop-left.filled _ _ _ c.loop-left.invariant.holding.2 (omega (arith, c.loop-left.auto.room)) (few_so_far _ _ c.loop-left.ended c.loop-left.invariant.holding.3),
+      refusing_ok machine c.args.limits.now (most_of c.args.self.now) _ got _ c.loop-left.left _ _ held c.in-Stop.kind c.loop-left.ended _ (c.loop-left.left - 1) _ _ _ _
+          c.loop-left.invariant.holding.2 c.in-Stop.ensures.stays c.loop-left.invariant.over (omega arith) c.in-Ok.ensures,
+    )
+
+pub returns-in-Err-refuse-clause-outcome : goal.returns-in-Err-refuse-clause-outcome
+returns-in-Err-refuse-clause-outcome g c =
+    let got = c.loop-left.invariant.holding.0 in
+    let held = take c.loop-left.filled c.loop-left.room in (
+      got,
+      c.loop-left.invariant.holding.1,
+      looked machine c.args.limits.now (most_of c.args.self.now) _ got _ c.loop-left.left _ _ c.loop-left.room c.loop-left.filled _ _ _ c.loop-left.invariant.holding.2 (omega (arith, c.loop-left.auto.room)) (few_so_far _ _ c.loop-left.ended c.loop-left.invariant.holding.3),
+      refusing_err machine c.args.limits.now (most_of c.args.self.now) _ got _ c.loop-left.left _ _ held c.in-Stop.kind c.loop-left.ended _ (c.loop-left.left - 1) _ _ _ c.in-Err-refuse.field-0
+          c.loop-left.invariant.holding.2 c.in-Stop.ensures.stays c.loop-left.invariant.over (omega arith) c.in-Err-refuse.ensures,
+    )
+
+pub returns-in-Ended-clause-outcome : goal.returns-in-Ended-clause-outcome
+returns-in-Ended-clause-outcome g c =
+    let got = c.loop-left.invariant.holding.0 in
+    let held = take c.loop-left.filled c.loop-left.room in
+    (got, c.loop-left.invariant.holding.1, looked machine c.args.limits.now (most_of c.args.self.now) _ got _ c.loop-left.left _ _ c.loop-left.room c.loop-left.filled _ _ _ c.loop-left.invariant.holding.2 (omega (arith, c.loop-left.auto.room)) (few_so_far _ _ c.loop-left.ended c.loop-left.invariant.holding.3), inr (ending_held machine c.args.limits.now (most_of c.args.self.now) _ got _ c.loop-left.left _ _ held (c.loop-left.left - 1) c.loop-left.invariant.holding.2 (omega arith) c.in-Ended.ensures.says.1, c.loop-left.invariant.over c.in-Ended.ensures.says.0))
+
+pub fill-requires : goal.fill-requires
+fill-requires g c =
+    let held = take c.loop-left.filled c.loop-left.room in
+    let small : length held < c.args.limits.now.head + c.args.limits.now.body = c.in-More.ensures.room in
+    let len = length-take c.loop-left.filled c.loop-left.room in
+    let same = c.loop-left.auto.room in
+    let inside = c.loop-left.invariant.inside in
+    omega arith
+
+pub loop-left-preserved : goal.loop-left-preserved
+loop-left-preserved g c =
+    let got = c.loop-left.invariant.holding.0 in
+    let held = take c.loop-left.filled c.loop-left.room in
+    let n = c.in-Ok-fill.n in
+    let piece = take n (drop c.loop-left.filled c.fill.new.room) in
+    let front : take (c.loop-left.filled + n) c.fill.new.room ≡ held ++ piece = take-add c.loop-left.filled n c.fill.new.room ∙ ap (λ l. l ++ piece) c.in-Ok-fill.ensures.kept in
+    record {
+      most = c.loop-left.invariant.most;
+      kept = c.loop-left.invariant.kept;
+      failed = c.in-Ok-fill.ensures.failed ∙ c.loop-left.invariant.failed;
+      inside = grind (arith, common_steps, c.in-Ok-fill.ensures.bound);
+      over = elim c.if-n-eq0.branch [
+        | then-n-eq0 w ↦ λ e. c.in-Ok-fill.ensures.known.1 w.if-n-eq0.true
+        | else-n-eq0 w ↦ λ e. let f : true ≡ false = sym e ∙ w.ended-is ∙ c.in-More.ensures.says.0 in cc
+      ];
+      holding = (
+        got ++ piece,
+        gave_more _ _ _ _ _ _ got piece c.loop-left.invariant.holding.1 c.in-Ok-fill.ensures.given c.in-Ok-fill.ensures.known.0,
+        rw front (holding_fed machine c.args.limits.now (most_of c.args.self.now) _ got _ c.loop-left.left _ _ held piece c.loop-left.invariant.holding.2),
+        elim c.if-n-eq0.branch [
+          | then-n-eq0 w ↦ rw w.ended-is (one_read _ _ _ got piece c.loop-left.ended c.in-Ok-fill.ensures.counted c.in-More.ensures.says.0 c.loop-left.invariant.holding.3)
+          | else-n-eq0 w ↦ rw (w.ended-is, c.in-More.ensures.says.0) (one_byte _ _ _ got c.fill.new.room c.loop-left.filled n c.loop-left.ended c.in-Ok-fill.ensures.counted c.in-More.ensures.says.0 c.loop-left.invariant.holding.3 (omega (arith, w.if-n-eq0.false)) (omega (arith, c.in-Ok-fill.ensures.bound, c.loop-left.auto.room)))
+        ],
+      );
+    }
+
+pub returns-in-Err-fill-clause-outcome : goal.returns-in-Err-fill-clause-outcome
+returns-in-Err-fill-clause-outcome g c =
+    let got = c.loop-left.invariant.holding.0 in
+    let held = take c.loop-left.filled c.loop-left.room in
+    let calls = c.in-Err-fill.ensures.counted in
+    let few : g.R.Source.reads c.fill.new.source ≤ g.R.Source.reads c.args.source.now + length got + 1 = few_after _ _ _ c.loop-left.ended calls c.in-More.ensures.says.0 c.loop-left.invariant.holding.3 in (
+      got,
+      gave_kept _ _ _ _ _ _ got c.loop-left.invariant.holding.1 c.in-Err-fill.ensures.given c.in-Err-fill.ensures.known,
+      looked machine c.args.limits.now (most_of c.args.self.now) _ got _ c.loop-left.left _ _ c.loop-left.room c.loop-left.filled _ _ _ c.loop-left.invariant.holding.2 (omega (arith, c.loop-left.auto.room)) few,
+      record {
+        left = c.loop-left.left;
+        some = c.loop-left-test.true;
+        held = held;
+        reached = reached_now machine c.args.limits.now (most_of c.args.self.now) _ got _ c.loop-left.left _ _ held c.loop-left.invariant.holding.2;
+        waits = record {
+          request = λ q m at. c.in-More.ensures.finds q m at;
+          stop = λ f final at. let e = c.in-More.ensures.stops f final at in cc;
+        };
+      },
+    )
+
+pub returns-clause-outcome : goal.returns-clause-outcome
+returns-clause-outcome g c =
+    let got = c.loop-left.invariant.holding.0 in
+    let held = take c.loop-left.filled c.loop-left.room in
+    (got, c.loop-left.invariant.holding.1, looked machine c.args.limits.now (most_of c.args.self.now) _ got _ c.loop-left.left _ _ c.loop-left.room c.loop-left.filled _ _ _ c.loop-left.invariant.holding.2 (omega (arith, c.loop-left.auto.room)) (few_so_far _ _ c.loop-left.ended c.loop-left.invariant.holding.3), inl (none_held machine c.args.limits.now (most_of c.args.self.now) _ got _ c.loop-left.left _ _ held c.loop-left.invariant.holding.2 (omega arith)))

@@ -1,0 +1,24 @@
+use Rattle.std.proofs.Common.{◌≡◌, ◌≤◌, ◌+◌, ◌-◌, ◌*◌, List, ℕ, true, cond, length, take}
+use Rattle.std.specs.Io.KnownBytes.{IsAtEnd}
+use Rattle.osb_broker.specs.Lives.{machine}
+use Rattle.osb_broker.specs.Kept.{lives_of, most_of}
+use Rattle.osb_broker.specs.Serving.{Gave, Holding}
+use Rattle.osb_broker.proofs.broker.Broker.serve_in.Given as goal
+
+abbrev pub decreases-loop-left : goal.decreases-loop-left
+decreases-loop-left g l = l.left * (length l.room + 2) + ((length l.room - l.filled) + cond l.ended 0 1)
+
+abbrev pub invariant-loop-left : goal.invariant-loop-left
+invariant-loop-left g l =
+    let sink = g.W.Sink in
+    let source = g.R.Source in
+    record {
+      most : most_of l.self ≡ most_of l.fn.self;
+      kept : sink.fruitless l.sink ≡ sink.fruitless l.fn.sink;
+      failed : source.failures l.source ≡ source.failures l.fn.source;
+      inside : l.filled ≤ length l.room;
+      over : l.ended ≡ true → IsAtEnd (source.rest l.source);
+      holding : (got : List ℕ) × Gave (source.given l.fn.source) (source.given l.source) (source.rest l.fn.source) (source.rest l.source) got
+          × Holding machine l.limits (most_of l.fn.self) (lives_of l.fn.self) got (sink.taken l.fn.sink) l.left (sink.taken l.sink) (lives_of l.self) (take l.filled l.room)
+          × (source.reads l.source ≤ source.reads l.fn.source + length got + cond l.ended 1 0);
+    }

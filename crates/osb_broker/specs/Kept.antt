@@ -1,0 +1,19 @@
+-- What a broker keeps.
+use Rattle.std.specs.Prelude.{ℕ}
+use Rattle.osb_broker.specs.declared.broker.Broker.{Broker}
+use Rattle.osb_replies.specs.Body.{body_bytes}
+use Rattle.osb_broker.specs.declared.broker.Answer as code
+use Rattle.osb_broker.specs.Machine.{Answer}
+use Rattle.osb_broker.specs.Lives.{Lives}
+
+-- the instances that it knows
+abbrev pub lives_of : Broker → Lives
+lives_of broker = broker.instances.items
+
+-- how many requests of a connection it takes
+abbrev pub most_of : Broker → ℕ
+most_of broker = broker.per_connection
+
+-- an answer of the code
+abbrev pub answer_parts : code.Answer → Answer
+answer_parts answer = record { status = answer.status; body = body_bytes answer.body }

@@ -1,0 +1,11 @@
+pub mod Machine
+pub mod Connection
+pub mod Served
+pub mod Serving
+pub mod Answering
+pub mod Asks
+pub mod Asked
+pub mod Lives
+pub mod Kept
+pub mod Room
+pub mod Laws

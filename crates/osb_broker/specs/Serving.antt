@@ -1,0 +1,64 @@
+-- What serving a connection did, of bytes that came in pieces.
+use Rattle.std.specs.Prelude.{◌≡◌, ℕ, ◌<◌, ◌≤◌, ◌+◌, ◌⊎◌, List, ◌++◌, length, ⊤, Option, Result, Ok, Err}
+use Rattle.std.specs.List.{concat}
+use Rattle.std.specs.Io.KnownBytes.{Consumes, IsAtEnd}
+use Rattle.osb_frames.specs.declared.limits.Limits.{Limits}
+use Rattle.osb_frames.specs.declared.step.StopKind.{StopKind}
+use Rattle.osb_frames.specs.Cuts.{Message, fault, whole, IsFront}
+use Rattle.osb_frames.specs.Steps.{IsFinal}
+use Rattle.osb_broker.specs.declared.fault.ServeFault.{ServeFault}
+use Rattle.osb_broker.specs.declared.fault.ServeFault.TheVariants.{Read, Write}
+use Rattle.osb_broker.specs.Machine.{Machine}
+use Rattle.osb_broker.specs.Connection.{After}
+use Rattle.osb_broker.specs.Served.{Served, Reached, BrokenOff}
+
+-- each fault has its cause
+abbrev pub HasCause : Result (Unit {0}) ServeFault → Type 0 → Type 0 → Type 0
+HasCause (Ok x) read write = ⊤
+HasCause (Err Read) read write = read
+HasCause (Err Write) read write = write
+
+-- what a source gave from one moment to another
+pub record Gave (given_old given_new : List ℕ) (known_old known_new : Option (List ℕ)) (got : List ℕ) : Type 0 where
+  pub given : given_new ≡ given_old ++ got
+  pub consumed : Consumes known_old known_new got
+
+-- P of the bytes of a connection that began with got: of all that may follow, or of got where it is all there was
+abbrev pub OfConnection : (List ℕ → Type 0) → List ℕ → Option (List ℕ) → Type 0
+OfConnection P got known = ((more : List ℕ) → P (got ++ more)) ⊎ (P got × IsAtEnd known)
+
+-- so far the texts of the requests before held were written, whatever follows it
+pub record Holding {S : Type 0} (machine : Machine S) (limits : Limits) (k : ℕ) (s : S) (got old : List ℕ) (left : ℕ) (now : List ℕ) (u : S) (held : List ℕ) : Type 0 where
+  pub texts : List (List ℕ)
+  pub is : (more : List ℕ) → After machine limits k s (got ++ more) texts left u (held ++ more)
+  pub written : now ≡ old ++ concat texts
+
+-- no whole request waits, and no fault that no further bytes mend
+pub record NothingWaits (limits : Limits) (held : List ℕ) : Type 0 where
+  pub request : (q : Message) (n : ℕ) → ¬ (IsFront limits held (whole q n))
+  pub stop : (f : StopKind) → IsFinal f → ¬ (IsFront limits held (fault f))
+
+-- a read failed: exactly the texts of the requests that came whole were written
+pub record ReadBroken {S : Type 0} (machine : Machine S) (limits : Limits) (k : ℕ) (s : S) (got old new : List ℕ) (t : S) : Type 0 where
+  pub left : ℕ
+  pub some : 0 < left
+  pub held : List ℕ
+  pub reached : Reached machine limits k s got old left new t held
+  pub waits : NothingWaits limits held
+
+-- what was taken goes no further than the room past the start of the last request that was looked for, held being what
+-- follows that start; and there was at most one read for each byte, and one more
+pub record Looked {S : Type 0} (machine : Machine S) (limits : Limits) (k : ℕ) (s : S) (got : List ℕ) (room reads_old reads_new : ℕ) : Type 0 where
+  pub texts : List (List ℕ)
+  pub left : ℕ
+  pub u : S
+  pub held : List ℕ
+  pub is : (more : List ℕ) → After machine limits k s (got ++ more) texts left u (held ++ more)
+  pub small : length held ≤ room
+  pub few : reads_new ≤ reads_old + length got + 1
+
+-- how serving ended
+abbrev pub Outcome : {S : Type 0} → Result (Unit {0}) ServeFault → Machine S → Limits → ℕ → S → List ℕ → Option (List ℕ) → List ℕ → List ℕ → S → Type 0
+Outcome (Ok x) machine limits k s got known old new t = OfConnection (λ bytes. Served machine limits k s bytes old new t) got known
+Outcome (Err Read) machine limits k s got known old new t = ReadBroken machine limits k s got old new t
+Outcome (Err Write) machine limits k s got known old new t = OfConnection (λ bytes. BrokenOff machine limits k s bytes old new t) got known

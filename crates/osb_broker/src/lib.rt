@@ -1,0 +1,24 @@
+//! Whole connections: bytes in, bytes out.
+//!
+//! [`Broker::serve`] answers one connection. Its contract is the theorem that this program exists
+//! for: what is written is exactly the texts that the machine gives to the requests that the bytes
+//! are cut into (`specs/Connection.antt`), whatever pieces the bytes come in.
+#![tactic(auto)]
+
+mod ask;
+mod broker;
+mod buffer;
+mod catalog;
+mod fault;
+mod laws;
+mod refuse;
+mod room;
+mod serve;
+#[cfg(test)]
+mod tests;
+
+pub use broker::Broker;
+pub use buffer::Buffer;
+pub use catalog::CATALOG;
+pub use fault::ServeFault;
+pub use laws::{runs_go_on, texts_are_of_the_cut};

@@ -1,0 +1,38 @@
+//! The replies to framing faults.
+
+ghost use Rattle.std.specs.Prelude.{◌≡◌};
+ghost use Rattle.osb_replies.specs.Parts.{parts};
+ghost use Rattle.osb_replies.specs.Text.{reply_text};
+ghost use Rattle.osb_broker.specs.Machine.{error_of, fault_reply};
+ghost use Rattle.osb_broker.specs.Answering.{WritesText};
+
+use osb_frames::{Sink, StopKind};
+use osb_replies::{FixedError, Reply, WriteFault, write_reply};
+
+/// The error that tells a framing fault.
+fn error_of(kind: StopKind) -> FixedError
+    ensures { result ≡ error_of kind }
+{
+    match kind {
+        StopKind::NoHead => FixedError::NoHead,
+        StopKind::Host => FixedError::Host,
+        StopKind::Coding => FixedError::Coding,
+        StopKind::Length => FixedError::Length,
+        StopKind::TooLarge => FixedError::TooLarge,
+        StopKind::Cut => FixedError::Cut,
+    }
+}
+
+/// The fixed reply to a framing fault, which closes its connection.
+fn fault_reply(kind: StopKind) -> Reply<'static>
+    ensures { parts result ≡ fault_reply kind }
+{
+    error_of(kind).reply(None, true)
+}
+
+/// Writes the reply to a framing fault.
+pub(crate) fn refuse<W: Sink>(sink: &mut W, kind: StopKind) -> Result<(), WriteFault>
+    ensures { WritesText (W.taken sink.old) (W.fruitless sink.old) (W.taken sink.new) (W.fruitless sink.new) result (reply_text (fault_reply kind)) }
+{
+    write_reply(sink, &fault_reply(kind))
+}

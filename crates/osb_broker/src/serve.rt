@@ -1,0 +1,118 @@
+//! One connection after another, each read in pieces.
+
+ghost use Rattle.std.specs.Prelude.{◌≡◌, ◌<◌, ◌≤◌, ◌+◌, ℕ, List, length, OnOk, IfSome};
+ghost use Rattle.osb_frames.specs.Steps.{message};
+ghost use Rattle.osb_broker.specs.Lives.{machine};
+ghost use Rattle.osb_broker.specs.Answering.{Answers};
+ghost use Rattle.osb_broker.specs.Served.{Served};
+ghost use Rattle.osb_broker.specs.Serving.{HasCause, Gave, Looked, Outcome};
+
+use crate::broker::Broker;
+use crate::buffer::Buffer;
+use crate::fault::ServeFault;
+use crate::refuse::refuse;
+use crate::room::{fill, shift};
+use osb_frames::{Limits, Request, Sink, Source, Step, next};
+use osb_replies::{WriteFault, write_reply};
+
+impl Broker {
+    ghost use Rattle.osb_broker.specs.Kept.{lives_of, most_of};
+    ghost use Rattle.osb_broker.specs.Room.{limits_of};
+
+    /// Handles a request and writes its reply. Whether the connection closes.
+    fn reply_to<W: Sink>(
+        &mut self,
+        request: &Request<'_>,
+        last: bool,
+        sink: &mut W,
+    ) -> Result<bool, WriteFault>
+        ensures answers { Answers machine (message request.now) last (lives_of self.old) (lives_of self.new)
+            (W.taken sink.old) (W.fruitless sink.old) (W.taken sink.new) (W.fruitless sink.new) result }
+        ensures most { most_of self.new ≡ most_of self.old }
+    {
+        let reply = self.handle(request, last);
+        let close = reply.close;
+        write_reply(sink, &reply)?;
+        Ok(close)
+    }
+
+    /// Serves a connection in a room for a head and a body.
+    fn serve_in<R: Source, W: Sink>(
+        &mut self,
+        room: &mut [u8],
+        limits: &Limits,
+        source: &mut R,
+        sink: &mut W,
+    ) -> Result<(), ServeFault>
+        requires { limits.now.head + limits.now.body ≤ length room.old }
+        ensures most { most_of self.new ≡ most_of self.old }
+        ensures cause { HasCause result (R.failures source.old < R.failures source.new) (W.fruitless sink.old < W.fruitless sink.new) }
+        ensures outcome { (got : List ℕ) × Gave (R.given source.old) (R.given source.new) (R.rest source.old) (R.rest source.new) got
+            × Looked machine limits.now (most_of self.old) (lives_of self.old) got (length room.old) (R.reads source.old) (R.reads source.new)
+            × Outcome result machine limits.now (most_of self.old) (lives_of self.old) got (R.rest source.new) (W.taken sink.old) (W.taken sink.new) (lives_of self.new) }
+    {
+        let mut filled = 0;
+        let mut ended = false;
+        let mut left = self.per_connection;
+        while left > 0 {
+            match next(&room[..filled], ended, limits) {
+                Step::Whole(request, used) => {
+                    left -= 1;
+                    match self.reply_to(&request, left == 0, sink) {
+                        Ok(true) => return Ok(()),
+                        Ok(false) => {}
+                        Err(_) => return Err(ServeFault::Write),
+                    }
+                    shift(room, used, filled);
+                    filled -= used;
+                }
+                Step::Stop(kind) => {
+                    return match refuse(sink, kind) {
+                        Ok(()) => Ok(()),
+                        Err(_) => Err(ServeFault::Write),
+                    };
+                }
+                Step::Ended => return Ok(()),
+                Step::More => match fill(source, room, filled) {
+                    Ok(n) => {
+                        if n == 0 {
+                            ended = true;
+                        }
+                        filled += n;
+                    }
+                    Err(_) => return Err(ServeFault::Read),
+                },
+            }
+        }
+        Ok(())
+    }
+
+    /// Serves one connection, in pieces as they come: a request is answered as soon as it is
+    /// whole, and no more is read than the buffer has room for. At most `per_connection` requests
+    /// are taken, and none after a reply that closes.
+    ///
+    /// It takes no memory of its own. After a fault of the sink the text of one reply may have been
+    /// written in part; the instances are those after that request.
+    pub fn serve<R: Source, W: Sink>(
+        &mut self,
+        buffer: &mut Buffer,
+        source: &mut R,
+        sink: &mut W,
+    ) -> Result<(), ServeFault>
+        ensures most { most_of self.new ≡ most_of self.old }
+        ensures limits { limits_of buffer.new ≡ limits_of buffer.old }
+
+        // What is written is the texts of the connection, whatever pieces it came in.
+        ensures ok { OnOk result (IfSome (R.rest source.old) (λ all.
+            Served machine (limits_of buffer.old) (most_of self.old) (lives_of self.old) all (W.taken sink.old) (W.taken sink.new) (lives_of self.new))) }
+
+        // A fault has its cause in this call, and leaves a prefix.
+        ensures cause { HasCause result (R.failures source.old < R.failures source.new) (W.fruitless sink.old < W.fruitless sink.new) }
+        ensures outcome { (got : List ℕ) × Gave (R.given source.old) (R.given source.new) (R.rest source.old) (R.rest source.new) got
+            × Looked machine (limits_of buffer.old) (most_of self.old) (lives_of self.old) got ((limits_of buffer.old).head + (limits_of buffer.old).body) (R.reads source.old) (R.reads source.new)
+            × Outcome result machine (limits_of buffer.old) (most_of self.old) (lives_of self.old) got (R.rest source.new) (W.taken sink.old) (W.taken sink.new) (lives_of self.new) }
+    {
+        let limits = buffer.limits;
+        self.serve_in(buffer.room.as_mut_slice(), &limits, source, sink)
+    }
+}
