@@ -176,6 +176,30 @@ fn two_requests_of_a_connection(rt: HostRuntime) -> Result<(), Fail> {
 }
 
 #[test]
+fn several_requests(rt: HostRuntime) -> Result<(), Fail> {
+    let alloc = rt.alloc();
+    let three = joined(alloc, &[GET_CATALOG, GET_CATALOG, GET_CATALOG])?;
+    let open = b"HTTP/1.1 200 OK\r\nContent-Type: application/json\r\nContent-Length: 293\r\n\r\n";
+    let text = joined(alloc, &[open, CATALOG, CATALOG_TEXT])?;
+    assert!(rt; answers(alloc, 2, three.as_slice(), text.as_slice())?);
+    Ok(())
+}
+
+#[test]
+fn bodies_at_their_limit(rt: HostRuntime) -> Result<(), Fail> {
+    let alloc = rt.alloc();
+    let body = "b".repeat(alloc, 65536)?;
+    let front = b"GET /v2/catalog HTTP/1.1\r\nHost: b\r\nContent-Length: 65536\r\n\r\n";
+    let whole = joined(alloc, &[front, body.as_bytes(), GET_CATALOG])?;
+    for piece in [7, 100_000] {
+        let mut broker = Broker::new(alloc, 1);
+        let text = served(alloc, &mut broker, whole.as_slice(), piece)?;
+        assert_eq!(rt; text.as_slice(), CATALOG_TEXT);
+    }
+    Ok(())
+}
+
+#[test]
 fn framing_faults(rt: HostRuntime) -> Result<(), Fail> {
     let alloc = rt.alloc();
     let cases: [(&[u8], &[u8]); 6] = [

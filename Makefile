@@ -1,0 +1,26 @@
+# make        builds ./osb-broker
+# make run    builds it and serves standard input as one connection
+# make test   is the whole gate: every proof from nothing, then the built program tried from outside
+
+RT ?= rt
+
+.PHONY: all run test clean FORCE
+
+all: osb-broker
+
+# rt knows what has changed, and proves and links that alone.
+osb-broker: FORCE
+	cd crates/osb_program && $(RT) run < stdin > out.tmp || { cat out.tmp; rm -f out.tmp; exit 1; }
+	rm -f crates/osb_program/out.tmp
+	cp crates/osb_program/out/osb_program $@
+
+run: osb-broker
+	./osb-broker
+
+test:
+	$(RT) ci
+	$(MAKE) osb-broker
+	python3 tests/program.py ./osb-broker
+
+clean:
+	rm -rf osb-broker crates/*/out

@@ -1,0 +1,43 @@
+-- The order of the faults: of those that stand anywhere in a file, the one of the lowest number is named.
+use Rattle.std.specs.Prelude.{◌≡◌, ◌≤◌, ℕ, List, true, Some, Result, Ok, Err}
+use Rattle.serde_json.specs.Data.{Data}
+use Rattle.osb_text.specs.Reading.{object_of}
+use Rattle.osb_text.specs.declared.fault.TextFault.{TextFault}
+use Rattle.osb_catalog.specs.declared.fault.SettingsFault.{SettingsFault}
+use Rattle.osb_catalog.specs.declared.fault.SettingsFault.TheVariants.{Text, Missing, DoubleId, LeftOut, Version, Mode, Credential, Memory}
+use Rattle.osb_catalog.specs.FaultNames.{number_of}
+use Rattle.osb_catalog.specs.Missing.{first_missing, first_left_out}
+use Rattle.osb_catalog.specs.Ids.{has_double_id}
+use Rattle.osb_catalog.specs.Versions.{refuses_versions}
+use Rattle.osb_catalog.specs.Modes.{refuses_modes}
+use Rattle.osb_catalog.specs.Logins.{refuses_logins}
+use Rattle.osb_catalog.specs.SettingsData.{SettingsData}
+
+-- the fault stands in the object, whichever others stand beside it
+abbrev pub StandsInObject : Data → SettingsFault → Type 0
+StandsInObject file Text = ⊥
+StandsInObject file (Missing field) = first_missing file ≡ Some field
+StandsInObject file DoubleId = has_double_id file ≡ true
+StandsInObject file (LeftOut field) = first_left_out file ≡ Some field
+StandsInObject file Version = refuses_versions file ≡ true
+StandsInObject file Mode = refuses_modes file ≡ true
+StandsInObject file Credential = refuses_logins file ≡ true
+StandsInObject file Memory = ⊥
+
+-- what gives no object has the fault Text alone
+abbrev pub StandsIn : Result Data TextFault → SettingsFault → Type 0
+StandsIn (Err fault) e = e ≡ Text
+StandsIn (Ok file) e = StandsInObject file e
+
+abbrev pub Stands : List ℕ → SettingsFault → Type 0
+Stands bytes e = StandsIn (object_of bytes) e
+
+-- the fault stands, and none of a lower number does
+pub record IsLowest (Standing : SettingsFault → Type 0) (e : SettingsFault) : Type 0 where
+  pub stands : Standing e
+  pub lowest : (other : SettingsFault) → Standing other → number_of e ≤ number_of other
+
+-- no fault stands where the file has settings, and otherwise the lowest is named
+abbrev pub IsJudged : (SettingsFault → Type 0) → Result SettingsData SettingsFault → Type 0
+IsJudged Standing (Ok settings) = (fault : SettingsFault) → ¬ Standing fault
+IsJudged Standing (Err fault) = IsLowest Standing fault

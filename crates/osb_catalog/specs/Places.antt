@@ -1,0 +1,15 @@
+-- The places of ids in a list.
+use Rattle.std.specs.Prelude.{◌≡◌, ℕ, List, Option, bytes_eq}
+use Rattle.std.specs.List.{position_from}
+use Rattle.std.specs.BTreeMap.{get_by_text}
+use Rattle.osb_catalog.specs.declared.places.Places.{Places}
+
+abbrev pub place_in : Places → List ℕ → Option ℕ
+place_in places id = get_by_text places.by_id id
+
+-- the first place of the id, where the first of the ids stands at `from`
+abbrev pub place_from : ℕ → List (List ℕ) → List ℕ → Option ℕ
+place_from from ids id = position_from (λ other. bytes_eq other id) from ids
+
+abbrev pub ArePlacesOf : Places → List (List ℕ) → Type 0
+ArePlacesOf places ids = (id : List ℕ) → place_in places id ≡ place_from 0 ids id

@@ -1,0 +1,21 @@
+//! Laws of the definitions that the contracts of this crate cite.
+
+ghost use Rattle.std.specs.Prelude.{◌≡◌, ℕ, List, Ok};
+ghost use Rattle.osb_catalog.specs.Faults.{settings_of};
+ghost use Rattle.osb_catalog.specs.Order.{Stands, IsJudged};
+ghost use Rattle.osb_catalog.specs.Sound.{IsSettings};
+ghost use Rattle.osb_catalog.specs.SettingsData.{SettingsData};
+
+/// A file has settings only where no fault stands anywhere in it, and otherwise the fault that is
+/// named stands, and none of a lower number does.
+#[tactic(auto, using(crate::proofs::FaultOrder::judged))]
+pub fn lowest()
+    ensures { (bytes : List ℕ) → IsJudged (Stands bytes) (settings_of bytes) }
+{}
+
+/// Settings that a file has are sound: no two services and no two plans have one id, ids are id
+/// texts, versions are semantic versions, credentials are compact texts of objects, and the limit
+/// of orders is from 1 to 1,000,000.
+pub fn sound()
+    ensures { (bytes : List ℕ) (settings : SettingsData) → settings_of bytes ≡ Ok settings → IsSettings settings }
+{}

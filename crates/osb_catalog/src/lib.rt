@@ -1,0 +1,34 @@
+//! The settings of a broker: its catalog, how the orders of each plan are carried out, how many
+//! orders an instance may have, and the logins of platform and backend.
+//!
+//! `Settings::read` reads them from a JSON file, or names the fault of the lowest number that
+//! stands anywhere in it. What a file must and may have is a table, `specs/Tables.antt`; what the
+//! platform is shown of it is another, `specs/Catalog.antt`.
+#![tactic(auto)]
+
+mod built_in;
+mod contents;
+mod fault;
+mod field;
+mod ids;
+mod kind;
+pub mod laws;
+mod login;
+mod member;
+mod missing;
+mod mode;
+mod places;
+mod plan;
+mod reading;
+mod settings;
+mod shown;
+mod table;
+#[cfg(test)]
+mod tests;
+mod version;
+
+pub use built_in::BUILT_IN;
+pub use fault::SettingsFault;
+pub use field::Field;
+pub use plan::{Mode, PlanFacts, Timing};
+pub use settings::Settings;

@@ -1,0 +1,92 @@
+//! Why a command ends with another status than 0.
+
+ghost use Rattle.std.specs.Prelude.{◌≤◌};
+
+use itoa::Buffer;
+use osb_catalog::SettingsFault;
+use osb_frames::{Sink, send_all};
+use std::alloc::AllocError;
+
+/// Why a command ends with another status than 0.
+#[derive(Debug, Drop)]
+pub(crate) enum Fault<'a> {
+    /// The file of that name can't be read.
+    CannotRead(&'a str),
+    /// The file of that name is larger than the limit.
+    TooLarge(&'a str),
+    /// Memory was refused.
+    OutOfMemory,
+    /// Standard output doesn't take what is written.
+    CannotWrite,
+    /// The words aren't those of a command, as this text says.
+    Words(String),
+    /// The settings aren't accepted.
+    Settings(SettingsFault),
+}
+
+impl From<AllocError> for Fault<'_> {
+    ghost use Rattle.std.specs.Prelude.{◌≡◌};
+    ghost use Rattle.osb_cli.specs.declared.fault.Fault.TheVariants.{OutOfMemory};
+
+    ghost from_gives = { λ _ fault. fault ≡ OutOfMemory };
+
+    fn from(_error: AllocError) -> Self {
+        Fault::OutOfMemory
+    }
+}
+
+/// Writes the pieces, one behind the other. A failed write is passed over.
+fn say<E: Sink>(errors: &mut E, pieces: &[&str]) {
+    for piece in pieces {
+        if send_all(errors, piece.as_bytes()).is_err() {
+            return;
+        }
+    }
+}
+
+/// Writes the line of a settings fault: its number, its name and, where it has one, its field.
+fn tell_settings<E: Sink>(fault: SettingsFault, errors: &mut E) {
+    let mut digits = Buffer::new();
+    let number = digits.format(fault.number());
+    match fault.field() {
+        None => say(errors, &["settings: ", number, " ", fault.name(), "\n"]),
+        Some(field) => say(
+            errors,
+            &[
+                "settings: ",
+                number,
+                " ",
+                fault.name(),
+                " ",
+                field.name(),
+                "\n",
+            ],
+        ),
+    }
+}
+
+impl Fault<'_> {
+    /// The status that the process ends with.
+    pub(crate) fn status(&self) -> u8
+        ensures { result ≤ 3 }
+    {
+        match self {
+            Fault::CannotRead(_) | Fault::TooLarge(_) | Fault::OutOfMemory | Fault::CannotWrite =>
+                1,
+            Fault::Words(_) => 2,
+            Fault::Settings(_) => 3,
+        }
+    }
+
+    /// Writes the line that tells it. It takes no memory.
+    pub(crate) fn tell<E: Sink>(&self, errors: &mut E) {
+        match self {
+            Fault::CannotRead(file) => say(errors, &["osb-broker: cannot read ", file, "\n"]),
+            Fault::TooLarge(file) => say(errors, &["osb-broker: too large ", file, "\n"]),
+            Fault::OutOfMemory => say(errors, &["osb-broker: out of memory\n"]),
+            Fault::CannotWrite => say(errors, &["osb-broker: cannot write\n"]),
+            Fault::Words(text) => say(errors, &[text.as_str()]),
+            Fault::Settings(fault) => tell_settings(*fault, errors),
+        }
+    }
+}

@@ -1,0 +1,197 @@
+//! The statuses and lines of commands that need no file.
+
+use super::*;
+use osb_broker::CATALOG;
+use osb_catalog::{BUILT_IN, Settings};
+use osb_frames::Counted;
+use std::alloc::Global;
+use std::io::{self, Read, Write};
+use std::test::Fail;
+
+/// Gives so many spaces, and then ends or fails.
+#[derive(Drop)]
+struct Spaces {
+    left: usize,
+    fails: bool,
+}
+
+impl Read for Spaces {
+    fn read(&mut self, buf: &mut [u8]) -> io::Result<usize> {
+        let n = self.left.min(buf.len());
+        if n == 0 && self.fails {
+            return Err(io::Error::from(io::ErrorKind::ConnectionReset));
+        }
+        buf[..n].fill(b' ');
+        self.left -= n;
+        Ok(n)
+    }
+}
+
+/// Takes nothing.
+#[derive(Drop)]
+struct Closed;
+
+impl Write for Closed {
+    fn write(&mut self, _bytes: &[u8]) -> io::Result<usize> {
+        Err(io::Error::from(io::ErrorKind::BrokenPipe))
+    }
+
+    fn flush(&mut self) -> io::Result<()> {
+        Ok(())
+    }
+}
+
+/// What a command left: its status, its output and its error lines.
+#[derive(Drop)]
+struct Left {
+    status: u8,
+    output: Vec<u8>,
+    errors: Vec<u8>,
+}
+
+fn run_on<T: Read + Drop>(rt: &HostRuntime, words: &[&str], input: T) -> Result<Left, Fail> {
+    let alloc = rt.alloc();
+    let mut owned = Vec::new(alloc);
+    for word in words {
+        owned.push(String::from_str(alloc, word)?)?;
+    }
+    let mut source = Counted::new(input);
+    let mut output = Counted::new(Vec::new(alloc));
+    let mut errors = Counted::new(Vec::new(alloc));
+    let status = run(rt, owned.as_slice(), &mut source, &mut output, &mut errors);
+    Ok(Left {
+        status,
+        output: output.into_inner(),
+        errors: errors.into_inner(),
+    })
+}
+
+const GET_CATALOG: &[u8] = b"GET /v2/catalog HTTP/1.1\r\nHost: b\r\n\r\n";
+
+const NO_HEAD: &[u8] =
+    b"HTTP/1.1 400 Bad Request\r\nContent-Type: application/json\r\nContent-Length: 44\r\nConnection: close\r\n\r\n{\"description\":\"No request head was found.\"}";
+
+#[test]
+fn no_words_are_replay(rt: HostRuntime) -> Result<(), Fail> {
+    let cases: [&[&str]; 2] = [&[], &["replay"]];
+    for words in cases {
+        let left = run_on(&rt, words, GET_CATALOG)?;
+        assert_eq!(rt; left.status, 0);
+        assert!(rt; left.output.starts_with(b"HTTP/1.1 200 OK\r\n"));
+        assert!(rt; left.output.ends_with(CATALOG));
+        assert_eq!(rt; left.errors.as_slice(), b"".as_slice());
+    }
+    Ok(())
+}
+
+#[test]
+fn the_catalog_is_that_of_the_built_in_settings(rt: HostRuntime) -> Result<(), Fail> {
+    let Ok(settings) = Settings::read(rt.alloc(), BUILT_IN.as_bytes()) else {
+        panic!(rt; "the built-in settings are refused");
+    };
+    assert_eq!(rt; settings.catalog_text(), CATALOG);
+    Ok(())
+}
+
+#[test]
+fn the_largest_input_and_one_byte_more(rt: HostRuntime) -> Result<(), Fail> {
+    let largest = Spaces {
+        left: 16_777_216,
+        fails: false,
+    };
+    let left = run_on(&rt, &[], largest)?;
+    assert_eq!(rt; left.status, 0);
+    assert_eq!(rt; left.output.as_slice(), NO_HEAD);
+    let larger = Spaces {
+        left: 16_777_217,
+        fails: true,
+    };
+    let left = run_on(&rt, &[], larger)?;
+    assert_eq!(rt; left.status, 1);
+    assert_eq!(rt; left.output.as_slice(), b"".as_slice());
+    let line = b"osb-broker: too large standard input\n";
+    assert_eq!(rt; left.errors.as_slice(), line.as_slice());
+    Ok(())
+}
+
+#[test]
+fn an_input_that_fails(rt: HostRuntime) -> Result<(), Fail> {
+    let fails = Spaces {
+        left: 5000,
+        fails: true,
+    };
+    let left = run_on(&rt, &["replay"], fails)?;
+    assert_eq!(rt; left.status, 1);
+    assert_eq!(rt; left.output.as_slice(), b"".as_slice());
+    let line = b"osb-broker: cannot read standard input\n";
+    assert_eq!(rt; left.errors.as_slice(), line.as_slice());
+    Ok(())
+}
+
+#[test]
+fn an_output_that_fails(rt: HostRuntime) -> Result<(), Fail> {
+    let alloc = rt.alloc();
+    let mut source = Counted::new(GET_CATALOG);
+    let mut errors = Counted::new(Vec::new(alloc));
+    let status = run(
+        &rt,
+        &[],
+        &mut source,
+        &mut Counted::new(Closed),
+        &mut errors,
+    );
+    assert_eq!(rt; status, 1);
+    let line = b"osb-broker: cannot write\n";
+    assert_eq!(rt; errors.into_inner().as_slice(), line.as_slice());
+    // A failed write on standard error is passed over.
+    let mut source = Counted::new(GET_CATALOG);
+    let mut closed = Counted::new(Closed);
+    let status = run(
+        &rt,
+        &[],
+        &mut source,
+        &mut Counted::new(Closed),
+        &mut closed,
+    );
+    assert_eq!(rt; status, 1);
+    Ok(())
+}
+
+#[test]
+fn words_of_no_command(rt: HostRuntime) -> Result<(), Fail> {
+    let cases: [&[&str]; 5] = [
+        &["bogus"],
+        &["check"],
+        &["check", "a", "b"],
+        &["replay", "a"],
+        &["--bogus"],
+    ];
+    for words in cases {
+        let left = run_on(&rt, words, GET_CATALOG)?;
+        assert_eq!(rt; left.status, 2, "{words:?}");
+        assert_eq!(rt; left.output.as_slice(), b"".as_slice());
+        assert!(rt; !left.errors.is_empty());
+    }
+    Ok(())
+}
+
+#[test]
+fn help(rt: HostRuntime) -> Result<(), Fail> {
+    let cases: [&[&str]; 3] = [&["--help"], &["check", "--help"], &["replay", "-h"]];
+    for words in cases {
+        let left = run_on(&rt, words, b"".as_slice())?;
+        assert_eq!(rt; left.status, 0, "{words:?}");
+        assert!(rt; left.output.len() > 100);
+        assert_eq!(rt; left.errors.as_slice(), b"".as_slice());
+    }
+    Ok(())
+}
+
+#[test]
+fn a_file_that_is_not_there(rt: HostRuntime) -> Result<(), Fail> {
+    let left = run_on(&rt, &["check", "no/such/file"], b"".as_slice())?;
+    assert_eq!(rt; left.status, 1);
+    let line = b"osb-broker: cannot read no/such/file\n";
+    assert_eq!(rt; left.errors.as_slice(), line.as_slice());
+    Ok(())
+}
