@@ -11,12 +11,6 @@ fn main(rt: HostRuntime) -> io::Result<ExitCode> {
     let mut input = Counted::new(rt.stdin());
     let mut output = Counted::new(rt.stdout());
     let mut errors = Counted::new(rt.stderr());
-    let status = run(
-        &rt,
-        words.as_slice(),
-        &mut input,
-        &mut output,
-        &mut errors,
-    );
+    let status = run(&rt, words.as_slice(), &mut input, &mut output, &mut errors);
     Ok(ExitCode::from(status))
 }
