@@ -8,10 +8,10 @@ RT ?= rt
 
 all: osb-broker
 
-# rt knows what has changed, and proves and links that alone.
+# rt knows what has changed, and proves and links that alone. What it says is shown where it fails.
 osb-broker: FORCE
-	cd crates/osb_program && $(RT) run < stdin > out.tmp || { cat out.tmp; rm -f out.tmp; exit 1; }
-	rm -f crates/osb_program/out.tmp
+	@mkdir -p crates/osb_program/out
+	cd crates/osb_program && $(RT) run < stdin > out/make.log 2>&1 || { cat out/make.log; exit 1; }
 	cp crates/osb_program/out/osb_program $@
 
 run: osb-broker

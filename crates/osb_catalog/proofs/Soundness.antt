@@ -1,6 +1,6 @@
 -- What holds of the settings of a file without faults.
 use Rattle.std.proofs.Common.{◌≡◌, ℕ, ◌≤◌, ◌<◌, ◌==◌, List, [], ◌∷◌, ◌++◌, length, Bool, true, false, ◌||◌, Option, Some, None, IsSome, IfSome, refl, sym, ap, ◌∙◌, arith, map, cond, nat_lt, codes, bytes_eq, subst, Ordering, Less, Equal, Greater}
-use Rattle.std.specs.Prelude.{option_map, option_and_then, unwrap_or}
+use Rattle.std.specs.Prelude.{not, ◌&&◌, option_map, option_and_then, unwrap_or}
 use Rattle.std.specs.Option.{option_or, option_map_or}
 use Rattle.std.specs.List.{find, IsDistinct, AllByRecursion}
 use Rattle.std.specs.Ordering.{match_ordering, nat_cmp}
@@ -23,18 +23,19 @@ use Rattle.osb_catalog.specs.declared.fault.SettingsFault.TheVariants as fault
 use Rattle.osb_catalog.specs.declared.plan.Plan.{Plan}
 use Rattle.osb_catalog.specs.declared.plan.PlanFacts.{PlanFacts}
 use Rattle.osb_catalog.specs.declared.plan.Service.{Service}
-use Rattle.osb_catalog.specs.Fields.{value_at, text_at, services_of, plans_of, modes_of, mode_of_plan}
+use Rattle.osb_catalog.specs.Fields.{value_at, text_at, flag_at, services_of, plans_of, modes_of, mode_of_plan}
 use Rattle.osb_catalog.specs.Kinds.{is_some_and, is_order_limit}
 use Rattle.osb_catalog.specs.Tables.{is_broken, is_broken_by, first_broken, required, optional, file_rules, service_rules, plan_rules, mode_rules}
-use Rattle.osb_catalog.specs.Items.{first_in, first_of_members, any_item, each, all_of_each}
+use Rattle.osb_catalog.specs.Items.{first_in, first_of_members, any_item, any_member, each, all_of_each}
 use Rattle.osb_catalog.specs.Missing.{first_missing, missing_in_catalog, missing_in_plans, first_left_out}
 use Rattle.osb_catalog.specs.Ids.{is_among, has_double, ids_of, plan_ids, has_double_id}
+use Rattle.osb_catalog.specs.Modes.{names_no_plan, binds_later, has_lost_bindings, refuses_modes}
 use Rattle.osb_catalog.specs.Versions.{is_version, has_no_version, has_wrong_version, has_plan_of_wrong_version, refuses_versions}
 use Rattle.osb_catalog.specs.SettingsData.{SettingsData}
 use Rattle.osb_catalog.specs.Contents.{service_of, plan_of, plans_of_service, limit_from, credentials_of, contents_of}
 use Rattle.osb_catalog.specs.Faults.{fault_if, first_fault}
 use Rattle.osb_catalog.specs.Rules.{rules_of, service_named, plan_named, facts_in}
-use Rattle.osb_catalog.specs.Sound.{is_version_or_empty, AreSound, IsSettings}
+use Rattle.osb_catalog.specs.Sound.{is_version_or_empty, AreSound, IsFetchable, IsSettings}
 
 -- ---- what it says that no fault stands
 
@@ -249,6 +250,26 @@ plans_of_all file all good (item d ds) found h versions =
     (plans_of_one file d all good found.0 (plans_of d) p.0 v.0)
     (plans_of_all file all good ds found.1 p.1 v.1)
 
+-- ---- asynchronous bindings can be fetched
+
+-- of a service whose bindings can't be fetched, no plan binds later
+fetched_one : (can later others : Bool) → (not can && (later || others)) ≡ false → (later ≡ true → can ≡ true) × ((not can && others) ≡ false)
+fetched_one true later others h = (λ _. refl, refl)
+fetched_one false later others h = let p = both_false later others h in (λ is. absurd (false≢true (sym p.0 ∙ is)), p.1)
+
+fetched_of_one : (file service : Data) (ds : Items) → (not (flag_at the.BindingsRetrievable service) && any_item (binds_later file) ds) ≡ false → AllByRecursion IsFetchable (each (plan_of file service) ds)
+fetched_of_one file service no_items h = tt
+fetched_of_one file service (item d ds) h =
+    let p = fetched_one (flag_at the.BindingsRetrievable service) (binds_later file d) (any_item (binds_later file) ds) h in
+    (p.0, fetched_of_one file service ds p.1)
+
+fetched_of_all : (file : Data) (ds : Items) → any_item (has_lost_bindings file) ds ≡ false → AllByRecursion IsFetchable (all_of_each (plans_of_service file) ds)
+fetched_of_all file no_items h = tt
+fetched_of_all file (item d ds) h =
+    let p = both_false (has_lost_bindings file d) (any_item (has_lost_bindings file) ds) h in
+    all_append IsFetchable (plans_of_service file d) (all_of_each (plans_of_service file) ds)
+    (fetched_of_one file d (plans_of d) p.0) (fetched_of_all file ds p.1)
+
 -- ---- the look-ups
 
 abbrev IfFound : {A : Type 0} → (A → Type 0) → (A → Bool) → Option A → Type 0
@@ -336,11 +357,14 @@ contents_are file readable h =
     let left_out = neither (option_map fault.LeftOut (first_left_out file)) _ double.1 in
     let version = neither (fault_if fault.Version (refuses_versions file)) _ left_out.1 in
     let versions = not_if fault.Version (refuses_versions file) version.0 in
+    let mode = neither (fault_if fault.Mode (refuses_modes file)) _ version.1 in
+    let modes = both_false (any_member (names_no_plan (services_of file)) (modes_of file)) (any_item (has_lost_bindings file) (services_of file)) (not_if fault.Mode (refuses_modes file) mode.0) in
     let good : HasCredentials file = modes_kept (value_at the.Modes file) (λ d is. readable_at (codes "modes") file d readable is) in_modes.0 in
     let all = each service_of (services_of file) in
     record {
       services = subst (λ (y : List (List ℕ)). IsDistinct bytes_eq y) (sym (service_ids (services_of file))) (distinct (ids_of (services_of file)) ids.0);
       plans = subst (λ (y : List (List ℕ)). IsDistinct bytes_eq y) (sym (all_plan_ids file (services_of file))) (distinct (plan_ids (services_of file)) ids.1);
+      fetched = fetched_of_all file (services_of file) modes.1;
       rules = rules_are (contents_of file)
           (limit_kept (value_at the.OrdersPerInstance file) (kept file_rules file in_file.0).1.1.1.1.0)
           (all_services (services_of file) in_services.0)

@@ -42,7 +42,7 @@ abbrev pub mode_from : Data → Mode
 mode_from mode = record { instances = timing_at the.Instances mode; bindings = timing_at the.Bindings mode; credentials = credentials_of mode }
 
 abbrev pub plan_of : Data → Data → Data → Plan
-plan_of file service plan = record { service = text_at the.Id service; id = text_at the.Id plan; facts = facts_of service plan; mode = mode_from (mode_of_plan file (text_at the.Id plan)) }
+plan_of file service plan = record { service = text_at the.Id service; id = text_at the.Id plan; facts = facts_of service plan; mode = mode_from (mode_of_plan file (text_at the.Id plan)); bindings_retrievable = flag_at the.BindingsRetrievable service }
 
 abbrev pub plans_of_service : Data → Data → List Plan
 plans_of_service file service = each (plan_of file service) (plans_of service)

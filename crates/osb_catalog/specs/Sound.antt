@@ -1,8 +1,10 @@
 -- What holds of all settings.
 use Rattle.std.specs.Prelude.{◌≡◌, ◌≤◌, ℕ, List, map, bytes_eq, length, ◌==◌, Bool, true, ◌||◌, IsSome, IfSome}
-use Rattle.std.specs.List.{IsDistinct}
+use Rattle.std.specs.List.{AllByRecursion, IsDistinct}
 use Rattle.osb_text.specs.Id.{is_id}
 use Rattle.osb_text.specs.ObjectText.{is_object_text}
+use Rattle.osb_catalog.specs.declared.plan.Plan.{Plan}
+use Rattle.osb_catalog.specs.Modes.{is_asynchronous}
 use Rattle.osb_catalog.specs.SettingsData.{SettingsData}
 use Rattle.osb_catalog.specs.Rules.{Rules, rules_of}
 use Rattle.osb_catalog.specs.Versions.{is_version}
@@ -22,8 +24,13 @@ pub record AreSound (rules : Rules) : Type 0 where
   pub version : (service plan : List ℕ) → IfSome (rules.plan service plan) (λ facts. is_version_or_empty facts.version ≡ true)
   pub credentials : (plan : List ℕ) → IfSome (rules.mode plan) (λ mode. is_object_text mode.credentials ≡ true)
 
--- no two services and no two plans have one id, and the look-ups are sound
+-- asynchronous bindings only where they can be fetched (OSB API 2.17, "Binding")
+abbrev pub IsFetchable : Plan → Type 0
+IsFetchable plan = is_asynchronous plan.mode.bindings ≡ true → plan.bindings_retrievable ≡ true
+
+-- no two services and no two plans have one id, asynchronous bindings can be fetched, and the look-ups are sound
 pub record IsSettings (s : SettingsData) : Type 0 where
   pub services : IsDistinct bytes_eq (map (λ service. service.id) s.services)
   pub plans : IsDistinct bytes_eq (map (λ plan. plan.id) s.plans)
+  pub fetched : AllByRecursion IsFetchable s.plans
   pub rules : AreSound (rules_of s)

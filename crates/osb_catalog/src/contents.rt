@@ -76,6 +76,7 @@ fn read_plan(alloc: Global, file: &Value, service: &Value, plan: &Value) -> Resu
         id: Text::from_str(alloc, id)?,
         facts: read_facts(alloc, service, plan)?,
         mode: read_mode(alloc, file, id)?,
+        bindings_retrievable: flag_at(service, Field::BindingsRetrievable),
     })
 }
 

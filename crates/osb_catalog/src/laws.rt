@@ -14,8 +14,8 @@ pub fn lowest()
 {}
 
 /// Settings that a file has are sound: no two services and no two plans have one id, ids are id
-/// texts, versions are semantic versions, credentials are compact texts of objects, and the limit
-/// of orders is from 1 to 1,000,000.
+/// texts, versions are semantic versions, credentials are compact texts of objects, asynchronous
+/// bindings can be fetched, and the limit of orders is from 1 to 1,000,000.
 pub fn sound()
     ensures { (bytes : List ℕ) (settings : SettingsData) → settings_of bytes ≡ Ok settings → IsSettings settings }
 {}

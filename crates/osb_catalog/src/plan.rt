@@ -53,6 +53,8 @@ pub struct Plan {
     pub id: Text,
     pub facts: PlanFacts,
     pub mode: Mode,
+    /// Whether platforms may fetch the bindings of the plan's service.
+    pub bindings_retrievable: bool,
 }
 
 /// A service of the catalog.
