@@ -1,5 +1,5 @@
 -- The steps of the loop over a buffer.
-use Rattle.std.proofs.Common.{◌≡◌, ℕ, zero-add, suc, ◌+◌, ◌-◌, ◌<◌, ◌≤◌, ◌==◌, inl, inr, Bool, true, false, cond, List, [], ◌∷◌, ◌++◌, length, take, drop, Option, Some, None, Result, Ok, Err, OnOk, IfSome, sym, refl, ap, subst, ◌∙◌, arith}
+use Rattle.std.proofs.Common.{◌≡◌, ℕ, zero-add, suc, ◌+◌, ◌-◌, ◌<◌, ◌≤◌, ◌==◌, inl, inr, Bool, true, false, cond, List, [], ◌∷◌, ◌++◌, length, take, drop, Option, Some, None, Ok, Err, IfSome, sym, refl, ap, subst, ◌∙◌, arith}
 use Rattle.std.specs.Io.KnownBytes.{Consumes, IsAtEnd, Keeps}
 use Rattle.std.specs.List.{copy_within}
 use Rattle.std.proofs.lemmas.List.Edits.{take-paste}
@@ -14,8 +14,7 @@ use Rattle.osb_broker.specs.Machine.{Machine, fault_reply}
 use Rattle.osb_broker.specs.Connection.{After}
 use Rattle.osb_broker.specs.Served.{Served, Reached, BrokenOff}
 use Rattle.osb_broker.specs.Answering.{Answers, WritesText}
-use Rattle.osb_broker.specs.Serving.{Gave, OfConnection, Holding, Looked, Outcome}
-use Rattle.osb_broker.specs.declared.fault.ServeFault.{ServeFault}
+use Rattle.osb_broker.specs.Serving.{Gave, OfConnection, Holding, Looked}
 use Rattle.osb_broker.proofs.RunLemmas.{after_more, concat_more, served_silent, text_of_end, text_of_none, not_marked}
 use Rattle.osb_broker.proofs.LoopLemmas.{AtRequest, closing, breaking, refusing}
 
@@ -136,10 +135,6 @@ known_all None now got P consumed of = tt
 known_all (Some all) None got P consumed of = absurd consumed
 known_all (Some all) (Some rest) got P consumed (inl each) = subst P (sym consumed) (each rest)
 known_all (Some all) (Some rest) got P consumed (inr last) = subst P (sym (append-nil got) ∙ ap (λ l. got ++ l) (sym last.1) ∙ sym consumed) last.0
-
-pub known_text : {S : Type 0} (machine : Machine S) (limits : Limits) (k : ℕ) (s : S) (a b : List ℕ) (known now : Option (List ℕ)) (got old new : List ℕ) (t : S) (result : Result (Unit {0}) ServeFault) → Gave a b known now got → Outcome result machine limits k s got now old new t → OnOk result (IfSome known (λ all. Served machine limits k s all old new t))
-known_text machine limits k s a b known now got old new t (Ok x) gave outcome = known_all known now got (λ all. Served machine limits k s all old new t) gave.consumed outcome
-known_text machine limits k s a b known now got old new t (Err e) gave outcome = tt
 
 -- ---- how much was read
 

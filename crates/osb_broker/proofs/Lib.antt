@@ -1,4 +1,3 @@
-mod AskLemmas
 mod RunLemmas
 mod LoopLemmas
 mod HoldLemmas

@@ -2,7 +2,8 @@
 use Rattle.std.specs.Prelude.{ℕ}
 use Rattle.osb_broker.specs.declared.broker.Broker.{Broker}
 use Rattle.osb_replies.specs.Body.{body_bytes}
-use Rattle.osb_broker.specs.declared.broker.Answer as code
+use Rattle.osb_broker.specs.declared.answer.Answer as code
+use Rattle.osb_catalog.specs.Rules as catalog
 use Rattle.osb_broker.specs.Machine.{Answer}
 use Rattle.osb_broker.specs.Lives.{Lives}
 
@@ -13,6 +14,10 @@ lives_of broker = broker.instances.items
 -- how many requests of a connection it takes
 abbrev pub most_of : Broker → ℕ
 most_of broker = broker.per_connection
+
+-- the settings that it decides by
+abbrev pub rules_of : Broker → catalog.Rules
+rules_of broker = catalog.rules_of broker.settings.now
 
 -- an answer of the code
 abbrev pub answer_parts : code.Answer → Answer

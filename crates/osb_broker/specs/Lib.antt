@@ -3,8 +3,7 @@ pub mod Connection
 pub mod Served
 pub mod Serving
 pub mod Answering
-pub mod Asks
-pub mod Asked
+pub mod Faults
 pub mod Lives
 pub mod Kept
 pub mod Room

@@ -1,47 +1,46 @@
 //! The broker.
 
-ghost use Rattle.std.specs.Prelude.{◌≡◌, ◌≤◌, [], ◌∷◌, ◌++◌, ℕ, true, IfOk, OnOk, OnErr};
+ghost use Rattle.std.specs.Prelude.{◌≡◌, ◌≤◌, [], ◌∷◌, ◌++◌, ℕ, true, false, IfOk, OnOk, OnErr, Ok};
 ghost use Rattle.osb_frames.specs.Steps.{message};
 ghost use Rattle.osb_replies.specs.Parts.{parts};
+ghost use Rattle.osb_catalog.specs.Rules as catalog;
+ghost use Rattle.osb_asks.specs.Asks.{ask_of, is_early};
 ghost use Rattle.osb_broker.specs.Machine.{Handled};
-ghost use Rattle.osb_broker.specs.Lives.{is_known, answer_to, keeps, machine};
-ghost use Rattle.osb_broker.specs.Asked.{asked};
+ghost use Rattle.osb_broker.specs.Lives.{is_known, answer_to, told_to, machine};
 
-use crate::ask::{Ask, ask_of};
-use crate::catalog::CATALOG;
+use crate::answer::Answer;
+use osb_asks::{Ask, AskFault, read_ask};
+use osb_catalog::Settings;
 use osb_frames::Request;
 use osb_replies::{Body, REFUSED, Reply, Status};
 use osb_text::Text;
 use std::alloc::{AllocError, Global};
 
-/// The broker: what it keeps, and how many requests a connection may have.
+/// The broker: the settings that it was given, what it keeps, and how many requests a connection
+/// may have.
 #[derive(Drop)]
-pub struct Broker {
+pub struct Broker<'s> {
     alloc: Global,
+    settings: &'s Settings,
     instances: Vec<Text>,
     pub(crate) per_connection: u32,
 }
 
-/// What an ask is answered with.
-#[derive(Drop)]
-struct Answer {
-    status: Status,
-    body: Body<'static>,
-}
+impl<'s> Broker<'s> {
+    ghost use Rattle.osb_broker.specs.Kept.{lives_of, most_of, rules_of, answer_parts};
 
-impl Broker {
-    ghost use Rattle.osb_broker.specs.Kept.{lives_of, most_of, answer_parts};
-
-    /// A broker that keeps nothing yet, and takes up to `per_connection` requests of a connection.
-    /// It takes no memory.
-    pub fn new(alloc: Global, per_connection: u32) -> Broker
+    /// A broker over these settings that keeps nothing yet, and takes up to `per_connection`
+    /// requests of a connection. It takes no memory.
+    pub fn new(alloc: Global, settings: &'s Settings, per_connection: u32) -> Broker<'s>
         requires some { 1 ≤ per_connection }
         requires few { per_connection ≤ 1000 }
         ensures lives { lives_of result ≡ [] }
         ensures most { most_of result ≡ per_connection }
+        ensures rules { rules_of result ≡ catalog.rules_of settings.now }
     {
         Broker {
             alloc,
+            settings,
             instances: Vec::new(alloc),
             per_connection,
         }
@@ -59,6 +58,7 @@ impl Broker {
         ensures ok { OnOk result (lives_of self.new ≡ lives_of self.old ++ id.now ∷ []) }
         ensures err { OnErr result (lives_of self.new ≡ lives_of self.old) }
         ensures most { most_of self.new ≡ most_of self.old }
+        ensures rules { rules_of self.new ≡ rules_of self.old }
     {
         let id = Text::from_str(self.alloc, id)?;
         self.instances.push(id)?;
@@ -66,44 +66,66 @@ impl Broker {
     }
 
     /// The answer to an ask. Where memory is refused, what is kept stays.
-    fn answer(&mut self, ask: &Ask<'_>) -> Result<Answer, AllocError>
-        ensures ok { IfOk result (λ answer. (answer_parts answer, lives_of self.new) ≡ answer_to (lives_of self.old) (asked ask.now)) }
-        ensures err { OnErr result ((keeps (asked ask.now) ≡ true) × (lives_of self.new ≡ lives_of self.old)) }
+    fn answer(&mut self, ask: &Ask) -> Result<Answer<'s>, AllocError>
+        ensures ok { IfOk result (λ answer.
+            (answer_parts answer, lives_of self.new) ≡ answer_to (rules_of self.old) (lives_of self.old) ask.now) }
+        ensures err { OnErr result ((is_early (Ok ask.now) ≡ false) × (lives_of self.new ≡ lives_of self.old)) }
         ensures most { most_of self.new ≡ most_of self.old }
+        ensures rules { rules_of self.new ≡ rules_of self.old }
     {
         match ask {
             Ask::Catalog => Ok(Answer {
                 status: Status::Ok,
-                body: Body::Lent(CATALOG),
+                body: Body::Lent(self.settings.catalog_text()),
             }),
-            Ask::Nothing => Ok(Answer {
-                status: Status::NotFound,
-                body: Body::EMPTY_OBJECT,
-            }),
-            Ask::Provision(id) => {
-                if self.knows(id) {
-                    return Ok(Answer {
-                        status: Status::Ok,
-                        body: Body::EMPTY_OBJECT,
-                    });
+            Ask::Provision(ask) => {
+                if self.knows(ask.instance.as_str()) {
+                    return Ok(Answer::plain(Status::Ok));
                 }
-                self.keep(id)?;
-                Ok(Answer {
-                    status: Status::Created,
-                    body: Body::EMPTY_OBJECT,
-                })
+                self.keep(ask.instance.as_str())?;
+                Ok(Answer::plain(Status::Created))
             }
+            Ask::Fetch(_)
+            | Ask::Update(_)
+            | Ask::Deprovision(_)
+            | Ask::InstanceOp(_)
+            | Ask::Bind(_)
+            | Ask::FetchBinding(_)
+            | Ask::Unbind(_)
+            | Ask::BindingOp(_)
+            | Ask::Orders(_)
+            | Ask::Report(_) => Ok(Answer::plain(Status::NotFound)),
+        }
+    }
+
+    /// The answer to a request: to its ask, or to the fault for which it has none.
+    fn answered(&mut self, request: &Request<'_>) -> Result<Answer<'s>, AllocError>
+        ensures ok { IfOk result (λ answer.
+            (answer_parts answer, lives_of self.new) ≡ told_to (rules_of self.old) (lives_of self.old) (ask_of (rules_of self.old) (message request.now))) }
+        ensures err { OnErr result ((is_early (ask_of (rules_of self.old) (message request.now)) ≡ false)
+            × (lives_of self.new ≡ lives_of self.old)) }
+        ensures most { most_of self.new ≡ most_of self.old }
+        ensures rules { rules_of self.new ≡ rules_of self.old }
+    {
+        match read_ask(self.alloc, request, self.settings) {
+            Ok(ask) => self.answer(&ask),
+            Err(AskFault::Memory) => Err(AllocError),
+            Err(fault) => Ok(Answer::of_fault(fault)),
         }
     }
 
     /// Answers a request, by one step of the machine. `last` says that no further request of its
     /// connection is taken. Where memory is refused the reply is the fixed 500 and what is kept
-    /// stays; the catalog and what no route leads to take none.
+    /// stays. What leads to no door, lacks the login or the version, has no route, or asks for the
+    /// catalog takes no memory.
     pub fn handle<'a>(&mut self, request: &Request<'a>, last: bool) -> Reply<'a>
-        ensures handled { Handled machine (message request.now) last (lives_of self.old) (parts result) (lives_of self.new) }
+    where
+        's: 'a,
+        ensures handled { Handled (machine (rules_of self.old)) (message request.now) last (lives_of self.old) (parts result) (lives_of self.new) }
         ensures most { most_of self.new ≡ most_of self.old }
+        ensures rules { rules_of self.new ≡ rules_of self.old }
     {
-        match self.answer(&ask_of(request)) {
+        match self.answered(request) {
             Ok(answer) => Reply {
                 status: answer.status,
                 body: answer.body,

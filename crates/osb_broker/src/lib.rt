@@ -5,10 +5,9 @@
 //! are cut into (`specs/Connection.antt`), whatever pieces the bytes come in.
 #![tactic(auto)]
 
-mod ask;
+mod answer;
 mod broker;
 mod buffer;
-mod catalog;
 mod fault;
 mod laws;
 mod refuse;
@@ -19,6 +18,5 @@ mod tests;
 
 pub use broker::Broker;
 pub use buffer::Buffer;
-pub use catalog::CATALOG;
 pub use fault::ServeFault;
 pub use laws::{runs_go_on, texts_are_of_the_cut};

@@ -15,8 +15,8 @@ use crate::room::{fill, shift};
 use osb_frames::{Limits, Request, Sink, Source, Step, next};
 use osb_replies::{WriteFault, write_reply};
 
-impl Broker {
-    ghost use Rattle.osb_broker.specs.Kept.{lives_of, most_of};
+impl Broker<'_> {
+    ghost use Rattle.osb_broker.specs.Kept.{lives_of, most_of, rules_of};
     ghost use Rattle.osb_broker.specs.Room.{limits_of};
 
     /// Handles a request and writes its reply. Whether the connection closes.
@@ -26,9 +26,10 @@ impl Broker {
         last: bool,
         sink: &mut W,
     ) -> Result<bool, WriteFault>
-        ensures answers { Answers machine (message request.now) last (lives_of self.old) (lives_of self.new)
+        ensures answers { Answers (machine (rules_of self.old)) (message request.now) last (lives_of self.old) (lives_of self.new)
             (W.taken sink.old) (W.fruitless sink.old) (W.taken sink.new) (W.fruitless sink.new) result }
         ensures most { most_of self.new ≡ most_of self.old }
+        ensures rules { rules_of self.new ≡ rules_of self.old }
     {
         let reply = self.handle(request, last);
         let close = reply.close;
@@ -46,10 +47,11 @@ impl Broker {
     ) -> Result<(), ServeFault>
         requires { limits.now.head + limits.now.body ≤ length room.old }
         ensures most { most_of self.new ≡ most_of self.old }
+        ensures rules { rules_of self.new ≡ rules_of self.old }
         ensures cause { HasCause result (R.failures source.old < R.failures source.new) (W.fruitless sink.old < W.fruitless sink.new) }
         ensures outcome { (got : List ℕ) × Gave (R.given source.old) (R.given source.new) (R.rest source.old) (R.rest source.new) got
-            × Looked machine limits.now (most_of self.old) (lives_of self.old) got (length room.old) (R.reads source.old) (R.reads source.new)
-            × Outcome result machine limits.now (most_of self.old) (lives_of self.old) got (R.rest source.new) (W.taken sink.old) (W.taken sink.new) (lives_of self.new) }
+            × Looked (machine (rules_of self.old)) limits.now (most_of self.old) (lives_of self.old) got (length room.old) (R.reads source.old) (R.reads source.new)
+            × Outcome result (machine (rules_of self.old)) limits.now (most_of self.old) (lives_of self.old) got (R.rest source.new) (W.taken sink.old) (W.taken sink.new) (lives_of self.new) }
     {
         let mut filled = 0;
         let mut ended = false;
@@ -100,17 +102,18 @@ impl Broker {
         sink: &mut W,
     ) -> Result<(), ServeFault>
         ensures most { most_of self.new ≡ most_of self.old }
+        ensures rules { rules_of self.new ≡ rules_of self.old }
         ensures limits { limits_of buffer.new ≡ limits_of buffer.old }
 
         // What is written is the texts of the connection, whatever pieces it came in.
         ensures ok { OnOk result (IfSome (R.rest source.old) (λ all.
-            Served machine (limits_of buffer.old) (most_of self.old) (lives_of self.old) all (W.taken sink.old) (W.taken sink.new) (lives_of self.new))) }
+            Served (machine (rules_of self.old)) (limits_of buffer.old) (most_of self.old) (lives_of self.old) all (W.taken sink.old) (W.taken sink.new) (lives_of self.new))) }
 
         // A fault has its cause in this call, and leaves a prefix.
         ensures cause { HasCause result (R.failures source.old < R.failures source.new) (W.fruitless sink.old < W.fruitless sink.new) }
         ensures outcome { (got : List ℕ) × Gave (R.given source.old) (R.given source.new) (R.rest source.old) (R.rest source.new) got
-            × Looked machine (limits_of buffer.old) (most_of self.old) (lives_of self.old) got ((limits_of buffer.old).head + (limits_of buffer.old).body) (R.reads source.old) (R.reads source.new)
-            × Outcome result machine (limits_of buffer.old) (most_of self.old) (lives_of self.old) got (R.rest source.new) (W.taken sink.old) (W.taken sink.new) (lives_of self.new) }
+            × Looked (machine (rules_of self.old)) (limits_of buffer.old) (most_of self.old) (lives_of self.old) got ((limits_of buffer.old).head + (limits_of buffer.old).body) (R.reads source.old) (R.reads source.new)
+            × Outcome result (machine (rules_of self.old)) (limits_of buffer.old) (most_of self.old) (lives_of self.old) got (R.rest source.new) (W.taken sink.old) (W.taken sink.new) (lives_of self.new) }
     {
         let limits = buffer.limits;
         self.serve_in(buffer.room.as_mut_slice(), &limits, source, sink)

@@ -1,9 +1,11 @@
 -- What `replay` writes.
 use Rattle.std.specs.Prelude.{ℕ, List, []}
 use Rattle.osb_frames.specs.declared.limits.Limits.{Limits}
+use Rattle.osb_catalog.specs.Rules.{Rules}
 use Rattle.osb_broker.specs.Lives.{Lives, machine}
 use Rattle.osb_broker.specs.Served.{Served}
 
--- the texts of a connection of these bytes were written, from a broker that keeps nothing and takes one request
-abbrev pub IsReplayed : Limits → List ℕ → List ℕ → List ℕ → Type 0
-IsReplayed limits bytes old new = (lives : Lives) × Served machine limits 1 [] bytes old new lives
+-- the texts of a connection of these bytes were written, from a broker over these rules that keeps nothing and takes
+-- up to so many requests
+abbrev pub IsReplayed : Rules → ℕ → Limits → List ℕ → List ℕ → List ℕ → Type 0
+IsReplayed rules most limits bytes old new = (lives : Lives) × Served (machine rules) limits most [] bytes old new lives

@@ -5,6 +5,7 @@ ghost use Rattle.std.specs.Prelude.{◌≤◌};
 use crate::check::check;
 use crate::fault::Fault;
 use crate::replay::replay;
+use crate::settings::settings_or_built_in;
 use crate::words::{Order, read};
 use clap::Error;
 use clap::error::ErrorKind;
@@ -43,7 +44,20 @@ fn perform<'a, R: Source, W: Sink>(
     };
     match order {
         Order::Check { settings } => check(rt, settings, output),
-        Order::Replay => replay(rt.alloc(), &Limits::STANDARD, input, output),
+        Order::Replay {
+            settings,
+            per_connection,
+        } => {
+            let settings = settings_or_built_in(rt, settings)?;
+            replay(
+                rt.alloc(),
+                &settings,
+                per_connection,
+                &Limits::STANDARD,
+                input,
+                output,
+            )
+        }
     }
 }
 

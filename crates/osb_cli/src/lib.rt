@@ -6,7 +6,9 @@ mod check;
 mod commands;
 mod fault;
 mod input;
+mod per_connection;
 mod replay;
+mod settings;
 #[cfg(test)]
 mod tests;
 mod words;

@@ -1,15 +1,22 @@
 //! What the words of a command line ask for.
 
-use clap::{Arg, Command, Error};
+use crate::per_connection::PerConnection;
+use clap::{Arg, ArgMatches, Command, Error, value_parser};
 use std::alloc::Global;
 
 /// What the words ask for.
 #[derive(Clone, Copy, Debug)]
 pub(crate) enum Order<'a> {
     /// Check the settings file of that name.
-    Check { settings: &'a str },
-    /// Serve standard input as one connection.
-    Replay,
+    Check {
+        settings: &'a str,
+    },
+    /// Serve standard input as one connection, with the settings of that file or the built-in
+    /// ones.
+    Replay {
+        settings: Option<&'a str>,
+        per_connection: PerConnection,
+    },
 }
 
 const ABOUT: &str = "The broker end of the Open Service Broker API 2.17";
@@ -33,33 +40,67 @@ as `settings: 2 Missing id`. docs/SETTINGS.md lists the fields and the faults.";
 const REPLAY: &str = "Answer the requests on standard input";
 
 const REPLAY_MORE: &str = "Reads standard input to its end, at most 16777216 bytes, serves it as one
-connection and writes the replies to standard output. The broker has the
-built-in settings, answers one request of a connection, and keeps what it is
-told for as long as it runs.";
+connection and writes the replies to standard output. The broker keeps what it
+is told for as long as it runs.";
 
-fn command<'a>(alloc: Global) -> Result<Command<'a>, Error> {
+/// `check` and its words.
+fn check_command<'a>(alloc: Global) -> Result<Command<'a>, Error> {
     let settings = Arg::new(alloc, "settings")
         .value_name("FILE")
         .help("A JSON object of at most 16777216 bytes")
         .required(true);
-    let check = Command::new(alloc, "check")
-        .about(CHECK)
-        .after_help(CHECK_MORE)
-        .override_usage("osb-broker check <FILE>")
-        .arg(settings)?;
-    let replay = Command::new(alloc, "replay")
-        .about(REPLAY)
-        .after_help(REPLAY_MORE)
-        .override_usage("osb-broker replay < FILE");
+    Ok(
+        Command::new(alloc, "check")
+            .about(CHECK)
+            .after_help(CHECK_MORE)
+            .override_usage("osb-broker check <FILE>")
+            .arg(settings)?,
+    )
+}
+
+/// `replay` and its words.
+fn replay_command<'a>(alloc: Global) -> Result<Command<'a>, Error> {
+    let settings = Arg::new(alloc, "settings")
+        .long("settings")
+        .value_name("FILE")
+        .help("The settings file; without it the built-in settings serve");
+    let per_connection = Arg::new(alloc, "per-connection")
+        .long("per-connection")
+        .value_name("N")
+        .help("How many requests of a connection are answered, 1 to 1000; without it 1")
+        .value_parser(value_parser!(u32).range(1..=1000));
+    Ok(
+        Command::new(alloc, "replay")
+            .about(REPLAY)
+            .after_help(REPLAY_MORE)
+            .override_usage("osb-broker replay [--settings FILE] [--per-connection N] < FILE")
+            .arg(settings)?
+            .arg(per_connection)?,
+    )
+}
+
+fn command<'a>(alloc: Global) -> Result<Command<'a>, Error> {
     Ok(
         Command::new(alloc, "osb-broker")
             .about(ABOUT)
             .after_help(STATUS)
             .disable_help_subcommand(true)
             .no_binary_name(true)
-            .subcommand(check)?
-            .subcommand(replay)?,
+            .subcommand(check_command(alloc)?)?
+            .subcommand(replay_command(alloc)?)?,
     )
+}
+
+/// The order to replay, as the words after `replay` say it.
+fn replay_order<'a>(found: &ArgMatches<'a>) -> Order<'a> {
+    let per_connection = match found.get_one::<u32>("per-connection") {
+        Some(number) => PerConnection::of(number).unwrap_or(PerConnection::ONE),
+        None => PerConnection::ONE,
+    };
+    Order::Replay {
+        settings: found.get_str("settings"),
+        per_connection,
+    }
 }
 
 /// Reads the words that follow the program's name.
@@ -69,6 +110,10 @@ pub(crate) fn read<'a>(alloc: Global, words: &'a [String]) -> Result<Order<'a>, 
         Some(("check", found)) => Ok(Order::Check {
             settings: found.get_str("settings").unwrap_or(""),
         }),
-        _ => Ok(Order::Replay),
+        Some((_, found)) => Ok(replay_order(found)),
+        None => Ok(Order::Replay {
+            settings: None,
+            per_connection: PerConnection::ONE,
+        }),
     }
 }

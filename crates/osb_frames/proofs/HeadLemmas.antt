@@ -35,11 +35,7 @@ head_from_window limits buf m n h reads len fits room =
 pub in_longer : (limits : Limits) (buf more : List ℕ) (m : ℕ) (h : RequestHead) (rest : List ℕ) → HeadAt limits (buf ++ more) h rest → ReadsRequest (take m buf ++ (drop m buf ++ more)) h rest
 in_longer limits buf more m h rest x = (x.reads.0, window_whole buf more m ∙ x.reads.1)
 
--- no head is there, whatever follows, where the window has none and nothing can make it one
-pub never_from_never : (limits : Limits) (buf : List ℕ) (m : ℕ) → NeverHasRequest (take m buf) → (more : List ℕ) → HasNoHead limits (buf ++ more)
-never_from_never limits buf m never more h rest x = never (drop m buf ++ more) h rest (in_longer limits buf more m h rest x)
-
--- the same where each head has too many field lines
+-- no head is there, whatever follows, where each head of the window has too many field lines
 pub never_from_room : (limits : Limits) (buf : List ℕ) (m room : ℕ) → room ≡ limits.fields → RequestOverflows room (take m buf) → (more : List ℕ) → HasNoHead limits (buf ++ more)
 never_from_room limits buf m room all over more h rest x =
     let large = over (drop m buf ++ more) h rest (in_longer limits buf more m h rest x) in

@@ -12,9 +12,11 @@ use crate::stage::Stage;
 use crate::status::Status;
 use itoa::Buffer;
 use osb_frames::Sink;
+use thiserror::Error;
 
 /// A write failed or took nothing.
-#[derive(Clone, Copy, Debug, PartialEq, Eq)]
+#[derive(Clone, Copy, Debug, Drop, PartialEq, Eq, Error)]
+#[error("a write failed or took nothing")]
 pub struct WriteFault {
     /// How many bytes of the text went out, or the greatest `usize` where they are more.
     pub written: usize,

@@ -49,11 +49,3 @@ whole_member name (number n) d is whole = cc
 whole_member name (string s) d is whole = cc
 whole_member name (array ds) d is whole = cc
 whole_member name (object ms) d is whole = whole-get_member name ms d whole is
-
-pub whole_items : (v : Data) (ds : Items) → as_array v ≡ Some ds → is_whole v ≡ true → items_are_whole ds ≡ true
-whole_items null ds is whole = cc
-whole_items (boolean b) ds is whole = cc
-whole_items (number n) ds is whole = cc
-whole_items (string s) ds is whole = cc
-whole_items (array es) ds is whole = let same : es ≡ ds = cc in ap items_are_whole (sym same) ∙ whole
-whole_items (object ms) ds is whole = cc

@@ -4,7 +4,7 @@ use Rattle.std.proofs.Math.Seq.{take-add}
 use Rattle.std.proofs.lemmas.Grind.{common_steps}
 use Rattle.osb_frames.specs.Steps.{message}
 use Rattle.osb_broker.specs.Lives.{machine}
-use Rattle.osb_broker.specs.Kept.{most_of}
+use Rattle.osb_broker.specs.Kept.{most_of, rules_of}
 use Rattle.osb_broker.proofs.HoldLemmas.{gave_nothing, gave_more, gave_kept, holding_start, reached_now, holding_fed, holding_more, closing_held, breaking_held, refusing_ok, refusing_err, ending_held, none_held, looked, few_so_far, few_after, one_read, one_byte}
 use Rattle.osb_broker.proofs.broker.Broker.serve_in.Goals as goal
 use Rattle.osb_broker.proofs.broker.Broker.serve_in.Goals.{then-n-eq0, else-n-eq0}
@@ -12,11 +12,12 @@ use Rattle.osb_broker.proofs.broker.Broker.serve_in.Goals.{then-n-eq0, else-n-eq
 pub loop-left-init : goal.loop-left-init
 loop-left-init g c = record {
   most = refl;
+  rules = refl;
   kept = refl;
   failed = refl;
   inside = omega arith;
   over = λ e. cc;
-  holding = ([], gave_nothing _ _, holding_start machine c.args.limits.now (most_of c.args.self.now) _ _, omega arith);
+  holding = ([], gave_nothing _ _, holding_start (machine (rules_of c.args.self.now)) c.args.limits.now (most_of c.args.self.now) _ _, omega arith);
 }
 
 pub returns-in-Ok-true-clause-outcome : goal.returns-in-Ok-true-clause-outcome
@@ -26,10 +27,10 @@ returns-in-Ok-true-clause-outcome g c =
     let held = take c.loop-left.filled c.loop-left.room in (
       got,
       c.loop-left.invariant.holding.1,
-      looked machine c.args.limits.now (most_of c.args.self.now) _ got _ c.loop-left.left _ _ c.loop-left.room c.loop-left.filled _ _ _ c.loop-left.invariant.holding.2 (omega (arith, c.loop-left.auto.room)) (few_so_far _ _ c.loop-left.ended c.loop-left.invariant.holding.3),
-      inl (closing_held machine c.args.limits.now (most_of c.args.self.now) _ got _ c.loop-left.left _ _ held q c.in-Whole.used (c.loop-left.left - 1) _ _ _ _ _
+      looked (machine (rules_of c.args.self.now)) c.args.limits.now (most_of c.args.self.now) _ got _ c.loop-left.left _ _ c.loop-left.room c.loop-left.filled _ _ _ c.loop-left.invariant.holding.2 (omega (arith, c.loop-left.auto.room)) (few_so_far _ _ c.loop-left.ended c.loop-left.invariant.holding.3),
+      inl (closing_held (machine (rules_of c.args.self.now)) c.args.limits.now (most_of c.args.self.now) _ got _ c.loop-left.left _ _ held q c.in-Whole.used (c.loop-left.left - 1) _ _ _ _ _
           (record { holding = c.loop-left.invariant.holding.2; front = c.in-Whole.ensures.stays; inside = c.in-Whole.ensures.size.1; fewer = omega arith })
-          c.in-Ok-true.ensures.answers
+          (rw c.loop-left.invariant.rules at c.in-Ok-true.ensures.answers)
           c.in-Ok-true.field-0-test),
     )
 
@@ -40,10 +41,10 @@ returns-in-Err-clause-outcome g c =
     let held = take c.loop-left.filled c.loop-left.room in (
       got,
       c.loop-left.invariant.holding.1,
-      looked machine c.args.limits.now (most_of c.args.self.now) _ got _ c.loop-left.left _ _ c.loop-left.room c.loop-left.filled _ _ _ c.loop-left.invariant.holding.2 (omega (arith, c.loop-left.auto.room)) (few_so_far _ _ c.loop-left.ended c.loop-left.invariant.holding.3),
-      inl (breaking_held machine c.args.limits.now (most_of c.args.self.now) _ got _ c.loop-left.left _ _ held q c.in-Whole.used (c.loop-left.left - 1) _ _ _ _ c.in-Err.field-0
+      looked (machine (rules_of c.args.self.now)) c.args.limits.now (most_of c.args.self.now) _ got _ c.loop-left.left _ _ c.loop-left.room c.loop-left.filled _ _ _ c.loop-left.invariant.holding.2 (omega (arith, c.loop-left.auto.room)) (few_so_far _ _ c.loop-left.ended c.loop-left.invariant.holding.3),
+      inl (breaking_held (machine (rules_of c.args.self.now)) c.args.limits.now (most_of c.args.self.now) _ got _ c.loop-left.left _ _ held q c.in-Whole.used (c.loop-left.left - 1) _ _ _ _ c.in-Err.field-0
           (record { holding = c.loop-left.invariant.holding.2; front = c.in-Whole.ensures.stays; inside = c.in-Whole.ensures.size.1; fewer = omega arith })
-          c.in-Err.ensures.answers),
+          (rw c.loop-left.invariant.rules at c.in-Err.ensures.answers)),
     )
 
 pub loop-left-preserved-in-Whole : goal.loop-left-preserved-in-Whole
@@ -53,6 +54,7 @@ loop-left-preserved-in-Whole g c =
     let held = take c.loop-left.filled c.loop-left.room in
     record {
       most = c.in-Ok-false.ensures.most ∙ c.loop-left.invariant.most;
+      rules = c.in-Ok-false.ensures.rules ∙ c.loop-left.invariant.rules;
       kept = c.in-Ok-false.ensures.answers.3.1 ∙ c.loop-left.invariant.kept;
       failed = c.loop-left.invariant.failed;
       inside = grind (arith, common_steps);
@@ -60,9 +62,9 @@ loop-left-preserved-in-Whole g c =
       holding = (
         got,
         c.loop-left.invariant.holding.1,
-        rw c.shift.ensures (holding_more machine c.args.limits.now (most_of c.args.self.now) _ got _ c.loop-left.left _ _ held q c.in-Whole.used (c.loop-left.left - 1) _ _ _ _ _
+        rw c.shift.ensures (holding_more (machine (rules_of c.args.self.now)) c.args.limits.now (most_of c.args.self.now) _ got _ c.loop-left.left _ _ held q c.in-Whole.used (c.loop-left.left - 1) _ _ _ _ _
             (record { holding = c.loop-left.invariant.holding.2; front = c.in-Whole.ensures.stays; inside = c.in-Whole.ensures.size.1; fewer = omega arith })
-            c.in-Ok-false.ensures.answers
+            (rw c.loop-left.invariant.rules at c.in-Ok-false.ensures.answers)
             c.in-Ok-false.field-0-test),
         c.loop-left.invariant.holding.3,
       );
@@ -74,8 +76,8 @@ returns-in-Ok-clause-outcome g c =
     let held = take c.loop-left.filled c.loop-left.room in (
       got,
       c.loop-left.invariant.holding.1,
-      looked machine c.args.limits.now (most_of c.args.self.now) _ got _ c.loop-left.left _ _ c.loop-left.room c.loop-left.filled _ _ _ c.loop-left.invariant.holding.2 (omega (arith, c.loop-left.auto.room)) (few_so_far _ _ c.loop-left.ended c.loop-left.invariant.holding.3),
-      refusing_ok machine c.args.limits.now (most_of c.args.self.now) _ got _ c.loop-left.left _ _ held c.in-Stop.kind c.loop-left.ended _ (c.loop-left.left - 1) _ _ _ _
+      looked (machine (rules_of c.args.self.now)) c.args.limits.now (most_of c.args.self.now) _ got _ c.loop-left.left _ _ c.loop-left.room c.loop-left.filled _ _ _ c.loop-left.invariant.holding.2 (omega (arith, c.loop-left.auto.room)) (few_so_far _ _ c.loop-left.ended c.loop-left.invariant.holding.3),
+      refusing_ok (machine (rules_of c.args.self.now)) c.args.limits.now (most_of c.args.self.now) _ got _ c.loop-left.left _ _ held c.in-Stop.kind c.loop-left.ended _ (c.loop-left.left - 1) _ _ _ _
           c.loop-left.invariant.holding.2 c.in-Stop.ensures.stays c.loop-left.invariant.over (omega arith) c.in-Ok.ensures,
     )
 
@@ -85,8 +87,8 @@ returns-in-Err-refuse-clause-outcome g c =
     let held = take c.loop-left.filled c.loop-left.room in (
       got,
       c.loop-left.invariant.holding.1,
-      looked machine c.args.limits.now (most_of c.args.self.now) _ got _ c.loop-left.left _ _ c.loop-left.room c.loop-left.filled _ _ _ c.loop-left.invariant.holding.2 (omega (arith, c.loop-left.auto.room)) (few_so_far _ _ c.loop-left.ended c.loop-left.invariant.holding.3),
-      refusing_err machine c.args.limits.now (most_of c.args.self.now) _ got _ c.loop-left.left _ _ held c.in-Stop.kind c.loop-left.ended _ (c.loop-left.left - 1) _ _ _ c.in-Err-refuse.field-0
+      looked (machine (rules_of c.args.self.now)) c.args.limits.now (most_of c.args.self.now) _ got _ c.loop-left.left _ _ c.loop-left.room c.loop-left.filled _ _ _ c.loop-left.invariant.holding.2 (omega (arith, c.loop-left.auto.room)) (few_so_far _ _ c.loop-left.ended c.loop-left.invariant.holding.3),
+      refusing_err (machine (rules_of c.args.self.now)) c.args.limits.now (most_of c.args.self.now) _ got _ c.loop-left.left _ _ held c.in-Stop.kind c.loop-left.ended _ (c.loop-left.left - 1) _ _ _ c.in-Err-refuse.field-0
           c.loop-left.invariant.holding.2 c.in-Stop.ensures.stays c.loop-left.invariant.over (omega arith) c.in-Err-refuse.ensures,
     )
 
@@ -94,7 +96,7 @@ pub returns-in-Ended-clause-outcome : goal.returns-in-Ended-clause-outcome
 returns-in-Ended-clause-outcome g c =
     let got = c.loop-left.invariant.holding.0 in
     let held = take c.loop-left.filled c.loop-left.room in
-    (got, c.loop-left.invariant.holding.1, looked machine c.args.limits.now (most_of c.args.self.now) _ got _ c.loop-left.left _ _ c.loop-left.room c.loop-left.filled _ _ _ c.loop-left.invariant.holding.2 (omega (arith, c.loop-left.auto.room)) (few_so_far _ _ c.loop-left.ended c.loop-left.invariant.holding.3), inr (ending_held machine c.args.limits.now (most_of c.args.self.now) _ got _ c.loop-left.left _ _ held (c.loop-left.left - 1) c.loop-left.invariant.holding.2 (omega arith) c.in-Ended.ensures.says.1, c.loop-left.invariant.over c.in-Ended.ensures.says.0))
+    (got, c.loop-left.invariant.holding.1, looked (machine (rules_of c.args.self.now)) c.args.limits.now (most_of c.args.self.now) _ got _ c.loop-left.left _ _ c.loop-left.room c.loop-left.filled _ _ _ c.loop-left.invariant.holding.2 (omega (arith, c.loop-left.auto.room)) (few_so_far _ _ c.loop-left.ended c.loop-left.invariant.holding.3), inr (ending_held (machine (rules_of c.args.self.now)) c.args.limits.now (most_of c.args.self.now) _ got _ c.loop-left.left _ _ held (c.loop-left.left - 1) c.loop-left.invariant.holding.2 (omega arith) c.in-Ended.ensures.says.1, c.loop-left.invariant.over c.in-Ended.ensures.says.0))
 
 pub fill-requires : goal.fill-requires
 fill-requires g c =
@@ -114,6 +116,7 @@ loop-left-preserved g c =
     let front : take (c.loop-left.filled + n) c.fill.new.room ≡ held ++ piece = take-add c.loop-left.filled n c.fill.new.room ∙ ap (λ l. l ++ piece) c.in-Ok-fill.ensures.kept in
     record {
       most = c.loop-left.invariant.most;
+      rules = c.loop-left.invariant.rules;
       kept = c.loop-left.invariant.kept;
       failed = c.in-Ok-fill.ensures.failed ∙ c.loop-left.invariant.failed;
       inside = grind (arith, common_steps, c.in-Ok-fill.ensures.bound);
@@ -124,7 +127,7 @@ loop-left-preserved g c =
       holding = (
         got ++ piece,
         gave_more _ _ _ _ _ _ got piece c.loop-left.invariant.holding.1 c.in-Ok-fill.ensures.given c.in-Ok-fill.ensures.known.0,
-        rw front (holding_fed machine c.args.limits.now (most_of c.args.self.now) _ got _ c.loop-left.left _ _ held piece c.loop-left.invariant.holding.2),
+        rw front (holding_fed (machine (rules_of c.args.self.now)) c.args.limits.now (most_of c.args.self.now) _ got _ c.loop-left.left _ _ held piece c.loop-left.invariant.holding.2),
         elim c.if-n-eq0.branch [
           | then-n-eq0 w ↦ rw w.ended-is (one_read _ _ _ got piece c.loop-left.ended c.in-Ok-fill.ensures.counted c.in-More.ensures.says.0 c.loop-left.invariant.holding.3)
           | else-n-eq0 w ↦ rw (w.ended-is, c.in-More.ensures.says.0) (one_byte _ _ _ got c.fill.new.room c.loop-left.filled n c.loop-left.ended c.in-Ok-fill.ensures.counted c.in-More.ensures.says.0 c.loop-left.invariant.holding.3 (omega (arith, w.if-n-eq0.false)) (omega (arith, c.in-Ok-fill.ensures.bound, c.loop-left.auto.room)))
@@ -140,12 +143,12 @@ returns-in-Err-fill-clause-outcome g c =
     let few : g.R.Source.reads c.fill.new.source ≤ g.R.Source.reads c.args.source.now + length got + 1 = few_after _ _ _ c.loop-left.ended calls c.in-More.ensures.says.0 c.loop-left.invariant.holding.3 in (
       got,
       gave_kept _ _ _ _ _ _ got c.loop-left.invariant.holding.1 c.in-Err-fill.ensures.given c.in-Err-fill.ensures.known,
-      looked machine c.args.limits.now (most_of c.args.self.now) _ got _ c.loop-left.left _ _ c.loop-left.room c.loop-left.filled _ _ _ c.loop-left.invariant.holding.2 (omega (arith, c.loop-left.auto.room)) few,
+      looked (machine (rules_of c.args.self.now)) c.args.limits.now (most_of c.args.self.now) _ got _ c.loop-left.left _ _ c.loop-left.room c.loop-left.filled _ _ _ c.loop-left.invariant.holding.2 (omega (arith, c.loop-left.auto.room)) few,
       record {
         left = c.loop-left.left;
         some = c.loop-left-test.true;
         held = held;
-        reached = reached_now machine c.args.limits.now (most_of c.args.self.now) _ got _ c.loop-left.left _ _ held c.loop-left.invariant.holding.2;
+        reached = reached_now (machine (rules_of c.args.self.now)) c.args.limits.now (most_of c.args.self.now) _ got _ c.loop-left.left _ _ held c.loop-left.invariant.holding.2;
         waits = record {
           request = λ q m at. c.in-More.ensures.finds q m at;
           stop = λ f final at. let e = c.in-More.ensures.stops f final at in cc;
@@ -157,4 +160,4 @@ pub returns-clause-outcome : goal.returns-clause-outcome
 returns-clause-outcome g c =
     let got = c.loop-left.invariant.holding.0 in
     let held = take c.loop-left.filled c.loop-left.room in
-    (got, c.loop-left.invariant.holding.1, looked machine c.args.limits.now (most_of c.args.self.now) _ got _ c.loop-left.left _ _ c.loop-left.room c.loop-left.filled _ _ _ c.loop-left.invariant.holding.2 (omega (arith, c.loop-left.auto.room)) (few_so_far _ _ c.loop-left.ended c.loop-left.invariant.holding.3), inl (none_held machine c.args.limits.now (most_of c.args.self.now) _ got _ c.loop-left.left _ _ held c.loop-left.invariant.holding.2 (omega arith)))
+    (got, c.loop-left.invariant.holding.1, looked (machine (rules_of c.args.self.now)) c.args.limits.now (most_of c.args.self.now) _ got _ c.loop-left.left _ _ c.loop-left.room c.loop-left.filled _ _ _ c.loop-left.invariant.holding.2 (omega (arith, c.loop-left.auto.room)) (few_so_far _ _ c.loop-left.ended c.loop-left.invariant.holding.3), inl (none_held (machine (rules_of c.args.self.now)) c.args.limits.now (most_of c.args.self.now) _ got _ c.loop-left.left _ _ held c.loop-left.invariant.holding.2 (omega arith)))

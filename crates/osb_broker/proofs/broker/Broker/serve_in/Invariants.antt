@@ -1,7 +1,7 @@
 use Rattle.std.proofs.Common.{◌≡◌, ◌≤◌, ◌+◌, ◌-◌, ◌*◌, List, ℕ, true, cond, length, take}
 use Rattle.std.specs.Io.KnownBytes.{IsAtEnd}
 use Rattle.osb_broker.specs.Lives.{machine}
-use Rattle.osb_broker.specs.Kept.{lives_of, most_of}
+use Rattle.osb_broker.specs.Kept.{lives_of, most_of, rules_of}
 use Rattle.osb_broker.specs.Serving.{Gave, Holding}
 use Rattle.osb_broker.proofs.broker.Broker.serve_in.Given as goal
 
@@ -14,11 +14,12 @@ invariant-loop-left g l =
     let source = g.R.Source in
     record {
       most : most_of l.self ≡ most_of l.fn.self;
+      rules : rules_of l.self ≡ rules_of l.fn.self;
       kept : sink.fruitless l.sink ≡ sink.fruitless l.fn.sink;
       failed : source.failures l.source ≡ source.failures l.fn.source;
       inside : l.filled ≤ length l.room;
       over : l.ended ≡ true → IsAtEnd (source.rest l.source);
       holding : (got : List ℕ) × Gave (source.given l.fn.source) (source.given l.source) (source.rest l.fn.source) (source.rest l.source) got
-          × Holding machine l.limits (most_of l.fn.self) (lives_of l.fn.self) got (sink.taken l.fn.sink) l.left (sink.taken l.sink) (lives_of l.self) (take l.filled l.room)
+          × Holding (machine (rules_of l.fn.self)) l.limits (most_of l.fn.self) (lives_of l.fn.self) got (sink.taken l.fn.sink) l.left (sink.taken l.sink) (lives_of l.self) (take l.filled l.room)
           × (source.reads l.source ≤ source.reads l.fn.source + length got + cond l.ended 1 0);
     }

@@ -1,0 +1,206 @@
+-- What each reader finds: something of which a property holds, or a fault that is neither early nor Memory.
+use Rattle.std.proofs.Common.{◌≡◌, ℕ, ◌≤◌, List, Bool, true, false, ◌&&◌, ◌==◌, length, Option, Some, None, IfSome, Result, Ok, Err, cond, refl, codes, nat_le, bytes_eq, option_map, unwrap_or, arith}
+use Rattle.std.specs.Prelude.{⊤}
+use Rattle.std.proofs.lemmas.Bool.{and_parts}
+use Rattle.std.proofs.lemmas.Bool.Decides.{nat_tests}
+use Rattle.std.proofs.lemmas.Str.{chars-nil}
+use Rattle.std.specs.Str.{is_utf8}
+use Rattle.std.specs.Str.Parse.{digits_value}
+use Rattle.percent_encoding.specs.Percent.{percent_decode}
+use Rattle.serde_json.specs.Data.{Data}
+use Rattle.serde_json.specs.Find.{get, as_str}
+use Rattle.serde_json.specs.Written.{compact_text}
+use Rattle.osb_text.specs.Id.{is_id, has_no_controls}
+use Rattle.osb_text.specs.declared.fault.TextFault.{TextFault}
+use Rattle.osb_text.specs.Member.{field, object_value}
+use Rattle.osb_text.specs.ObjectText.{IsReadable}
+use Rattle.osb_text.specs.Reading.{object_of}
+use Rattle.osb_text.proofs.ReadableLemmas.{readable, object_text, empty_object}
+use Rattle.osb_asks.specs.declared.ask.ReportState.{ReportState}
+use Rattle.osb_asks.specs.declared.ask.ReportState.TheVariants.{Succeeded, Failed}
+use Rattle.osb_asks.specs.declared.ask_fault.AskFault.{AskFault}
+use Rattle.osb_asks.specs.declared.ask_fault.AskFault.TheVariants as fault
+use Rattle.osb_asks.specs.Reads.{◌>>=◌, needed, given}
+use Rattle.osb_asks.specs.Ids as id
+use Rattle.osb_asks.specs.Queries as query
+use Rattle.osb_asks.specs.Bodies as body
+use Rattle.osb_asks.specs.Worded.{IsId, IsObject}
+use Rattle.osb_asks.proofs.ContentLemmas.{object_found, readable_object}
+
+abbrev pub is_late : AskFault → Bool
+is_late fault.NoDoor = false
+is_late fault.Auth = false
+is_late fault.Version = false
+is_late fault.NoRoute = false
+is_late fault.Id = true
+is_late fault.Query = true
+is_late fault.Body = true
+is_late fault.NotInCatalog = true
+is_late fault.Memory = false
+
+abbrev pub Found : {A : Type 0} → (A → Type 0) → Result A AskFault → Type 0
+Found P (Ok x) = P x
+Found P (Err e) = is_late e ≡ true
+
+-- P of what is found, or a late fault
+pub record Finds (A : Type 0) (P : A → Type 0) (r : Result A AskFault) : Type 0 where
+  pub found : Found P r
+
+pub then_finds : {A B : Type 0} (P : A → Type 0) (Q : B → Type 0) (r : Result A AskFault) (f : A → Result B AskFault) → Finds A P r → ((x : A) → P x → Finds B Q (f x)) → Finds B Q (r >>= f)
+then_finds P Q (Ok x) f here later = later x here.found
+then_finds P Q (Err e) f here later = record { found = here.found }
+
+pub tested_finds : {A : Type 0} (P : A → Type 0) (b : Bool) (x : A) (e : AskFault) → is_late e ≡ true → (b ≡ true → P x) → Finds A P (cond b (Ok x) (Err e))
+tested_finds P true x e late h = record { found = h refl }
+tested_finds P false x e late h = record { found = late }
+
+abbrev pub Anything : {A : Type 0} → A → Type 0
+Anything x = ⊤
+
+-- ---- ids and numbers
+
+id_or_finds : (e : AskFault) (text : List ℕ) → is_late e ≡ true → Finds (List ℕ) IsId (id.id_or e text)
+id_or_finds e text late = tested_finds IsId (is_id text) text e late (λ h. h)
+
+pub id_finds : (segment : List ℕ) → Finds (List ℕ) IsId (id.id_of segment)
+id_finds segment = by (is_utf8 (percent_decode segment)) (percent_decode segment)
+  where
+    by : (b : Bool) (text : List ℕ) → Finds (List ℕ) IsId (cond b (id.id_or fault.Id text) (Err fault.Id))
+    by true text = id_or_finds fault.Id text refl
+    by false text = record { found = refl }
+
+pub number_finds : (segment : List ℕ) → Finds ℕ Anything (id.number_of segment)
+unfolding id.number_of
+number_finds segment = tested_finds Anything (id.is_number segment) (digits_value 10 segment) fault.Id refl (λ h. tt)
+
+abbrev pub IsGivenId : Option (List ℕ) → Type 0
+IsGivenId o = IfSome o IsId
+
+given_finds : (r : Result (List ℕ) AskFault) → Finds (List ℕ) IsId r → Finds (Option (List ℕ)) IsGivenId (given r)
+given_finds (Ok x) h = record { found = h.found }
+given_finds (Err e) h = record { found = h.found }
+
+unless_empty_finds : (e : AskFault) (o : Option (List ℕ)) → is_late e ≡ true → Finds (Option (List ℕ)) IsGivenId (id.id_unless_empty_or e o)
+unless_empty_finds e None late = record { found = tt }
+unless_empty_finds e (Some text) late = by (length text == 0)
+  where
+    by : (b : Bool) → Finds (Option (List ℕ)) IsGivenId (cond b (Ok None) (given (id.id_or e text)))
+    by true = record { found = tt }
+    by false = given_finds (id.id_or e text) (id_or_finds e text late)
+
+-- ---- queries
+
+chosen_finds : {A : Type 0} (b c : Bool) (x y : A) (e : AskFault) → is_late e ≡ true → Finds A Anything (cond b (Ok x) (cond c (Ok y) (Err e)))
+chosen_finds true c x y e late = record { found = tt }
+chosen_finds false c x y e late = tested_finds Anything c y e late (λ h. tt)
+
+pub accepts_finds : (q : List ℕ) → Finds Bool Anything (query.accepts_incomplete_in q)
+accepts_finds q = by (query.value_of (codes "accepts_incomplete") q)
+  where
+    by : (o : Option (List ℕ)) → Finds Bool Anything (query.accepts_incomplete_by o)
+    by None = record { found = tt }
+    by (Some text) = chosen_finds (bytes_eq text (codes "true")) (bytes_eq text (codes "false")) true false fault.Query refl
+
+pub id_in_finds : (name q : List ℕ) → Finds (List ℕ) IsId (query.id_in name q)
+id_in_finds name q = by (query.value_of name q)
+  where
+    by : (o : Option (List ℕ)) → Finds (List ℕ) IsId (query.id_by o)
+    by None = record { found = refl }
+    by (Some text) = id_or_finds fault.Query text refl
+
+pub after_finds : (q : List ℕ) → Finds (Option (List ℕ)) IsGivenId (query.after_in q)
+after_finds q = unless_empty_finds fault.Query (query.value_of (codes "after") q) refl
+
+-- ---- bodies
+
+or_body_finds : {A : Type 0} (r : Result A TextFault) → Finds A Anything (body.or_body r)
+or_body_finds (Ok x) = record { found = tt }
+or_body_finds (Err e) = record { found = refl }
+
+pub body_finds : (bytes : List ℕ) → Finds Data IsReadable (body.body_of bytes)
+body_finds bytes = by (object_of bytes) refl
+  where
+    by : (r : Result Data TextFault) → object_of bytes ≡ r → Finds Data IsReadable (body.or_body r)
+    by (Ok v) is = record { found = readable bytes v is }
+    by (Err e) is = record { found = refl }
+
+text_finds : (name : List ℕ) (v : Data) → Finds (Option (List ℕ)) Anything (body.text_at name v)
+text_finds name v = or_body_finds (field as_str name v)
+
+pub id_at_finds : (name : List ℕ) (v : Data) → Finds (List ℕ) IsId (body.id_at name v)
+id_at_finds name v = then_finds Anything IsId (body.text_at name v) body.id_by (text_finds name v) (λ o _. by o)
+  where
+    by : (o : Option (List ℕ)) → Finds (List ℕ) IsId (body.id_by o)
+    by None = record { found = refl }
+    by (Some text) = id_or_finds fault.Body text refl
+
+pub given_id_finds : (name : List ℕ) (v : Data) → Finds (Option (List ℕ)) IsGivenId (body.given_id_at name v)
+given_id_finds name v = then_finds Anything IsGivenId (body.text_at name v) body.given_id_by (text_finds name v) (λ o _. by o)
+  where
+    by : (o : Option (List ℕ)) → Finds (Option (List ℕ)) IsGivenId (body.given_id_by o)
+    by None = record { found = tt }
+    by (Some text) = given_finds (id.id_or fault.Body text) (id_or_finds fault.Body text refl)
+
+pub app_finds : (v : Data) → Finds (Option (List ℕ)) IsGivenId (body.app_guid_at v)
+app_finds v = then_finds Anything IsGivenId (body.text_at (codes "app_guid") v) _ (text_finds (codes "app_guid") v) (λ o _. unless_empty_finds fault.Body o refl)
+
+abbrev pub IsDescription : List ℕ → Type 0
+IsDescription text = (length text ≤ 1000) × (has_no_controls text ≡ true)
+
+pub description_finds : (v : Data) → Finds (List ℕ) IsDescription (body.description_at v)
+description_finds v = then_finds Anything IsDescription (body.text_at (codes "description") v) body.description_by (text_finds (codes "description") v) (λ o _. by o)
+  where
+    described : (text : List ℕ) → (nat_le (length text) 1000 && has_no_controls text) ≡ true → IsDescription text
+    described text h = let both = and_parts (nat_le (length text) 1000) (has_no_controls text) h in (grind (arith, nat_tests), both.1)
+
+    by : (o : Option (List ℕ)) → Finds (List ℕ) IsDescription (body.description_by o)
+    by None = record { found = (omega arith, rw chars-nil refl) }
+    by (Some text) = tested_finds IsDescription (nat_le (length text) 1000 && has_no_controls text) text fault.Body refl (described text)
+
+pub state_finds : (v : Data) → Finds ReportState Anything (body.state_at v)
+state_finds v = then_finds Anything Anything (body.text_at (codes "state") v) body.state_by (text_finds (codes "state") v) (λ o _. by o)
+  where
+    by : (o : Option (List ℕ)) → Finds ReportState Anything (body.state_by o)
+    by None = record { found = refl }
+    by (Some text) = chosen_finds (bytes_eq text (codes "succeeded")) (bytes_eq text (codes "failed")) Succeeded Failed fault.Body refl
+
+-- ---- objects
+
+abbrev IsGivenReadable : Option Data → Type 0
+IsGivenReadable o = IfSome o (λ d. IsObject (compact_text d))
+
+field_finds : (name : List ℕ) (v : Data) → IsReadable v → Finds (Option Data) IsGivenReadable (body.or_body (field object_value name v))
+field_finds name v ok = by (field object_value name v) refl
+  where
+    by : (r : Result (Option Data) TextFault) → field object_value name v ≡ r → Finds (Option Data) IsGivenReadable (body.or_body r)
+    by (Ok None) is = record { found = tt }
+    by (Ok (Some d)) is = record { found = object_text d (readable_object name v d is ok) (object_found (get name v) d is).1 }
+    by (Err e) is = record { found = refl }
+
+abbrev pub IsGivenObject : Option (List ℕ) → Type 0
+IsGivenObject o = IfSome o IsObject
+
+pub object_finds : (name : List ℕ) (v : Data) → IsReadable v → Finds (Option (List ℕ)) IsGivenObject (body.object_at name v)
+object_finds name v ok = then_finds IsGivenReadable IsGivenObject (body.or_body (field object_value name v)) _ (field_finds name v ok) by
+  where
+    by : (o : Option Data) → IsGivenReadable o → Finds (Option (List ℕ)) IsGivenObject (Ok (option_map compact_text o))
+    by None h = record { found = tt }
+    by (Some d) h = record { found = h }
+
+pub or_empty_finds : (name : List ℕ) (v : Data) → IsReadable v → Finds (List ℕ) IsObject (body.object_or_empty name v)
+or_empty_finds name v ok = then_finds IsGivenObject IsObject (body.object_at name v) _ (object_finds name v ok) by
+  where
+    by : (o : Option (List ℕ)) → IsGivenObject o → Finds (List ℕ) IsObject (Ok (unwrap_or o (codes "{}")))
+    by None h = record { found = empty_object }
+    by (Some text) h = record { found = h }
+
+pub maintenance_finds : (v : Data) → Finds (Option (List ℕ)) Anything (body.maintenance_at v)
+maintenance_finds v = then_finds Anything Anything (body.or_body (field object_value (codes "maintenance_info") v)) body.maintenance_by (or_body_finds (field object_value (codes "maintenance_info") v)) (λ o _. by o)
+  where
+    text_by : (o : Option (List ℕ)) → Finds (Option (List ℕ)) Anything (given (needed fault.Body o))
+    text_by None = record { found = refl }
+    text_by (Some text) = record { found = tt }
+
+    by : (o : Option Data) → Finds (Option (List ℕ)) Anything (body.maintenance_by o)
+    by None = record { found = tt }
+    by (Some info) = then_finds Anything Anything (body.text_at (codes "version") info) _ (text_finds (codes "version") info) (λ o _. text_by o)

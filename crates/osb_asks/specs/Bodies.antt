@@ -1,0 +1,88 @@
+-- What a body says: a JSON object whose numbers are whole, and its members, each of its kind. Where a member isn't
+-- what it has to be, the body isn't usable. The names and kinds are those of OSB API 2.17, in the section of each
+-- request; the limits are this project's choice.
+use Rattle.std.specs.Prelude.{ℕ, List, [], ◌&&◌, nat_le, length, Option, Some, None, Result, Ok, Err, option_map, unwrap_or, codes, bytes_eq, if◌then◌else◌}
+use Rattle.serde_json.specs.Data.{Data}
+use Rattle.serde_json.specs.Find.{as_str}
+use Rattle.serde_json.specs.Written.{compact_text}
+use Rattle.osb_text.specs.Id.{has_no_controls}
+use Rattle.osb_text.specs.declared.fault.TextFault.{TextFault}
+use Rattle.osb_text.specs.Reading.{object_of}
+use Rattle.osb_text.specs.Member.{field, object_value}
+use Rattle.osb_asks.specs.declared.ask.ReportState.{ReportState}
+use Rattle.osb_asks.specs.declared.ask.ReportState.TheVariants.{Succeeded, Failed}
+use Rattle.osb_asks.specs.declared.ask_fault.AskFault.{AskFault}
+use Rattle.osb_asks.specs.declared.ask_fault.AskFault.TheVariants.{Body}
+use Rattle.osb_asks.specs.Reads.{◌>>=◌, needed, given}
+use Rattle.osb_asks.specs.Ids.{id_or, id_unless_empty_or}
+
+-- whatever the fault of the text, the body isn't usable
+abbrev pub or_body : {A : Type 0} → Result A TextFault → Result A AskFault
+or_body (Ok x) = Ok x
+or_body (Err fault) = Err Body
+
+-- the object that a body has
+abbrev pub body_of : List ℕ → Result Data AskFault
+body_of bytes = or_body (object_of bytes)
+
+-- ---- texts
+
+-- the text of the name, if it is there
+abbrev pub text_at : List ℕ → Data → Result (Option (List ℕ)) AskFault
+text_at name v = or_body (field as_str name v)
+
+abbrev pub id_by : Option (List ℕ) → Result (List ℕ) AskFault
+id_by None = Err Body
+id_by (Some text) = id_or Body text
+
+-- an id that has to be there
+abbrev pub id_at : List ℕ → Data → Result (List ℕ) AskFault
+id_at name v = text_at name v >>= id_by
+
+abbrev pub given_id_by : Option (List ℕ) → Result (Option (List ℕ)) AskFault
+given_id_by None = Ok None
+given_id_by (Some text) = given (id_or Body text)
+
+-- an id that may be there
+abbrev pub given_id_at : List ℕ → Data → Result (Option (List ℕ)) AskFault
+given_id_at name v = text_at name v >>= given_id_by
+
+-- the app of a binding, of which an empty text counts as absent
+abbrev pub app_guid_at : Data → Result (Option (List ℕ)) AskFault
+app_guid_at v = text_at (codes "app_guid") v >>= id_unless_empty_or Body
+
+abbrev pub description_by : Option (List ℕ) → Result (List ℕ) AskFault
+description_by None = Ok []
+description_by (Some text) = if nat_le (length text) 1000 && has_no_controls text then Ok text else Err Body
+
+-- the description of a report: at most 1,000 bytes without control characters, and empty where there is none
+abbrev pub description_at : Data → Result (List ℕ) AskFault
+description_at v = text_at (codes "description") v >>= description_by
+
+abbrev pub state_by : Option (List ℕ) → Result ReportState AskFault
+state_by None = Err Body
+state_by (Some text) =
+    if bytes_eq text (codes "succeeded") then Ok Succeeded
+    else (if bytes_eq text (codes "failed") then Ok Failed else Err Body)
+
+-- how an order ended, by its report
+abbrev pub state_at : Data → Result ReportState AskFault
+state_at v = text_at (codes "state") v >>= state_by
+
+-- ---- objects
+
+-- the compact text of an object that may be there
+abbrev pub object_at : List ℕ → Data → Result (Option (List ℕ)) AskFault
+object_at name v = or_body (field object_value name v) >>= λ o. Ok (option_map compact_text o)
+
+-- the compact text of an object, `{}` where there is none
+abbrev pub object_or_empty : List ℕ → Data → Result (List ℕ) AskFault
+object_or_empty name v = object_at name v >>= λ o. Ok (unwrap_or o (codes "{}"))
+
+abbrev pub maintenance_by : Option Data → Result (Option (List ℕ)) AskFault
+maintenance_by None = Ok None
+maintenance_by (Some info) = text_at (codes "version") info >>= λ text. given (needed Body text)
+
+-- the version in `maintenance_info`, which may be absent as a whole (OSB API 2.17, "Maintenance Info Object")
+abbrev pub maintenance_at : Data → Result (Option (List ℕ)) AskFault
+maintenance_at v = or_body (field object_value (codes "maintenance_info") v) >>= maintenance_by

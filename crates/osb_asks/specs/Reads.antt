@@ -1,0 +1,35 @@
+-- What a reader answers: what is found, unless memory was refused.
+use Rattle.std.specs.Prelude.{◌≡◌, ◌≢◌, Option, Some, None, option_map, Result, Ok, Err}
+use Rattle.osb_asks.specs.declared.ask_fault.AskFault.{AskFault}
+use Rattle.osb_asks.specs.declared.ask_fault.AskFault.TheVariants.{Memory}
+
+-- what was returned is what is found, unless memory was refused
+abbrev pub Reads : {X : Type 0} → Result X AskFault → Result X AskFault → Type 0
+Reads (Ok x) found = found ≡ Ok x
+Reads (Err fault) found = fault ≢ Memory → found ≡ Err fault
+
+-- the same of what was returned as `view` shows it
+abbrev pub ReadsAs : {X Y : Type 0} → (X → Y) → Result X AskFault → Result Y AskFault → Type 0
+ReadsAs view (Ok x) found = found ≡ Ok (view x)
+ReadsAs view (Err fault) found = fault ≢ Memory → found ≡ Err fault
+
+-- a look-up, which takes no memory, gives what is found
+abbrev pub Gives : {X Y : Type 0} → (X → Y) → Result (Option X) AskFault → Result (Option Y) AskFault → Type 0
+Gives view (Ok o) found = found ≡ Ok (option_map view o)
+Gives view (Err fault) found = found ≡ Err fault
+
+-- the first fault counts
+infixl 10 ◌>>=◌
+abbrev pub ◌>>=◌ : {A B : Type 0} → Result A AskFault → (A → Result B AskFault) → Result B AskFault
+(Ok x) >>= f = f x
+(Err fault) >>= f = Err fault
+
+-- what is there, or the fault
+abbrev pub needed : {A : Type 0} → AskFault → Option A → Result A AskFault
+needed fault None = Err fault
+needed fault (Some x) = Ok x
+
+-- what is found, as something that may be there
+abbrev pub given : {A : Type 0} → Result A AskFault → Result (Option A) AskFault
+given (Ok x) = Ok (Some x)
+given (Err fault) = Err fault

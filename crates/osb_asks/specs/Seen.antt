@@ -1,0 +1,36 @@
+-- Entries, places and routes without where their segments lie in memory.
+use Rattle.osb_asks.specs.declared.door.Entry.{Entry}
+use Rattle.osb_asks.specs.declared.place.Place.{Place}
+use Rattle.osb_asks.specs.declared.place.Place.TheVariants as place
+use Rattle.osb_asks.specs.declared.route.Route.{Route}
+use Rattle.osb_asks.specs.declared.route.Route.TheVariants as route
+use Rattle.osb_asks.specs.SegmentsLeft.{left}
+use Rattle.osb_asks.specs.Doors.{Entrance}
+use Rattle.osb_asks.specs.Places as named
+use Rattle.osb_asks.specs.Routes as routed
+
+abbrev pub seen_entry : Entry → Entrance
+seen_entry e = record { door = e.door; behind = left e.segments }
+
+abbrev pub seen_place : Place → named.Named
+seen_place place.Catalog = named.catalog
+seen_place (place.Instance i) = named.instance i.now
+seen_place (place.InstanceOperation i) = named.instance_operation i.now
+seen_place (place.Binding i b) = named.binding i.now b.now
+seen_place (place.BindingOperation i b) = named.binding_operation i.now b.now
+seen_place place.Orders = named.orders
+seen_place (place.Order i n) = named.order i.now n.now
+
+abbrev pub seen_route : Route → routed.Routed
+seen_route route.Catalog = routed.Catalog
+seen_route (route.Provision i) = routed.Provision i.now
+seen_route (route.Fetch i) = routed.Fetch i.now
+seen_route (route.Update i) = routed.Update i.now
+seen_route (route.Deprovision i) = routed.Deprovision i.now
+seen_route (route.InstanceOp i) = routed.InstanceOp i.now
+seen_route (route.Bind i b) = routed.Bind i.now b.now
+seen_route (route.FetchBinding i b) = routed.FetchBinding i.now b.now
+seen_route (route.Unbind i b) = routed.Unbind i.now b.now
+seen_route (route.BindingOp i b) = routed.BindingOp i.now b.now
+seen_route route.Orders = routed.Orders
+seen_route (route.Report i n) = routed.Report i.now n.now

@@ -1,0 +1,68 @@
+//! Who is let in, and by which route. Nothing here takes memory.
+
+ghost use Rattle.std.specs.Prelude.{◌≡◌};
+ghost use Rattle.osb_frames.specs.Steps.{message};
+ghost use Rattle.osb_catalog.specs.Rules.{rules_of};
+ghost use Rattle.osb_asks.specs.Admission as spec;
+ghost use Rattle.osb_asks.specs.Seen.{seen_route};
+
+use crate::ask_fault::AskFault;
+use crate::credentials::is_login;
+use crate::door::{Door, entry_of};
+use crate::place::place_at;
+use crate::route::{Route, method_of, route_at};
+use crate::version::is_version;
+use osb_catalog::Settings;
+use osb_frames::Request;
+
+/// Whether the request has the login of the door.
+fn is_let_in(request: &Request<'_>, door: Door, settings: &Settings) -> bool
+    ensures { result ≡ spec.is_let_in (rules_of settings.now) door (message request.now).lines }
+{
+    let token = match door {
+        Door::Platform => settings.platform_token(),
+        Door::Backend => settings.backend_token(),
+    };
+    match request.field(b"authorization") {
+        Some(value) => is_login(token.as_bytes(), value),
+        None => false,
+    }
+}
+
+/// Whether the request names a version that is spoken, where the door asks for one.
+fn has_version(request: &Request<'_>, door: Door) -> bool
+    ensures { result ≡ spec.has_version door (message request.now).lines }
+{
+    match door {
+        Door::Platform => match request.field(b"x-broker-api-version") {
+            Some(value) => is_version(value),
+            None => false,
+        },
+        Door::Backend => true,
+    }
+}
+
+/// The route that the request takes, or the first fault that keeps it out.
+pub(crate) fn admit<'a>(request: &Request<'a>, settings: &Settings) -> Result<Route<'a>, AskFault>
+    ensures { spec.Admits seen_route result (spec.admit_of (rules_of settings.now) (message request.now)) }
+{
+    let Some(entry) = entry_of(request.target) else {
+        return Err(AskFault::NoDoor);
+    };
+    if !is_let_in(request, entry.door, settings) {
+        return Err(AskFault::Auth);
+    }
+    if !has_version(request, entry.door) {
+        return Err(AskFault::Version);
+    }
+    let Some(method) = method_of(request.method) else {
+        return Err(AskFault::NoRoute);
+    };
+    let Some(place) = place_at(entry.door, entry.segments) else {
+        return Err(AskFault::NoRoute);
+    };
+    match route_at(method, place) {
+        Some(route) => Ok(route),
+        None => Err(AskFault::NoRoute),
+    }
+}

@@ -1,0 +1,24 @@
+//! The login of a door.
+
+ghost use Rattle.std.specs.Prelude.{◌≡◌};
+ghost use Rattle.osb_asks.specs.Credentials.{after_spaces, is_login};
+
+/// The bytes after the spaces at their front.
+fn after_spaces(mut bytes: &[u8]) -> &[u8]
+    ensures { result.now ≡ after_spaces bytes.now }
+{
+    while let [b' ', rest @ ..] = bytes {
+        bytes = rest;
+    }
+    bytes
+}
+
+/// Whether the value of an Authorization line is the Basic login with that token.
+pub(crate) fn is_login(token: &[u8], value: &[u8]) -> bool
+    ensures { result ≡ is_login token.now value.now }
+{
+    if value.len() < 6 {
+        return false;
+    }
+    value[..6].eq_ignore_ascii_case(b"basic ") && after_spaces(&value[6..]) == token
+}

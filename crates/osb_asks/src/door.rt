@@ -1,0 +1,48 @@
+//! The doors of the broker.
+
+ghost use Rattle.std.specs.Prelude.{◌≡◌, option_map};
+ghost use Rattle.osb_asks.specs.Doors as spec;
+ghost use Rattle.osb_asks.specs.Seen.{seen_entry};
+
+use crate::target::{Segments, path_of};
+
+/// Who a request comes from.
+#[derive(Clone, Copy, Debug, PartialEq, Eq)]
+pub(crate) enum Door {
+    Platform,
+    Backend,
+}
+
+/// A door, and the segments of the path behind it.
+#[derive(Clone, Copy, Debug)]
+pub(crate) struct Entry<'a> {
+    pub(crate) door: Door,
+    pub(crate) segments: Segments<'a>,
+}
+
+/// The door that the first segment of a path names.
+fn door_at(segment: &[u8]) -> Option<Door>
+    ensures { result ≡ spec.door_at segment.now }
+{
+    if segment == b"v2".as_slice() {
+        Some(Door::Platform)
+    } else if segment == b"backend".as_slice() {
+        Some(Door::Backend)
+    } else {
+        None
+    }
+}
+
+/// The door that a target leads to, and what is behind it.
+pub(crate) fn entry_of(target: &[u8]) -> Option<Entry<'_>>
+    ensures { option_map seen_entry result ≡ spec.entry_of target.now }
+{
+    let path = path_of(target);
+    if path.is_empty() || path[0] != b'/' {
+        return None;
+    }
+    let mut segments = Segments::of(&path[1..]);
+    let first = segments.take_next()?;
+    let door = door_at(first)?;
+    Some(Entry { door, segments })
+}

@@ -1,0 +1,71 @@
+//! The routes of the broker.
+
+ghost use Rattle.std.specs.Prelude.{◌≡◌, option_map};
+ghost use Rattle.osb_asks.specs.Routes as spec;
+ghost use Rattle.osb_asks.specs.Seen.{seen_place, seen_route};
+
+use crate::place::Place;
+
+/// A method that some route has.
+#[derive(Clone, Copy, Debug, PartialEq, Eq)]
+pub(crate) enum Method {
+    Get,
+    Put,
+    Patch,
+    Delete,
+}
+
+/// What a request asks, with the segments of its ids as they stand in the path.
+#[derive(Clone, Copy, Debug)]
+pub(crate) enum Route<'a> {
+    Catalog,
+    Provision(&'a [u8]),
+    Fetch(&'a [u8]),
+    Update(&'a [u8]),
+    Deprovision(&'a [u8]),
+    InstanceOp(&'a [u8]),
+    Bind(&'a [u8], &'a [u8]),
+    FetchBinding(&'a [u8], &'a [u8]),
+    Unbind(&'a [u8], &'a [u8]),
+    BindingOp(&'a [u8], &'a [u8]),
+    Orders,
+    Report(&'a [u8], &'a [u8]),
+}
+
+/// The method of the name.
+pub(crate) fn method_of(name: &[u8]) -> Option<Method>
+    ensures { result ≡ spec.method_of name.now }
+{
+    if name == b"GET".as_slice() {
+        Some(Method::Get)
+    } else if name == b"PUT".as_slice() {
+        Some(Method::Put)
+    } else if name == b"PATCH".as_slice() {
+        Some(Method::Patch)
+    } else if name == b"DELETE".as_slice() {
+        Some(Method::Delete)
+    } else {
+        None
+    }
+}
+
+/// The route of a method and a place.
+pub(crate) fn route_at(method: Method, place: Place<'_>) -> Option<Route<'_>>
+    ensures { option_map seen_route result ≡ spec.route_at method (seen_place place.entry) }
+{
+    match (method, place) {
+        (Method::Get, Place::Catalog) => Some(Route::Catalog),
+        (Method::Put, Place::Instance(id)) => Some(Route::Provision(id)),
+        (Method::Get, Place::Instance(id)) => Some(Route::Fetch(id)),
+        (Method::Patch, Place::Instance(id)) => Some(Route::Update(id)),
+        (Method::Delete, Place::Instance(id)) => Some(Route::Deprovision(id)),
+        (Method::Get, Place::InstanceOperation(id)) => Some(Route::InstanceOp(id)),
+        (Method::Put, Place::Binding(id, binding)) => Some(Route::Bind(id, binding)),
+        (Method::Get, Place::Binding(id, binding)) => Some(Route::FetchBinding(id, binding)),
+        (Method::Delete, Place::Binding(id, binding)) => Some(Route::Unbind(id, binding)),
+        (Method::Get, Place::BindingOperation(id, binding)) => Some(Route::BindingOp(id, binding)),
+        (Method::Get, Place::Orders) => Some(Route::Orders),
+        (Method::Put, Place::Order(id, number)) => Some(Route::Report(id, number)),
+        _ => None,
+    }
+}

@@ -1,0 +1,51 @@
+//! Ids and numbers in a path.
+
+ghost use Rattle.std.specs.Prelude.{◌≡◌};
+ghost use Rattle.osb_asks.specs.Ids as spec;
+ghost use Rattle.osb_asks.specs.Reads.{Reads};
+
+use crate::ask_fault::AskFault;
+use crate::id::Id;
+use osb_text::Text;
+use percent_encoding::{DecodeError, percent_decode};
+use std::alloc::Global;
+
+/// The text as an id, which it has to be, or the fault.
+pub(crate) fn id_or(fault: AskFault, text: Text) -> Result<Id, AskFault>
+    ensures { result ≡ spec.id_or fault text }
+{
+    match Id::new(text) {
+        Some(id) => Ok(id),
+        None => Err(fault),
+    }
+}
+
+/// The id that a segment of a path stands for, decoded once.
+#[tactic(auto, using(crate::proofs::SegmentLemmas::utf8_test, crate::proofs::SegmentLemmas::no_utf8))]
+pub(crate) fn read_id(alloc: Global, segment: &[u8]) -> Result<Id, AskFault>
+    ensures { Reads result (spec.id_of segment.now) }
+{
+    let text = match percent_decode(segment).decode_utf8(alloc) {
+        Ok(text) => text,
+        Err(DecodeError::Utf8(_)) => return Err(AskFault::Id),
+        Err(DecodeError::OutOfMemory) => return Err(AskFault::Memory),
+    };
+    id_or(AskFault::Id, Text::from(text.into_owned(alloc)?))
+}
+
+/// The number of an order, which isn't decoded.
+pub(crate) fn read_number(segment: &[u8]) -> Result<u32, AskFault>
+    ensures { result ≡ spec.number_of segment.now }
+{
+    if segment.is_empty() || segment.len() > 7 || segment[0] == b'0' {
+        return Err(AskFault::Id);
+    }
+    let mut number = 0;
+    for digit in segment {
+        if !digit.is_ascii_digit() {
+            return Err(AskFault::Id);
+        }
+        number = 10 * number + u32::from(*digit - b'0');
+    }
+    Ok(number)
+}

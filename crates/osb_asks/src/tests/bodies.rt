@@ -1,0 +1,417 @@
+use super::{Case, PLATFORM, filled, outcome, outcome_at_door, tells};
+use std::alloc::Global;
+use std::process::Abort;
+use std::test::Fail;
+
+/// A text of the body, what stands in its place, and what is told of the outcome.
+type Change = (&'static str, &'static str, &'static str);
+
+/// What is told of the request with the body in which `to` stands in the place of `from`.
+fn outcome_of_change(
+    alloc: Global,
+    line: &str,
+    body: &str,
+    from: &str,
+    to: &str,
+) -> Result<String, Fail> {
+    body.find(from).ok_or("a change finds nothing")?;
+    let body = body.replacen(alloc, from, to, 1)?;
+    outcome_at_door(alloc, line, body.as_str())
+}
+
+fn tells_changes(
+    rt: &(impl Abort + AllocGlobal),
+    line: &str,
+    body: &str,
+    changes: &[Change],
+) -> Result<(), Fail> {
+    for (from, to, expected) in changes {
+        let told = outcome_of_change(rt.alloc(), line, body, *from, *to)?;
+        let expected = filled(rt.alloc(), *expected)?;
+        assert!(rt; told.as_str() == expected.as_str(), "{line} {to}: {told}");
+    }
+    Ok(())
+}
+
+const PROVISION: &str = "PUT /v2/service_instances/i";
+
+const PROVISION_BODY: &str =
+    r#"{"service_id":"svc","plan_id":"p-sync","organization_guid":"o","space_guid":"s","context":{"c":1},"parameters":{"p":1},"maintenance_info":{"version":"1.2.0"}}"#;
+
+const UPDATE: &str = "PATCH /v2/service_instances/i";
+
+const UPDATE_BODY: &str =
+    r#"{"service_id":"svc","plan_id":"p-sync","context":{"c":1},"parameters":{"p":1},"maintenance_info":{"version":"1.2.0"},"previous_values":{}}"#;
+
+const BIND: &str = "PUT /v2/service_instances/i/service_bindings/b";
+
+const BIND_BODY: &str =
+    r#"{"service_id":"svc","plan_id":"p-sync","app_guid":"app","bind_resource":{"r":1},"context":{"c":1},"parameters":{"p":1}}"#;
+
+const REPORT: &str = "PUT /backend/v1/orders/i/1";
+
+const REPORT_BODY: &str = r#"{"state":"succeeded","description":"done","credentials":{"u":1}}"#;
+
+/// A request, its body, and one of the body's members.
+const REQUIRED_IDS: [Case; 7] = [
+    (PROVISION, PROVISION_BODY, r#""service_id":"svc""#),
+    (PROVISION, PROVISION_BODY, r#""plan_id":"p-sync""#),
+    (PROVISION, PROVISION_BODY, r#""organization_guid":"o""#),
+    (PROVISION, PROVISION_BODY, r#""space_guid":"s""#),
+    (UPDATE, UPDATE_BODY, r#""service_id":"svc""#),
+    (BIND, BIND_BODY, r#""service_id":"svc""#),
+    (BIND, BIND_BODY, r#""plan_id":"p-sync""#),
+];
+
+const IDS_IN_ANY_BODY: [Case; 2] = [
+    (UPDATE, UPDATE_BODY, r#""plan_id":"p-sync""#),
+    (BIND, BIND_BODY, r#""app_guid":"app""#),
+];
+
+const OBJECTS: [Case; 8] = [
+    (PROVISION, PROVISION_BODY, r#""context":{"c":1}"#),
+    (PROVISION, PROVISION_BODY, r#""parameters":{"p":1}"#),
+    (
+        PROVISION,
+        PROVISION_BODY,
+        r#""maintenance_info":{"version":"1.2.0"}"#,
+    ),
+    (UPDATE, UPDATE_BODY, r#""context":{"c":1}"#),
+    (UPDATE, UPDATE_BODY, r#""parameters":{"p":1}"#),
+    (
+        UPDATE,
+        UPDATE_BODY,
+        r#""maintenance_info":{"version":"1.2.0"}"#,
+    ),
+    (BIND, BIND_BODY, r#""bind_resource":{"r":1}"#),
+    (REPORT, REPORT_BODY, r#""credentials":{"u":1}"#),
+];
+
+/// Values that are no id text.
+const NO_IDS: [&str; 9] = [
+    "1",
+    "true",
+    "[]",
+    "{}",
+    r#""\u0000""#,
+    r#""a\u001fb""#,
+    r#""\u007f""#,
+    r#""\u009f""#,
+    r#""~aaaaaaa""#,
+];
+
+/// Values that are no object.
+const NO_OBJECTS: [&str; 6] = ["1", "true", "false", "[]", r#""{}""#, r#"[{}]"#];
+
+/// With each of the values under the member's name, the body isn't usable.
+fn refuses(rt: &(impl Abort + AllocGlobal), case: &Case, values: &[&str]) -> Result<(), Fail> {
+    let (line, body, member) = *case;
+    let colon = member.find(":").ok_or("no member")?;
+    let name = member.get(..colon).ok_or("no name")?;
+    for value in values {
+        let mut changed = String::from_str(rt.alloc(), name)?;
+        changed.push(':')?;
+        changed.push_str(*value)?;
+        let told = outcome_of_change(rt.alloc(), line, body, member, changed.as_str())?;
+        assert!(rt; told.as_str() == "Body", "{line} {changed}: {told}");
+    }
+    Ok(())
+}
+
+#[test]
+fn members_of_another_kind(rt: HostRuntime) -> Result<(), Fail> {
+    for case in REQUIRED_IDS {
+        refuses(&rt, &case, &NO_IDS)?;
+        // It may be neither empty nor null, nor be absent.
+        refuses(&rt, &case, &[r#""""#, "null", r#"null,"other":1"#])?;
+        tells_changes(&rt, case.0, case.1, &[(case.2, r#""other":1"#, "Body")])?;
+    }
+    for case in IDS_IN_ANY_BODY {
+        refuses(&rt, &case, &NO_IDS)?;
+    }
+    for case in OBJECTS {
+        refuses(&rt, &case, &NO_OBJECTS)?;
+    }
+    Ok(())
+}
+
+const OF_PROVISION: [Change; 18] = [
+    (
+        "svc",
+        "svc",
+        r#"Provision i svc p-sync o s {"c":1} {"p":1} 1.2.0 false"#,
+    ),
+    ("svc", "other", "NotInCatalog"),
+    ("svc", "~aaaaaa", "NotInCatalog"),
+    (
+        "p-sync",
+        "p-async",
+        r#"Provision i svc p-async o s {"c":1} {"p":1} 1.2.0 false"#,
+    ),
+    ("p-sync", "p-other", "NotInCatalog"),
+    (
+        r#""organization_guid":"o""#,
+        r#""organization_guid":"~aaaaaa""#,
+        r#"Provision i svc p-sync ~aaaaaa s {"c":1} {"p":1} 1.2.0 false"#,
+    ),
+    (
+        r#""space_guid":"s""#,
+        r#""space_guid":"~aaaaaa""#,
+        r#"Provision i svc p-sync o ~aaaaaa {"c":1} {"p":1} 1.2.0 false"#,
+    ),
+    (
+        r#""context":{"c":1},"#,
+        "",
+        r#"Provision i svc p-sync o s {} {"p":1} 1.2.0 false"#,
+    ),
+    (
+        r#"{"c":1}"#,
+        "null",
+        r#"Provision i svc p-sync o s {} {"p":1} 1.2.0 false"#,
+    ),
+    (
+        r#""parameters":{"p":1},"#,
+        "",
+        r#"Provision i svc p-sync o s {"c":1} {} 1.2.0 false"#,
+    ),
+    (
+        r#"{"p":1}"#,
+        "null",
+        r#"Provision i svc p-sync o s {"c":1} {} 1.2.0 false"#,
+    ),
+    (
+        r#"{"p":1}"#,
+        r#"{ "b" : [ 1, null ], "a" : "\u00e4" }"#,
+        "Provision i svc p-sync o s {\"c\":1} {\"a\":\"\u{E4}\",\"b\":[1,null]} 1.2.0 false",
+    ),
+    (
+        r#","maintenance_info":{"version":"1.2.0"}"#,
+        "",
+        r#"Provision i svc p-sync o s {"c":1} {"p":1} - false"#,
+    ),
+    (
+        r#"{"version":"1.2.0"}"#,
+        "null",
+        r#"Provision i svc p-sync o s {"c":1} {"p":1} - false"#,
+    ),
+    (
+        r#""1.2.0""#,
+        r#""""#,
+        r#"Provision i svc p-sync o s {"c":1} {"p":1}  false"#,
+    ),
+    (
+        r#""1.2.0""#,
+        r#""any\u0000","description":1"#,
+        "Provision i svc p-sync o s {\"c\":1} {\"p\":1} any\u{0} false",
+    ),
+    (r#""1.2.0""#, "null", "Body"),
+    (r#""version":"1.2.0""#, r#""description":"d""#, "Body"),
+];
+
+const OF_UPDATE: [Change; 12] = [
+    (
+        "svc",
+        "svc",
+        r#"Update i svc p-sync {"c":1} {"p":1} 1.2.0 false"#,
+    ),
+    ("svc", "other", "NotInCatalog"),
+    ("svc", "no", "NotInCatalog"),
+    (
+        r#""plan_id":"p-sync","#,
+        "",
+        r#"Update i svc - {"c":1} {"p":1} 1.2.0 false"#,
+    ),
+    (
+        r#""p-sync""#,
+        "null",
+        r#"Update i svc - {"c":1} {"p":1} 1.2.0 false"#,
+    ),
+    (r#""p-sync""#, r#""""#, "Body"),
+    ("p-sync", "p-other", "NotInCatalog"),
+    (
+        r#""context":{"c":1},"#,
+        "",
+        r#"Update i svc p-sync - {"p":1} 1.2.0 false"#,
+    ),
+    (
+        r#"{"p":1}"#,
+        "null",
+        r#"Update i svc p-sync {"c":1} - 1.2.0 false"#,
+    ),
+    (
+        r#""previous_values":{}"#,
+        r#""previous_values":["x"]"#,
+        r#"Update i svc p-sync {"c":1} {"p":1} 1.2.0 false"#,
+    ),
+    (
+        r#""previous_values":{}"#,
+        r#""previous_values":1.5"#,
+        "Body",
+    ),
+    (r#"{"version":"1.2.0"}"#, "{}", "Body"),
+];
+
+const OF_BIND: [Change; 11] = [
+    (
+        "svc",
+        "svc",
+        r#"Bind i b svc p-sync app {"r":1} {"c":1} {"p":1} false"#,
+    ),
+    ("svc", "other", "NotInCatalog"),
+    ("p-sync", "p-other", "NotInCatalog"),
+    (
+        r#""app_guid":"app","#,
+        "",
+        r#"Bind i b svc p-sync - {"r":1} {"c":1} {"p":1} false"#,
+    ),
+    (
+        r#""app""#,
+        "null",
+        r#"Bind i b svc p-sync - {"r":1} {"c":1} {"p":1} false"#,
+    ),
+    (
+        r#""app""#,
+        r#""""#,
+        r#"Bind i b svc p-sync - {"r":1} {"c":1} {"p":1} false"#,
+    ),
+    (
+        r#""app""#,
+        r#""~aaaaaa""#,
+        r#"Bind i b svc p-sync ~aaaaaa {"r":1} {"c":1} {"p":1} false"#,
+    ),
+    (
+        r#""bind_resource":{"r":1},"#,
+        "",
+        r#"Bind i b svc p-sync app {} {"c":1} {"p":1} false"#,
+    ),
+    (
+        r#"{"r":1}"#,
+        "null",
+        r#"Bind i b svc p-sync app {} {"c":1} {"p":1} false"#,
+    ),
+    (
+        r#""context":{"c":1},"parameters":{"p":1}"#,
+        r#""maintenance_info":1"#,
+        r#"Bind i b svc p-sync app {"r":1} {} {} false"#,
+    ),
+    (r#"{"p":1}"#, "[]", "Body"),
+];
+
+const OF_REPORT: [Change; 19] = [
+    ("done", "done", r#"Report i 1 succeeded done {"u":1}"#),
+    ("succeeded", "failed", r#"Report i 1 failed done {"u":1}"#),
+    ("succeeded", "in progress", "Body"),
+    ("succeeded", "Failed", "Body"),
+    ("succeeded", "", "Body"),
+    (r#""succeeded""#, "null", "Body"),
+    (r#""succeeded""#, "true", "Body"),
+    (r#""state":"succeeded","#, "", "Body"),
+    (
+        r#""description":"done","#,
+        "",
+        r#"Report i 1 succeeded  {"u":1}"#,
+    ),
+    (r#""done""#, "null", r#"Report i 1 succeeded  {"u":1}"#),
+    ("done", "", r#"Report i 1 succeeded  {"u":1}"#),
+    ("done", "~~~~", r#"Report i 1 succeeded ~~~~ {"u":1}"#),
+    ("done", "~~~~a", "Body"),
+    ("done", r"a\nb", "Body"),
+    ("done", r"\u0085", "Body"),
+    (r#""done""#, "1", "Body"),
+    (
+        r#","credentials":{"u":1}"#,
+        "",
+        "Report i 1 succeeded done {}",
+    ),
+    (r#"{"u":1}"#, "null", "Report i 1 succeeded done {}"),
+    (
+        r#"{"u":1}"#,
+        r#"{"b":1,"a":{}}"#,
+        r#"Report i 1 succeeded done {"a":{},"b":1}"#,
+    ),
+];
+
+#[test]
+fn members(rt: HostRuntime) -> Result<(), Fail> {
+    tells_changes(&rt, PROVISION, PROVISION_BODY, &OF_PROVISION)?;
+    tells_changes(&rt, UPDATE, UPDATE_BODY, &OF_UPDATE)?;
+    tells_changes(&rt, BIND, BIND_BODY, &OF_BIND)?;
+    tells_changes(&rt, REPORT, REPORT_BODY, &OF_REPORT)
+}
+
+const NUMBERS: [Change; 15] = [
+    ("1}", "0}", r#"Report i 1 succeeded done {"u":0}"#),
+    (
+        "1}",
+        "18446744073709551615}",
+        r#"Report i 1 succeeded done {"u":18446744073709551615}"#,
+    ),
+    ("1}", "18446744073709551616}", "Body"),
+    ("1}", "-1}", r#"Report i 1 succeeded done {"u":-1}"#),
+    (
+        "1}",
+        "-9223372036854775808}",
+        r#"Report i 1 succeeded done {"u":-9223372036854775808}"#,
+    ),
+    ("1}", "-9223372036854775809}", "Body"),
+    ("1}", "-0}", "Body"),
+    ("1}", "1.5}", "Body"),
+    ("1}", "1.0}", "Body"),
+    ("1}", "1e2}", "Body"),
+    ("1}", "1e999}", "Body"),
+    ("1}", "[{\"x\":1.5}]}", "Body"),
+    ("1}", "1.5,\"u\":1}", r#"Report i 1 succeeded done {"u":1}"#),
+    ("1}", "1,\"u\":2}", r#"Report i 1 succeeded done {"u":2}"#),
+    (r#"{"state""#, r#"{"other":0.5,"state""#, "Body"),
+];
+
+#[test]
+fn numbers(rt: HostRuntime) -> Result<(), Fail> {
+    tells_changes(&rt, REPORT, REPORT_BODY, &NUMBERS)
+}
+
+const NO_OBJECT_BODIES: [Case; 9] = [
+    (UPDATE, "", "Body"),
+    (UPDATE, "{", "Body"),
+    (UPDATE, "null", "Body"),
+    (UPDATE, r#"[{"service_id":"svc"}]"#, "Body"),
+    (UPDATE, r#"{"service_id":"svc"} x"#, "Body"),
+    (
+        UPDATE,
+        r#" { "service_id" : "svc" } "#,
+        "Update i svc - - - - false",
+    ),
+    (PROVISION, "[]", "Body"),
+    (BIND, "[]", "Body"),
+    (REPORT, "[]", "Body"),
+];
+
+#[test]
+fn bodies_that_are_no_objects(rt: HostRuntime) -> Result<(), Fail> {
+    tells(&rt, &NO_OBJECT_BODIES)?;
+    let told = outcome(
+        rt.alloc(),
+        UPDATE,
+        PLATFORM,
+        b"{\"service_id\":\"svc\",\"x\":\"\xFF\"}",
+    )?;
+    assert!(rt; told.as_str() == "Body");
+    Ok(())
+}
+
+/// What is told of an update whose parameters have so many lists in one another.
+fn outcome_of_lists(alloc: Global, lists: usize) -> Result<String, Fail> {
+    let mut body = String::from_str(alloc, r#"{"service_id":"svc","parameters":{"x":"#)?;
+    body.push_str("[".repeat(alloc, lists)?.as_str())?;
+    body.push_str("]".repeat(alloc, lists)?.as_str())?;
+    body.push_str("}}")?;
+    outcome(alloc, UPDATE, PLATFORM, body.as_bytes())
+}
+
+#[test]
+fn nesting(rt: HostRuntime) -> Result<(), Fail> {
+    // The body and its parameters are two of the 127 levels.
+    assert!(rt; outcome_of_lists(rt.alloc(), 125)?.as_str() != "Body");
+    assert!(rt; outcome_of_lists(rt.alloc(), 126)?.as_str() == "Body");
+    Ok(())
+}

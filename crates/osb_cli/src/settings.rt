@@ -1,0 +1,32 @@
+//! The settings that a command is given.
+
+use crate::fault::Fault;
+use crate::input::read_file;
+use osb_catalog::{BUILT_IN, Settings, SettingsFault};
+use std::alloc::Global;
+
+/// Reads settings from their text.
+fn settings_of(alloc: Global, text: &[u8]) -> Result<Settings, Fault<'static>> {
+    match Settings::read(alloc, text) {
+        Ok(settings) => Ok(settings),
+        Err(SettingsFault::Memory) => Err(Fault::OutOfMemory),
+        Err(fault) => Err(Fault::Settings(fault)),
+    }
+}
+
+/// Reads the settings of a file.
+pub(crate) fn read_settings<'a>(rt: &HostRuntime, file: &'a str) -> Result<Settings, Fault<'a>> {
+    let text = read_file(rt, file)?;
+    settings_of(rt.alloc(), text.as_slice())
+}
+
+/// Reads the settings of a file, or the built-in ones where none is named.
+pub(crate) fn settings_or_built_in<'a>(
+    rt: &HostRuntime,
+    file: Option<&'a str>,
+) -> Result<Settings, Fault<'a>> {
+    match file {
+        Some(file) => read_settings(rt, file),
+        None => settings_of(rt.alloc(), BUILT_IN.as_bytes()),
+    }
+}

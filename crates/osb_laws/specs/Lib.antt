@@ -1,0 +1,3 @@
+pub mod Exclusive
+pub mod AskedAgain
+pub mod Apart

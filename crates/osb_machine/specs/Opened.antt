@@ -1,0 +1,69 @@
+-- How an order is opened, which answers say that an order goes on, and when another has to wait (OSB API 2.17,
+-- "Asynchronous Operations" and "Blocking Operations"; the limit of orders is this project's own).
+use Rattle.std.specs.Prelude.{ℕ, ◌+◌, Bool, false, not, ◌&&◌, nat_le, List, [], bytes_eq, Option, None, Some, if◌then◌else◌}
+use Rattle.std.specs.Option.{option_map_or}
+use Rattle.osb_catalog.specs.Rules.{Rules}
+use Rattle.osb_replies.specs.declared.status.Status.{Status}
+use Rattle.osb_replies.specs.declared.status.Status.TheVariants as status
+use Rattle.osb_replies.specs.declared.fixed_error.FixedError.TheVariants.{AsyncRequired, Full}
+use Rattle.osb_orders.specs.declared.order.OrderKind.{OrderKind}
+use Rattle.osb_orders.specs.declared.order.OrderState.TheVariants.{Running, Succeeded}
+use Rattle.osb_orders.specs.declared.order.Attributes.{Attributes}
+use Rattle.osb_orders.specs.declared.order.Outcome.{Outcome}
+use Rattle.osb_orders.specs.declared.order.Order.{Order}
+use Rattle.osb_orders.specs.declared.order.Change.TheVariants.{Append}
+use Rattle.osb_orders.specs.Orders.{is_now}
+use Rattle.osb_orders.specs.Facts.{Facts}
+use Rattle.osb_machine.specs.Reaction.{Reaction, says, refuses, not_found, empty_object}
+use Rattle.osb_machine.specs.Texts.{operation_body}
+
+-- What an order is opened with: whether its plan's mode is asynchronous and whether the request accepts that, what the
+-- order is, and what it ends with and is answered where it is carried out at once.
+pub record Opening : Type 0 where
+  pub asynchronous : Bool
+  pub accepts_incomplete : Bool
+  pub kind : OrderKind
+  pub binding : List ℕ
+  pub attributes : Attributes
+  pub credentials : List ℕ
+  pub status : Status
+  pub body : List ℕ
+
+abbrev pub running : Outcome
+running = record { state = Running; description = []; credentials = empty_object }
+
+abbrev pub succeeded_with : List ℕ → Outcome
+succeeded_with credentials = record { state = Succeeded; description = []; credentials = credentials }
+
+-- the order after so many others
+abbrev pub next_order : ℕ → Opening → Outcome → Order
+next_order count opening outcome = record { number = count + 1; kind = opening.kind; binding = opening.binding; attributes = opening.attributes; outcome = outcome }
+
+abbrev pub appends : Status → List ℕ → Order → Reaction
+appends status body order = record { status = status; body = body; change = Append order }
+
+-- 202 of the new order
+abbrev pub begins : Order → Reaction
+begins order = appends status.Accepted (operation_body order) order
+
+-- 'Open': an asynchronous mode has to be accepted; the life must have room; then the order runs, or is carried out at once.
+abbrev pub opened : Rules → Facts → Opening → Reaction
+opened rules facts opening =
+    if opening.asynchronous && not opening.accepts_incomplete then refuses AsyncRequired else (
+    if nat_le rules.order_limit facts.count then refuses Full else (
+    if opening.asynchronous then begins (next_order facts.count opening running)
+    else appends opening.status opening.body (next_order facts.count opening (succeeded_with opening.credentials))))
+
+-- '202 of it': the order that runs, where the request accepts that
+abbrev pub accepted : Bool → Option Order → Reaction
+accepted accepts_incomplete None = not_found
+accepted accepts_incomplete (Some order) = if accepts_incomplete then says status.Accepted (operation_body order) else refuses AsyncRequired
+
+-- 'Busy': the last order runs
+abbrev pub is_busy : Facts → Bool
+is_busy facts = option_map_or (is_now Running) facts.last false
+
+-- a maintenance version is given, and isn't that of the catalog (OSB API 2.17, "Maintenance Info")
+abbrev pub is_unlike : Option (List ℕ) → List ℕ → Bool
+is_unlike None version = false
+is_unlike (Some given) version = not (bytes_eq given version)

@@ -1,0 +1,36 @@
+-- How an operation stands (OSB API 2.17, "Polling Last Operation for Service Instances" and "for Service Bindings"; that an
+-- operation which isn't one of the resource's is refused is this project's own).
+use Rattle.std.specs.Prelude.{ℕ, Bool, ◌&&◌, List, Option, None, Some, if◌then◌else◌}
+use Rattle.osb_replies.specs.declared.status.Status.TheVariants as status
+use Rattle.osb_replies.specs.declared.fixed_error.FixedError.TheVariants.{Operation}
+use Rattle.osb_orders.specs.declared.order.OrderKind.{OrderKind}
+use Rattle.osb_orders.specs.declared.order.OrderState.TheVariants.{Succeeded}
+use Rattle.osb_orders.specs.declared.order.Order.{Order}
+use Rattle.osb_orders.specs.Orders.{is_a, is_now}
+use Rattle.osb_orders.specs.Facts.{Facts}
+use Rattle.osb_machine.specs.Reaction.{Reaction, says, refuses, not_found, gone}
+use Rattle.osb_machine.specs.Texts.{state_body}
+
+-- a removal that succeeded is told by 410
+abbrev pub told : Bool → Order → Reaction
+told is_removal order = if is_removal && is_now Succeeded order then gone else says status.Ok (state_body order.outcome)
+
+abbrev pub polled : OrderKind → Order → Reaction
+polled removal order = told (is_a removal order) order
+
+abbrev pub polled_named : OrderKind → Option Order → Reaction
+polled_named removal None = refuses Operation
+polled_named removal (Some order) = polled removal order
+
+-- the operation that is asked for, otherwise the last
+abbrev pub polled_by : OrderKind → Option (List ℕ) → Option Order → Order → Reaction
+polled_by removal None named last = polled removal last
+polled_by removal (Some operation) named last = polled_named removal named
+
+-- by the last of the orders that the poll is about
+abbrev pub poll_at : OrderKind → Option (List ℕ) → Option Order → Option Order → Reaction
+poll_at removal operation named None = not_found
+poll_at removal operation named (Some last) = polled_by removal operation named last
+
+abbrev pub poll : OrderKind → Option (List ℕ) → Facts → Reaction
+poll removal operation facts = poll_at removal operation facts.named facts.subject_last

@@ -1,0 +1,21 @@
+-- What a step tells, wherever the bytes of its body lie.
+use Rattle.osb_replies.specs.Body.{body_bytes}
+use Rattle.osb_machine.specs.declared.step.Step.{Step}
+use Rattle.osb_machine.specs.declared.opening.Opening as declared
+use Rattle.osb_machine.specs.Reaction.{Reaction}
+use Rattle.osb_machine.specs.Opened.{Opening}
+
+abbrev pub reaction : Step → Reaction
+reaction step = record { status = step.answer.status; body = body_bytes step.answer.body; change = step.change }
+
+abbrev pub opening_of : declared.Opening → Opening
+opening_of opening = record {
+  asynchronous = opening.asynchronous;
+  accepts_incomplete = opening.accepts_incomplete;
+  kind = opening.kind;
+  binding = opening.binding;
+  attributes = opening.attributes;
+  credentials = opening.credentials;
+  status = opening.answer.status;
+  body = body_bytes opening.answer.body;
+}

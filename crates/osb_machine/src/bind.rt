@@ -1,0 +1,148 @@
+//! A new binding.
+
+ghost use Rattle.std.specs.Prelude.{◌≡◌, IfOk};
+ghost use Rattle.osb_catalog.specs.Rules.{rules_of};
+ghost use Rattle.osb_orders.specs.Facts.{facts};
+ghost use Rattle.osb_machine.specs.Opened.{opened};
+ghost use Rattle.osb_machine.specs.Bind.{bound_attributes, bind_opening, is_of_plan, bind_new, bind_over, bind};
+ghost use Rattle.osb_machine.specs.Steps.{reaction, opening_of};
+
+use crate::opening::{Opening, accepted, is_busy, open};
+use crate::plans::{bindings_run, is_bindable, plan_credentials};
+use crate::same::{app_guid_of, is_same_binding};
+use crate::step::{Answer, Step};
+use crate::texts;
+use osb_asks::Bind;
+use osb_catalog::Settings;
+use osb_orders::{Attributes, BindingNow, BindingPhase, InstancePhase, OrderKind, View};
+use osb_replies::{Body, FixedError, Status};
+use osb_text::Text;
+use std::alloc::{AllocError, Global};
+
+pub(crate) fn bind<'a>(
+    alloc: Global,
+    settings: &Settings,
+    view: &View,
+    ask: &Bind,
+) -> Result<Step<'a>, AllocError>
+    ensures { IfOk result (λ step. reaction step ≡ bind (rules_of settings.now) (facts view.now) ask.now) }
+{
+    let Some(instance) = &view.standing else {
+        return Ok(Step::of_status(Status::NotFound));
+    };
+    match instance.phase {
+        InstancePhase::Failed => return Ok(Step::of_status(Status::NotFound)),
+        InstancePhase::Creating => return Ok(Step::refuses(FixedError::ConcurrencyError)),
+        InstancePhase::Ready | InstancePhase::Updating | InstancePhase::Deleting => {}
+    }
+    match &view.binding {
+        Some(binding) => {
+            let same = is_same_binding(ask, &binding.attributes);
+            bind_over(alloc, view, binding, ask, same)
+        }
+        None => bind_new(alloc, settings, view, &instance.attributes, ask),
+    }
+}
+
+/// By the phase of the binding, and whether it is the same.
+fn bind_over<'a>(
+    alloc: Global,
+    view: &View,
+    binding: &BindingNow,
+    ask: &Bind,
+    same: bool,
+) -> Result<Step<'a>, AllocError>
+    ensures { IfOk result (λ step. reaction step ≡ bind_over binding.now.phase same binding.now (facts view.now) ask.now) }
+{
+    match binding.phase {
+        BindingPhase::Bound if same => {
+            let text = texts::credentials(alloc, binding.credentials.as_str())?;
+            Ok(Step::says(Status::Ok, text))
+        }
+        BindingPhase::Binding if same => accepted(alloc, ask.accepts_incomplete, &view.last),
+        BindingPhase::Unbinding => Ok(Step::refuses(FixedError::ConcurrencyError)),
+        BindingPhase::Bound | BindingPhase::Binding | BindingPhase::Failed => {
+            Ok(Step::of_status(Status::Conflict))
+        }
+    }
+}
+
+fn bind_new<'a>(
+    alloc: Global,
+    settings: &Settings,
+    view: &View,
+    instance: &Attributes,
+    ask: &Bind,
+) -> Result<Step<'a>, AllocError>
+    ensures { IfOk result (λ step. reaction step ≡ bind_new (rules_of settings.now) (facts view.now) instance.now ask.now) }
+{
+    if is_busy(view) {
+        return Ok(Step::refuses(FixedError::ConcurrencyError));
+    }
+    if !is_of_plan(ask, instance) {
+        return Ok(Step::refuses(FixedError::Mismatch));
+    }
+    if !is_bindable(settings, instance.service.as_str(), instance.plan.as_str()) {
+        return Ok(Step::refuses(FixedError::NotBindable));
+    }
+    begin(alloc, settings, view, instance, ask)
+}
+
+/// Whether the service and the plan are those of the instance.
+fn is_of_plan(ask: &Bind, instance: &Attributes) -> bool
+    ensures { result ≡ is_of_plan ask.now instance.now }
+{
+    ask.service.as_str() == instance.service.as_str() && ask.plan.as_str() == instance.plan.as_str()
+}
+
+/// Opens the order that binds.
+fn begin<'a>(
+    alloc: Global,
+    settings: &Settings,
+    view: &View,
+    instance: &Attributes,
+    ask: &Bind,
+) -> Result<Step<'a>, AllocError>
+    ensures { IfOk result (λ step. reaction step ≡ opened (rules_of settings.now) (facts view.now) (bind_opening (rules_of settings.now) instance.now ask.now)) }
+{
+    let opening = bind_opening(alloc, settings, instance, ask)?;
+    open(alloc, settings, view, opening)
+}
+
+fn bind_opening<'a>(
+    alloc: Global,
+    settings: &Settings,
+    instance: &Attributes,
+    ask: &Bind,
+) -> Result<Opening<'a>, AllocError>
+    ensures { IfOk result (λ opening. opening_of opening ≡ bind_opening (rules_of settings.now) instance.now ask.now) }
+{
+    let attributes = bound_attributes(alloc, ask)?;
+    let credentials = plan_credentials(settings, instance.plan.as_str());
+    let text = texts::credentials(alloc, credentials)?;
+    Ok(Opening {
+        asynchronous: bindings_run(settings, instance.plan.as_str()),
+        accepts_incomplete: ask.accepts_incomplete,
+        kind: OrderKind::Bind,
+        binding: Text::from_str(alloc, ask.binding.as_str())?,
+        attributes,
+        credentials: Text::from_str(alloc, credentials)?,
+        answer: Answer {
+            status: Status::Created,
+            body: Body::from(text),
+        },
+    })
+}
+
+fn bound_attributes(alloc: Global, ask: &Bind) -> Result<Attributes, AllocError>
+    ensures { IfOk result (λ attributes. attributes ≡ bound_attributes ask.now) }
+{
+    Ok(Attributes {
+        service: Text::from_str(alloc, ask.service.as_str())?,
+        plan: Text::from_str(alloc, ask.plan.as_str())?,
+        place: Text::from_str(alloc, app_guid_of(ask))?,
+        spot: Text::from_str(alloc, ask.bind_resource.as_str())?,
+        parameters: Text::from_str(alloc, ask.parameters.as_str())?,
+        maintenance: Text::new(alloc),
+    })
+}

@@ -1,0 +1,77 @@
+//! The end of an instance.
+
+ghost use Rattle.std.specs.Prelude.{◌≡◌, IfOk};
+ghost use Rattle.osb_catalog.specs.Rules.{rules_of};
+ghost use Rattle.osb_orders.specs.Facts.{facts};
+ghost use Rattle.osb_machine.specs.Opened.{opened};
+ghost use Rattle.osb_machine.specs.Deprovision.{deletion, deprovision};
+ghost use Rattle.osb_machine.specs.Steps.{reaction, opening_of};
+
+use crate::opening::{Opening, accepted, is_busy, open};
+use crate::plans::instances_run;
+use crate::step::{Answer, Step};
+use osb_asks::Deprovision;
+use osb_catalog::Settings;
+use osb_orders::{Attributes, InstancePhase, OrderKind, View};
+use osb_replies::{Body, FixedError, Status};
+use osb_text::Text;
+use std::alloc::{AllocError, Global};
+
+pub(crate) fn deprovision<'a>(
+    alloc: Global,
+    settings: &Settings,
+    view: &View,
+    ask: &Deprovision,
+) -> Result<Step<'a>, AllocError>
+    ensures { IfOk result (λ step. reaction step ≡ deprovision (rules_of settings.now) (facts view.now) ask.now) }
+{
+    let Some(instance) = &view.standing else {
+        return Ok(Step::of_status(Status::Gone));
+    };
+    if let InstancePhase::Deleting = instance.phase {
+        return accepted(alloc, ask.accepts_incomplete, &view.last);
+    }
+    if is_busy(view) {
+        return Ok(Step::refuses(FixedError::ConcurrencyError));
+    }
+    if view.bound {
+        return Ok(Step::refuses(FixedError::BindingsRemain));
+    }
+    delete(alloc, settings, view, &instance.attributes, ask)
+}
+
+/// Opens the order that deletes the instance.
+fn delete<'a>(
+    alloc: Global,
+    settings: &Settings,
+    view: &View,
+    instance: &Attributes,
+    ask: &Deprovision,
+) -> Result<Step<'a>, AllocError>
+    ensures { IfOk result (λ step. reaction step ≡ opened (rules_of settings.now) (facts view.now) (deletion (rules_of settings.now) instance.now ask.now)) }
+{
+    let opening = deletion(alloc, settings, instance, ask)?;
+    open(alloc, settings, view, opening)
+}
+
+fn deletion<'a>(
+    alloc: Global,
+    settings: &Settings,
+    instance: &Attributes,
+    ask: &Deprovision,
+) -> Result<Opening<'a>, AllocError>
+    ensures { IfOk result (λ opening. opening_of opening ≡ deletion (rules_of settings.now) instance.now ask.now) }
+{
+    Ok(Opening {
+        asynchronous: instances_run(settings, instance.plan.as_str()),
+        accepts_incomplete: ask.accepts_incomplete,
+        kind: OrderKind::Delete,
+        binding: Text::new(alloc),
+        attributes: instance.clone()?,
+        credentials: Text::from_str(alloc, "{}")?,
+        answer: Answer {
+            status: Status::Ok,
+            body: Body::EMPTY_OBJECT,
+        },
+    })
+}

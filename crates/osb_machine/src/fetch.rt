@@ -1,0 +1,29 @@
+//! What an instance is.
+
+ghost use Rattle.std.specs.Prelude.{◌≡◌, IfOk};
+ghost use Rattle.osb_machine.specs.Fetch.{fetch};
+ghost use Rattle.osb_machine.specs.Steps.{reaction};
+
+use crate::step::Step;
+use crate::texts;
+use osb_orders::{InstancePhase, Standing};
+use osb_replies::{FixedError, Status};
+use std::alloc::{AllocError, Global};
+
+pub(crate) fn fetch<'a>(alloc: Global, standing: &Option<Standing>) -> Result<Step<'a>, AllocError>
+    ensures { IfOk result (λ step. reaction step ≡ fetch standing.now) }
+{
+    let Some(instance) = standing else {
+        return Ok(Step::of_status(Status::NotFound));
+    };
+    match instance.phase {
+        InstancePhase::Creating | InstancePhase::Failed => Ok(Step::of_status(Status::NotFound)),
+        InstancePhase::Updating | InstancePhase::Deleting => {
+            Ok(Step::refuses(FixedError::ConcurrencyError))
+        }
+        InstancePhase::Ready => {
+            let text = texts::instance(alloc, &instance.attributes)?;
+            Ok(Step::says(Status::Ok, text))
+        }
+    }
+}

@@ -1,0 +1,137 @@
+ghost use Rattle.std.specs.Prelude.{◌≡◌, IfOk};
+ghost use Rattle.osb_catalog.specs.Rules.{rules_of};
+ghost use Rattle.osb_orders.specs.Facts.{facts};
+ghost use Rattle.osb_machine.specs.Opened.{opened, begins, next_order, accepted, is_busy, is_unlike, running, succeeded_with};
+ghost use Rattle.osb_machine.specs.Steps.{reaction, opening_of};
+
+use crate::step::{Answer, Step};
+use crate::texts;
+use osb_catalog::Settings;
+use osb_orders::{Attributes, Change, Order, OrderKind, OrderState, Outcome, View};
+use osb_replies::{FixedError, Status};
+use osb_text::Text;
+use std::alloc::{AllocError, Global};
+
+/// What an order is opened with.
+#[derive(Drop)]
+pub(crate) struct Opening<'a> {
+    /// Whether the plan's mode has it run until it is reported.
+    pub(crate) asynchronous: bool,
+    pub(crate) accepts_incomplete: bool,
+    pub(crate) kind: OrderKind,
+    pub(crate) binding: Text,
+    pub(crate) attributes: Attributes,
+    /// What it ends with, where it is carried out at once.
+    pub(crate) credentials: Text,
+    /// What is answered then.
+    pub(crate) answer: Answer<'a>,
+}
+
+/// Opens an order, where the request accepts it and the instance has room for one more.
+pub(crate) fn open<'a>(
+    alloc: Global,
+    settings: &Settings,
+    view: &View,
+    opening: Opening<'a>,
+) -> Result<Step<'a>, AllocError>
+    ensures { IfOk result (λ step. reaction step ≡ opened (rules_of settings.now) (facts view.now) (opening_of opening.entry)) }
+{
+    if opening.asynchronous && !opening.accepts_incomplete {
+        return Ok(Step::refuses(FixedError::AsyncRequired));
+    }
+    if settings.order_limit() <= view.count {
+        return Ok(Step::refuses(FixedError::Full));
+    }
+    let number = view.count + 1;
+    if opening.asynchronous {
+        let order = Order {
+            number,
+            kind: opening.kind,
+            binding: opening.binding,
+            attributes: opening.attributes,
+            outcome: running(alloc)?,
+        };
+        return begin(alloc, order);
+    }
+    let order = Order {
+        number,
+        kind: opening.kind,
+        binding: opening.binding,
+        attributes: opening.attributes,
+        outcome: succeeded_with(alloc, opening.credentials),
+    };
+    Ok(Step {
+        answer: opening.answer,
+        change: Change::Append(order),
+    })
+}
+
+/// Says which order begins.
+fn begin<'a>(alloc: Global, order: Order) -> Result<Step<'a>, AllocError>
+    ensures { IfOk result (λ step. reaction step ≡ begins order) }
+{
+    let text = texts::operation(alloc, &order)?;
+    let Step { answer, .. } = Step::says(Status::Accepted, text);
+    Ok(Step {
+        answer,
+        change: Change::Append(order),
+    })
+}
+
+fn running(alloc: Global) -> Result<Outcome, AllocError>
+    ensures { IfOk result (λ outcome. outcome ≡ running) }
+{
+    Ok(Outcome {
+        state: OrderState::Running,
+        description: Text::new(alloc),
+        credentials: Text::from_str(alloc, "{}")?,
+    })
+}
+
+fn succeeded_with(alloc: Global, credentials: Text) -> Outcome
+    ensures { result ≡ succeeded_with credentials }
+{
+    Outcome {
+        state: OrderState::Succeeded,
+        description: Text::new(alloc),
+        credentials,
+    }
+}
+
+/// Says which order goes on, where the request accepts that.
+pub(crate) fn accepted<'a>(
+    alloc: Global,
+    accepts_incomplete: bool,
+    last: &Option<Order>,
+) -> Result<Step<'a>, AllocError>
+    ensures { IfOk result (λ step. reaction step ≡ accepted accepts_incomplete last.now) }
+{
+    let Some(order) = last else {
+        return Ok(Step::of_status(Status::NotFound));
+    };
+    if !accepts_incomplete {
+        return Ok(Step::refuses(FixedError::AsyncRequired));
+    }
+    let text = texts::operation(alloc, order)?;
+    Ok(Step::says(Status::Accepted, text))
+}
+
+/// Whether the last order runs.
+pub(crate) fn is_busy(view: &View) -> bool
+    ensures { result ≡ is_busy (facts view.now) }
+{
+    match &view.last {
+        Some(order) => matches!(order.outcome.state, OrderState::Running),
+        None => false,
+    }
+}
+
+/// Whether a maintenance version is given that isn't the catalog's.
+pub(crate) fn is_unlike(given: &Option<Text>, version: &str) -> bool
+    ensures { result ≡ is_unlike given.now version.now }
+{
+    match given {
+        Some(given) => given.as_str() != version,
+        None => false,
+    }
+}

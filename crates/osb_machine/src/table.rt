@@ -1,0 +1,84 @@
+ghost use Rattle.std.specs.Prelude.{◌≡◌, ◌≢◌, IfOk, OnErr};
+ghost use Rattle.osb_asks.specs.declared.ask.Ask.TheVariants.{Catalog};
+ghost use Rattle.osb_catalog.specs.Rules.{rules_of};
+ghost use Rattle.osb_orders.specs.Facts.{facts, view_of};
+ghost use Rattle.osb_orders.specs.Lives.{Lives};
+ghost use Rattle.osb_machine.specs.Answer.{catalog, answer};
+ghost use Rattle.osb_machine.specs.Machine.{answer_to};
+ghost use Rattle.osb_machine.specs.Steps.{reaction};
+
+use crate::bind::bind;
+use crate::deprovision::deprovision;
+use crate::fetch::fetch;
+use crate::fetch_binding::fetch_binding;
+use crate::listed::orders;
+use crate::polls::poll;
+use crate::provision::provision;
+use crate::report::report;
+use crate::step::{Answer, Step};
+use crate::unbind::unbind;
+use crate::update::update;
+use osb_asks::Ask;
+use osb_catalog::Settings;
+use osb_orders::{Change, OrderKind, View};
+use osb_replies::{Body, Status};
+use std::alloc::{AllocError, Global};
+
+/// The answer to an ask and what it changes, from what the ask needs to know of the lives.
+///
+/// Nothing is asked of the view or the settings: where they don't fit each other, the table still
+/// has an answer. An error comes only where memory is refused.
+pub fn decide<'a>(
+    alloc: Global,
+    settings: &'a Settings,
+    view: &View,
+    ask: &Ask,
+) -> Result<Step<'a>, AllocError>
+    // The table of answers, by what the view tells.
+    ensures table { IfOk result (λ step. reaction step ≡ answer (rules_of settings.now) (facts view.now) ask.now) }
+    // So it is the machine's step from all lives that have this view.
+    ensures machine { (lives : Lives) → facts view.now ≡ view_of lives ask.now →
+        IfOk result (λ step. reaction step ≡ answer_to (rules_of settings.now) lives ask.now) }
+    // The catalog needs no memory.
+    ensures sure { OnErr result (ask.now ≢ Catalog) }
+{
+    by_table(alloc, settings, view, ask)
+}
+
+fn by_table<'a>(
+    alloc: Global,
+    settings: &'a Settings,
+    view: &View,
+    ask: &Ask,
+) -> Result<Step<'a>, AllocError>
+    ensures table { IfOk result (λ step. reaction step ≡ answer (rules_of settings.now) (facts view.now) ask.now) }
+    ensures sure { OnErr result (ask.now ≢ Catalog) }
+{
+    match ask {
+        Ask::Catalog => Ok(catalog(settings)),
+        Ask::Provision(ask) => provision(alloc, settings, view, ask),
+        Ask::Fetch(_) => fetch(alloc, &view.standing),
+        Ask::Update(ask) => update(alloc, settings, view, ask),
+        Ask::Deprovision(ask) => deprovision(alloc, settings, view, ask),
+        Ask::InstanceOp(ask) => poll(alloc, OrderKind::Delete, &ask.operation, view),
+        Ask::Bind(ask) => bind(alloc, settings, view, ask),
+        Ask::FetchBinding(_) => fetch_binding(alloc, &view.binding),
+        Ask::Unbind(ask) => unbind(alloc, settings, view, ask),
+        Ask::BindingOp(ask) => poll(alloc, OrderKind::Unbind, &ask.operation, view),
+        Ask::Orders(_) => orders(alloc, &view.listing),
+        Ask::Report(ask) => report(alloc, &view.named, ask),
+    }
+}
+
+/// Lends the catalog's text: it takes no memory.
+fn catalog<'a>(settings: &'a Settings) -> Step<'a>
+    ensures { reaction result ≡ catalog (rules_of settings.now) }
+{
+    Step {
+        answer: Answer {
+            status: Status::Ok,
+            body: Body::Lent(settings.catalog_text()),
+        },
+        change: Change::Nothing,
+    }
+}

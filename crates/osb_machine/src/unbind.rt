@@ -1,0 +1,85 @@
+//! The end of a binding.
+
+ghost use Rattle.std.specs.Prelude.{◌≡◌, IfOk};
+ghost use Rattle.osb_catalog.specs.Rules.{rules_of};
+ghost use Rattle.osb_orders.specs.Facts.{facts};
+ghost use Rattle.osb_machine.specs.Opened.{opened};
+ghost use Rattle.osb_machine.specs.Unbind.{unbindings_run, unbind_opening, unbind};
+ghost use Rattle.osb_machine.specs.Steps.{reaction, opening_of};
+
+use crate::opening::{Opening, accepted, is_busy, open};
+use crate::plans::bindings_run;
+use crate::step::{Answer, Step};
+use osb_asks::Unbind;
+use osb_catalog::Settings;
+use osb_orders::{BindingNow, BindingPhase, OrderKind, Standing, View};
+use osb_replies::{Body, FixedError, Status};
+use osb_text::Text;
+use std::alloc::{AllocError, Global};
+
+pub(crate) fn unbind<'a>(
+    alloc: Global,
+    settings: &Settings,
+    view: &View,
+    ask: &Unbind,
+) -> Result<Step<'a>, AllocError>
+    ensures { IfOk result (λ step. reaction step ≡ unbind (rules_of settings.now) (facts view.now) ask.now) }
+{
+    let Some(binding) = &view.binding else {
+        return Ok(Step::of_status(Status::Gone));
+    };
+    if let BindingPhase::Unbinding = binding.phase {
+        return accepted(alloc, ask.accepts_incomplete, &view.last);
+    }
+    if is_busy(view) {
+        return Ok(Step::refuses(FixedError::ConcurrencyError));
+    }
+    begin(alloc, settings, view, binding, ask)
+}
+
+/// Opens the order that unbinds.
+fn begin<'a>(
+    alloc: Global,
+    settings: &Settings,
+    view: &View,
+    binding: &BindingNow,
+    ask: &Unbind,
+) -> Result<Step<'a>, AllocError>
+    ensures { IfOk result (λ step. reaction step ≡ opened (rules_of settings.now) (facts view.now) (unbind_opening (rules_of settings.now) view.now.standing binding.now ask.now)) }
+{
+    let opening = unbind_opening(alloc, settings, &view.standing, binding, ask)?;
+    open(alloc, settings, view, opening)
+}
+
+fn unbind_opening<'a>(
+    alloc: Global,
+    settings: &Settings,
+    standing: &Option<Standing>,
+    binding: &BindingNow,
+    ask: &Unbind,
+) -> Result<Opening<'a>, AllocError>
+    ensures { IfOk result (λ opening. opening_of opening ≡ unbind_opening (rules_of settings.now) standing.now binding.now ask.now) }
+{
+    Ok(Opening {
+        asynchronous: unbindings_run(settings, standing),
+        accepts_incomplete: ask.accepts_incomplete,
+        kind: OrderKind::Unbind,
+        binding: Text::from_str(alloc, ask.binding.as_str())?,
+        attributes: binding.attributes.clone()?,
+        credentials: Text::from_str(alloc, "{}")?,
+        answer: Answer {
+            status: Status::Ok,
+            body: Body::EMPTY_OBJECT,
+        },
+    })
+}
+
+/// By the mode of the plan that the instance has.
+fn unbindings_run(settings: &Settings, standing: &Option<Standing>) -> bool
+    ensures { result ≡ unbindings_run (rules_of settings.now) standing.now }
+{
+    match standing {
+        Some(instance) => bindings_run(settings, instance.attributes.plan.as_str()),
+        None => false,
+    }
+}

@@ -1,0 +1,226 @@
+//! A change of an instance.
+
+ghost use Rattle.std.specs.Prelude.{◌≡◌, IfOk};
+ghost use Rattle.osb_catalog.specs.Rules.{rules_of};
+ghost use Rattle.osb_orders.specs.Facts.{facts};
+ghost use Rattle.osb_machine.specs.Opened.{opened};
+ghost use Rattle.osb_machine.specs.Update.{target_plan, target_parameters, target_maintenance, target, update_opening, forbids_change, update_ready, is_order_to, update_running, update_by, update_checked, update};
+ghost use Rattle.osb_machine.specs.Steps.{reaction, opening_of};
+
+use crate::opening::{Opening, accepted, is_busy, is_unlike, open};
+use crate::plans::{catalog_version, instances_run, is_plan_updateable};
+use crate::same::are_same;
+use crate::step::{Answer, Step};
+use osb_asks::Update;
+use osb_catalog::Settings;
+use osb_orders::{Attributes, InstancePhase, Order, OrderKind, Standing, View};
+use osb_replies::{Body, FixedError, Status};
+use osb_text::Text;
+use std::alloc::{AllocError, Global};
+
+pub(crate) fn update<'a>(
+    alloc: Global,
+    settings: &Settings,
+    view: &View,
+    ask: &Update,
+) -> Result<Step<'a>, AllocError>
+    ensures { IfOk result (λ step. reaction step ≡ update (rules_of settings.now) (facts view.now) ask.now) }
+{
+    let Some(instance) = &view.standing else {
+        return Ok(Step::of_status(Status::NotFound));
+    };
+    match instance.phase {
+        InstancePhase::Failed => Ok(Step::of_status(Status::NotFound)),
+        InstancePhase::Creating | InstancePhase::Deleting => {
+            Ok(Step::refuses(FixedError::ConcurrencyError))
+        }
+        InstancePhase::Ready | InstancePhase::Updating => {
+            update_checked(alloc, settings, view, instance, ask)
+        }
+    }
+}
+
+fn update_checked<'a>(
+    alloc: Global,
+    settings: &Settings,
+    view: &View,
+    instance: &Standing,
+    ask: &Update,
+) -> Result<Step<'a>, AllocError>
+    ensures { IfOk result (λ step. reaction step ≡ update_checked (rules_of settings.now) (facts view.now) instance.now ask.now) }
+{
+    let there = &instance.attributes;
+    if ask.service.as_str() != there.service.as_str() {
+        return Ok(Step::refuses(FixedError::Mismatch));
+    }
+    let version = catalog_version(settings, there.service.as_str(), target_plan(there, ask));
+    if is_unlike(&ask.maintenance, version) {
+        return Ok(Step::refuses(FixedError::MaintenanceInfoConflict));
+    }
+    let target = target(alloc, settings, there, ask)?;
+    update_by(alloc, settings, view, instance, ask, target)
+}
+
+fn update_by<'a>(
+    alloc: Global,
+    settings: &Settings,
+    view: &View,
+    instance: &Standing,
+    ask: &Update,
+    target: Attributes,
+) -> Result<Step<'a>, AllocError>
+    ensures { IfOk result (λ step. reaction step ≡ update_by instance.now.phase (rules_of settings.now) (facts view.now) instance.now.attributes ask.now target) }
+{
+    if let InstancePhase::Updating = instance.phase {
+        return update_running(alloc, view, ask, &target);
+    }
+    update_ready(alloc, settings, view, &instance.attributes, ask, target)
+}
+
+/// While another update runs.
+fn update_running<'a>(
+    alloc: Global,
+    view: &View,
+    ask: &Update,
+    target: &Attributes,
+) -> Result<Step<'a>, AllocError>
+    ensures { IfOk result (λ step. reaction step ≡ update_running (facts view.now) ask.now target.now) }
+{
+    if is_order_to(target, &view.last) {
+        accepted(alloc, ask.accepts_incomplete, &view.last)
+    } else {
+        Ok(Step::refuses(FixedError::ConcurrencyError))
+    }
+}
+
+fn is_order_to(target: &Attributes, last: &Option<Order>) -> bool
+    ensures { result ≡ is_order_to target.now last.now }
+{
+    match last {
+        Some(order) => are_same(target, &order.attributes),
+        None => false,
+    }
+}
+
+fn update_ready<'a>(
+    alloc: Global,
+    settings: &Settings,
+    view: &View,
+    instance: &Attributes,
+    ask: &Update,
+    target: Attributes,
+) -> Result<Step<'a>, AllocError>
+    ensures { IfOk result (λ step. reaction step ≡ update_ready (rules_of settings.now) (facts view.now) instance.now ask.now target) }
+{
+    if are_same(&target, instance) {
+        return Ok(Step::of_status(Status::Ok));
+    }
+    if is_busy(view) {
+        return Ok(Step::refuses(FixedError::ConcurrencyError));
+    }
+    if forbids_change(settings, instance, &target) {
+        return Ok(Step::refuses(FixedError::NoPlanChange));
+    }
+    change(alloc, settings, view, instance, ask, target)
+}
+
+/// Whether the plan changes where the instance's plan doesn't allow it.
+fn forbids_change(settings: &Settings, instance: &Attributes, target: &Attributes) -> bool
+    ensures { result ≡ forbids_change (rules_of settings.now) instance.now target.now }
+{
+    target.plan != instance.plan
+        && !is_plan_updateable(settings, instance.service.as_str(), instance.plan.as_str())
+}
+
+/// Opens the order that changes the instance.
+fn change<'a>(
+    alloc: Global,
+    settings: &Settings,
+    view: &View,
+    instance: &Attributes,
+    ask: &Update,
+    target: Attributes,
+) -> Result<Step<'a>, AllocError>
+    ensures { IfOk result (λ step. reaction step ≡ opened (rules_of settings.now) (facts view.now) (update_opening (rules_of settings.now) instance.now ask.now target)) }
+{
+    let opening = update_opening(alloc, settings, instance, ask, target)?;
+    open(alloc, settings, view, opening)
+}
+
+fn update_opening<'a>(
+    alloc: Global,
+    settings: &Settings,
+    instance: &Attributes,
+    ask: &Update,
+    target: Attributes,
+) -> Result<Opening<'a>, AllocError>
+    ensures { IfOk result (λ opening. opening_of opening ≡ update_opening (rules_of settings.now) instance.now ask.now target) }
+{
+    Ok(Opening {
+        asynchronous: instances_run(settings, instance.plan.as_str()),
+        accepts_incomplete: ask.accepts_incomplete,
+        kind: OrderKind::Update,
+        binding: Text::new(alloc),
+        attributes: target,
+        credentials: Text::from_str(alloc, "{}")?,
+        answer: Answer {
+            status: Status::Ok,
+            body: Body::EMPTY_OBJECT,
+        },
+    })
+}
+
+/// What the instance is to have.
+fn target(
+    alloc: Global,
+    settings: &Settings,
+    instance: &Attributes,
+    ask: &Update,
+) -> Result<Attributes, AllocError>
+    ensures { IfOk result (λ attributes. attributes ≡ target (rules_of settings.now) instance.now ask.now) }
+{
+    Ok(Attributes {
+        service: instance.service.clone()?,
+        plan: Text::from_str(alloc, target_plan(instance, ask))?,
+        place: instance.place.clone()?,
+        spot: instance.spot.clone()?,
+        parameters: Text::from_str(alloc, target_parameters(instance, ask))?,
+        maintenance: Text::from_str(alloc, target_maintenance(settings, instance, ask))?,
+    })
+}
+
+fn target_plan<'a>(instance: &'a Attributes, ask: &'a Update) -> &'a str
+    ensures { result.now ≡ target_plan instance.now ask.now }
+{
+    match &ask.plan {
+        Some(plan) => plan.as_str(),
+        None => instance.plan.as_str(),
+    }
+}
+
+fn target_parameters<'a>(instance: &'a Attributes, ask: &'a Update) -> &'a str
+    ensures { result.now ≡ target_parameters instance.now ask.now }
+{
+    match &ask.parameters {
+        Some(parameters) => parameters.as_str(),
+        None => instance.parameters.as_str(),
+    }
+}
+
+fn target_maintenance<'a>(
+    settings: &'a Settings,
+    instance: &'a Attributes,
+    ask: &'a Update,
+) -> &'a str
+    ensures { result.now ≡ target_maintenance (rules_of settings.now) instance.now ask.now ask.now.maintenance }
+{
+    if let Some(version) = &ask.maintenance {
+        return version.as_str();
+    }
+    let plan = target_plan(instance, ask);
+    if plan == instance.plan.as_str() {
+        instance.maintenance.as_str()
+    } else {
+        catalog_version(settings, instance.service.as_str(), plan)
+    }
+}

@@ -1,0 +1,4 @@
+pub mod LastLemmas
+pub mod MapLemmas
+pub mod ListedLemmas
+pub mod ViewLemmas

@@ -1,0 +1,12 @@
+pub mod Lists
+pub mod Orders
+pub mod Life
+pub mod Bindings
+pub mod Lives
+pub mod Named
+pub mod Listing
+pub mod Facts
+pub mod Changed
+pub mod IsLife
+pub mod Allowed
+pub mod Plain

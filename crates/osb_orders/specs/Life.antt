@@ -1,0 +1,57 @@
+-- How an instance stands, read off the list of all its orders (OSB API 2.17, "Provisioning", "Updating a Service
+-- Instance", "Deprovisioning"; that an update counts once it has succeeded, and that a failed deletion leaves the instance
+-- as it was, are this project's own).
+use Rattle.std.specs.Prelude.{List, [], ◌∷◌, Option, None, Some, if◌then◌else◌}
+use Rattle.std.specs.List.{list_any}
+use Rattle.osb_orders.specs.declared.order.OrderKind.{OrderKind}
+use Rattle.osb_orders.specs.declared.order.OrderKind.TheVariants.{Create, Update, Delete}
+use Rattle.osb_orders.specs.declared.order.OrderState.{OrderState}
+use Rattle.osb_orders.specs.declared.order.OrderState.TheVariants.{Running, Succeeded, Failed}
+use Rattle.osb_orders.specs.declared.order.Attributes.{Attributes}
+use Rattle.osb_orders.specs.declared.order.Order.{Order}
+use Rattle.osb_orders.specs.declared.view.InstancePhase.{InstancePhase}
+use Rattle.osb_orders.specs.declared.view.InstancePhase.TheVariants as phase
+use Rattle.osb_orders.specs.declared.view.Standing.{Standing}
+use Rattle.osb_orders.specs.Lists.{from_last, last_where}
+use Rattle.osb_orders.specs.Orders.{is_a, has_succeeded, is_of_instance}
+
+-- all orders of one instance, in the order in which they were opened
+abbrev pub Life : Type 0
+Life = List Order
+
+-- The birth is the last Create after which no Delete succeeded. These are the orders from the birth on; where the
+-- instance is absent there are none.
+abbrev pub since_birth : Life → Life
+since_birth life =
+    let orders = from_last (is_a Create) life in
+    if list_any (has_succeeded Delete) orders then [] else orders
+
+-- by how the birth ended, and by the last Create, Update or Delete and how far it is
+abbrev pub phase_by : OrderState → OrderKind → OrderState → InstancePhase
+phase_by birth Create Running = phase.Creating
+phase_by birth Create Succeeded = phase.Ready
+phase_by birth Create Failed = phase.Failed
+phase_by birth Update Running = phase.Updating
+phase_by birth Update _ = phase.Ready
+phase_by birth Delete Running = phase.Deleting
+phase_by Failed Delete _ = phase.Failed
+phase_by birth Delete _ = phase.Ready
+phase_by birth _ _ = phase.Ready
+
+-- of the birth and the orders after it
+abbrev pub phase_since : Order → Life → InstancePhase
+phase_since birth later =
+    let last = last_where is_of_instance birth later in
+    phase_by birth.outcome.state last.kind last.outcome.state
+
+-- those of the last succeeded Update, otherwise those of the birth
+abbrev pub attributes_since : Order → Life → Attributes
+attributes_since birth later = (last_where (has_succeeded Update) birth later).attributes
+
+abbrev pub standing_since : Life → Option Standing
+standing_since [] = None
+standing_since (birth ∷ later) = Some (record { phase = phase_since birth later; attributes = attributes_since birth later })
+
+-- the instance, unless it is absent
+abbrev pub standing_of : Life → Option Standing
+standing_of life = standing_since (since_birth life)

@@ -1,0 +1,89 @@
+ghost use Rattle.std.specs.Prelude.{◌≡◌, [], length, IfOk, option_and_then};
+ghost use Rattle.osb_orders.specs.Bindings.{binding_of};
+ghost use Rattle.osb_orders.specs.Lists.{last_of};
+ghost use Rattle.osb_orders.specs.Life.{standing_of};
+ghost use Rattle.osb_orders.specs.Named.{binding_in, named_in, subject};
+ghost use Rattle.osb_orders.specs.Facts.{facts, facts_of};
+
+use super::bindings::{binding_of, has_bindings};
+use super::instances::standing_of;
+use super::named::{binding_in, last_of, named_in, subject};
+use crate::order::Order;
+use crate::view::{BindingNow, Standing, View};
+use osb_asks::Ask;
+use osb_text::Text;
+use std::alloc::{AllocError, Global};
+
+/// The view of the life for the ask, with this listing.
+pub(super) fn shown(
+    alloc: Global,
+    ask: &Ask,
+    life: &[Order],
+    listing: Vec<(Text, Order)>,
+) -> Result<View, AllocError>
+    ensures { IfOk result (λ view. facts view ≡ record (facts_of life.now [] ask.now) { listing = listing.items }) }
+{
+    let count = count_of(life)?;
+    let bound = has_bindings(life);
+    let (standing, binding) = standings(alloc, ask, life)?;
+    let (named, subject_last) = polled(alloc, ask, life)?;
+    let last = last_of(life)?;
+    Ok(View {
+        standing,
+        last,
+        binding,
+        named,
+        subject_last,
+        count,
+        bound,
+        listing,
+    })
+}
+
+/// The instance, and the binding that the ask names.
+fn standings(
+    alloc: Global,
+    ask: &Ask,
+    life: &[Order],
+) -> Result<(Option<Standing>, Option<BindingNow>), AllocError>
+    ensures standing { IfOk result (λ parts. parts.0 ≡ standing_of life.now) }
+    ensures binding { IfOk result (λ parts. parts.1 ≡ option_and_then (λ id. binding_of id life.now) (binding_in ask.now)) }
+{
+    let standing = standing_of(alloc, life)?;
+    let binding = named_binding(alloc, ask, life)?;
+    Ok((standing, binding))
+}
+
+/// The order that the ask names, and the last of those that its poll is about.
+fn polled(
+    alloc: Global,
+    ask: &Ask,
+    life: &[Order],
+) -> Result<(Option<Order>, Option<Order>), AllocError>
+    ensures named { IfOk result (λ parts. parts.0 ≡ named_in ask.now life.now) }
+    ensures last { IfOk result (λ parts. parts.1 ≡ last_of (subject ask.now life.now)) }
+{
+    let named = named_in(alloc, ask, life)?;
+    let orders = subject(alloc, ask, life)?;
+    let last = last_of(orders.as_slice())?;
+    Ok((named, last))
+}
+
+/// How many orders there are. Where that is 2^32 or more, want of memory is answered.
+fn count_of(life: &[Order]) -> Result<u32, AllocError>
+    ensures { IfOk result (λ count. count ≡ length life.now) }
+{
+    match u32::try_from(life.len()) {
+        Ok(count) => Ok(count),
+        Err(_) => Err(AllocError),
+    }
+}
+
+fn named_binding(alloc: Global, ask: &Ask, life: &[Order]) -> Result<Option<BindingNow>, AllocError>
+    ensures { IfOk result (λ binding. binding ≡ option_and_then (λ id. binding_of id life.now) (binding_in ask.now)) }
+{
+    match binding_in(ask) {
+        Some(id) => binding_of(alloc, id, life),
+        None => Ok(None),
+    }
+}
