@@ -2,14 +2,14 @@
 use Rattle.std.specs.Prelude.{ℕ}
 use Rattle.osb_broker.specs.declared.broker.Broker.{Broker}
 use Rattle.osb_replies.specs.Body.{body_bytes}
-use Rattle.osb_broker.specs.declared.answer.Answer as code
+use Rattle.osb_machine.specs.declared.step.Answer as code
 use Rattle.osb_catalog.specs.Rules as catalog
 use Rattle.osb_broker.specs.Machine.{Answer}
-use Rattle.osb_broker.specs.Lives.{Lives}
+use Rattle.osb_orders.specs.Lives.{Lives}
 
--- the instances that it knows
+-- the lives of all instances
 abbrev pub lives_of : Broker → Lives
-lives_of broker = broker.instances.items
+lives_of broker = broker.lives
 
 -- how many requests of a connection it takes
 abbrev pub most_of : Broker → ℕ

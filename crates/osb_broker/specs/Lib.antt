@@ -4,7 +4,7 @@ pub mod Served
 pub mod Serving
 pub mod Answering
 pub mod Faults
-pub mod Lives
+pub mod Steps
 pub mod Kept
 pub mod Room
 pub mod Laws

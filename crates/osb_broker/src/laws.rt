@@ -4,11 +4,11 @@ ghost use Rattle.std.specs.Prelude.{◌≡◌, [], ◌∷◌, ◌++◌, ℕ, Lis
 ghost use Rattle.osb_frames.specs.declared.limits.Limits.{Limits};
 ghost use Rattle.osb_frames.specs.Cuts.{Message, End, Cuts};
 ghost use Rattle.osb_broker.specs.Machine.{Machine};
-ghost use Rattle.osb_broker.specs.Lives.{Lives};
+ghost use Rattle.osb_orders.specs.Lives.{Lives};
 ghost use Rattle.osb_broker.specs.Connection.{ConnectionText, Run};
 ghost use Rattle.osb_broker.specs.Laws.{texts_of};
 
-/// A connection's texts, and the instances after it, are those that the machine gives to the
+/// A connection's texts, and the lives after it, are those that the machine gives to the
 /// requests and the end of its cut, with the same marks. So they are determined by the bytes and
 /// the marks.
 pub fn texts_are_of_the_cut()

@@ -2,7 +2,7 @@
 
 ghost use Rattle.std.specs.Prelude.{◌≡◌, ◌<◌, ◌≤◌, ◌+◌, ℕ, List, length, OnOk, IfSome};
 ghost use Rattle.osb_frames.specs.Steps.{message};
-ghost use Rattle.osb_broker.specs.Lives.{machine};
+ghost use Rattle.osb_broker.specs.Steps.{machine};
 ghost use Rattle.osb_broker.specs.Answering.{Answers};
 ghost use Rattle.osb_broker.specs.Served.{Served};
 ghost use Rattle.osb_broker.specs.Serving.{HasCause, Gave, Looked, Outcome};
@@ -94,7 +94,7 @@ impl Broker<'_> {
     /// are taken, and none after a reply that closes.
     ///
     /// It takes no memory of its own. After a fault of the sink the text of one reply may have been
-    /// written in part; the instances are those after that request.
+    /// written in part; the lives are those after that request.
     pub fn serve<R: Source, W: Sink>(
         &mut self,
         buffer: &mut Buffer,

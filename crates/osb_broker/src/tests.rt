@@ -1,5 +1,6 @@
 //! Connections served, with their bytes whole and in pieces; and readers and writers that fail.
 
+mod conversations;
 mod requests;
 
 ghost use Rattle.std.specs.Prelude.{◌≤◌};
@@ -99,7 +100,7 @@ fn served(
     }
 }
 
-/// Whether a broker that keeps nothing answers the bytes with this text, in all pieces.
+/// Whether a broker without orders answers the bytes with this text, in all pieces.
 fn answers(alloc: Global, per_connection: u32, bytes: &[u8], text: &[u8]) -> Result<bool, Fail>
     requires some { 1 ≤ per_connection }
     requires few { per_connection ≤ 1000 }

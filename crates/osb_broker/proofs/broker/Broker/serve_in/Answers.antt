@@ -3,7 +3,7 @@ use Rattle.std.proofs.lemmas.List.{length-take}
 use Rattle.std.proofs.Math.Seq.{take-add}
 use Rattle.std.proofs.lemmas.Grind.{common_steps}
 use Rattle.osb_frames.specs.Steps.{message}
-use Rattle.osb_broker.specs.Lives.{machine}
+use Rattle.osb_broker.specs.Steps.{machine}
 use Rattle.osb_broker.specs.Kept.{most_of, rules_of}
 use Rattle.osb_broker.proofs.HoldLemmas.{gave_nothing, gave_more, gave_kept, holding_start, reached_now, holding_fed, holding_more, closing_held, breaking_held, refusing_ok, refusing_err, ending_held, none_held, looked, few_so_far, few_after, one_read, one_byte}
 use Rattle.osb_broker.proofs.broker.Broker.serve_in.Goals as goal

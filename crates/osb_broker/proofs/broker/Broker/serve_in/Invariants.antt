@@ -1,6 +1,6 @@
 use Rattle.std.proofs.Common.{◌≡◌, ◌≤◌, ◌+◌, ◌-◌, ◌*◌, List, ℕ, true, cond, length, take}
 use Rattle.std.specs.Io.KnownBytes.{IsAtEnd}
-use Rattle.osb_broker.specs.Lives.{machine}
+use Rattle.osb_broker.specs.Steps.{machine}
 use Rattle.osb_broker.specs.Kept.{lives_of, most_of, rules_of}
 use Rattle.osb_broker.specs.Serving.{Gave, Holding}
 use Rattle.osb_broker.proofs.broker.Broker.serve_in.Given as goal
