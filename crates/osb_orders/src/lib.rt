@@ -3,6 +3,8 @@
 
 mod order;
 mod plain;
+#[cfg(test)]
+mod tests;
 mod view;
 
 pub use order::{Attributes, Change, Order, OrderKind, OrderState, Outcome};
