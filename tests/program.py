@@ -238,6 +238,22 @@ def try_resent_requests(tries):
         tries.tell(f"requests sent again, {name}", wrong)
 
 
+def try_example(tries):
+    """The conversation that the README shows."""
+    folder = os.path.join(os.path.dirname(os.path.abspath(__file__)), "..", "examples")
+    with open(os.path.join(folder, "resent.http"), "rb") as file:
+        ended = tries.run(["replay", "--per-connection", "5"], file.read())
+    seen = [(status, body.partition(b'"kind"')[0]) for status, body in replies(ended.stdout)]
+    expected = [
+        (202, b'{"operation":"create-1"}'),
+        (202, b'{"operation":"create-1"}'),
+        (200, b'{"orders":[{"instance_id":"i",'),
+        (200, b"{}"),
+        (200, b'{"state":"succeeded"}'),
+    ]
+    tries.tell("the example's conversation", [] if seen == expected else [repr(seen)])
+
+
 def try_listing(tries):
     """Running orders are listed by their ids, a hundred at a time."""
     names = [f"i{n:03}" for n in range(101)]
@@ -365,6 +381,7 @@ def main():
         try_replay(tries)
         try_several_requests(tries)
         try_resent_requests(tries)
+        try_example(tries)
         try_listing(tries)
         try_settings(tries, folder)
         try_broken_streams(tries, folder)
