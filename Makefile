@@ -1,5 +1,5 @@
 # make        builds ./osb-broker
-# make run    builds it and serves standard input as one connection
+# make run    builds it and serves 127.0.0.1:8080 with the settings of examples/settings.json
 # make test   is the whole gate: every proof from nothing, then the built program tried from outside
 
 RT ?= rt
@@ -15,12 +15,13 @@ osb-broker: FORCE
 	cp crates/osb_program/out/osb_program $@
 
 run: osb-broker
-	./osb-broker
+	./osb-broker serve --settings examples/settings.json --listen 127.0.0.1:8080
 
 test:
 	$(RT) ci
 	$(MAKE) osb-broker
 	python3 tests/program.py ./osb-broker
+	python3 tests/served.py ./osb-broker
 
 clean:
 	rm -rf osb-broker crates/*/out

@@ -4,6 +4,7 @@ ghost use Rattle.std.specs.Prelude.{◌≤◌};
 
 use crate::check::check;
 use crate::fault::Fault;
+use crate::listen::listen;
 use crate::replay::replay;
 use crate::settings::settings_or_built_in;
 use crate::words::{Order, read};
@@ -58,13 +59,52 @@ fn perform<'a, R: Source, W: Sink>(
                 output,
             )
         }
+        Order::Serve(_) => other_command(rt.alloc(), "serve is a command of its own\n"),
+    }
+}
+
+/// The fault of words that name a command which is done elsewhere.
+fn other_command(alloc: Global, line: &str) -> Result<(), Fault<'static>> {
+    let text = String::from_str(alloc, line)?;
+    Err(Fault::Words(text))
+}
+
+fn perform_serve<'a, W: Sink, E: Sink>(
+    rt: &HostRuntime,
+    words: &'a [String],
+    output: &mut W,
+    errors: &mut E,
+) -> Result<(), Fault<'a>> {
+    let order = match read(rt.alloc(), words) {
+        Ok(order) => order,
+        Err(error) => return answer_words(rt.alloc(), &error, output),
+    };
+    match order {
+        Order::Serve(asked) => listen(rt, &asked, output, errors),
+        Order::Check { .. } | Order::Replay { .. } => other_command(
+            rt.alloc(),
+            "the command is not serve\n",
+        ),
+    }
+}
+
+/// The status of what was done. A fault has a line on `errors`.
+fn status_of<E: Sink>(done: Result<(), Fault<'_>>, errors: &mut E) -> u8
+    ensures { result ≤ 3 }
+{
+    match done {
+        Ok(()) => 0,
+        Err(fault) => {
+            fault.tell(errors);
+            fault.status()
+        }
     }
 }
 
 /// Does what the words after the program's name ask for, and gives the status that the process
 /// ends with: 0 where all went well or help was asked for, 1 where a file, memory or standard
-/// output failed, 2 where the words aren't a command's, 3 where settings aren't accepted. A status
-/// other than 0 has a line on `errors`; a failed write there is passed over.
+/// output failed, 2 where the words aren't those of `check` or `replay`, 3 where settings aren't
+/// accepted. A status other than 0 has a line on `errors`; a failed write there is passed over.
 pub fn run<R: Source, W: Sink, E: Sink>(
     rt: &HostRuntime,
     words: &[String],
@@ -74,11 +114,24 @@ pub fn run<R: Source, W: Sink, E: Sink>(
 ) -> u8
     ensures { result ≤ 3 }
 {
-    match perform(rt, words, input, output) {
-        Ok(()) => 0,
-        Err(fault) => {
-            fault.tell(errors);
-            fault.status()
-        }
-    }
+    let done = perform(rt, words, input, output);
+    status_of(done, errors)
+}
+
+/// Does what the words ask for where they name `serve`: takes connections at an address, one after
+/// the other, and answers them from one broker, which keeps its orders in memory. A fault of a
+/// connection is a line on `errors`, and the next connection is taken.
+///
+/// The status is that of [`run`]: also 1 where the address can't be listened at or a connection
+/// can't be taken, and 2 where the words name another command.
+pub fn serve_command<W: Sink, E: Sink>(
+    rt: &HostRuntime,
+    words: &[String],
+    output: &mut W,
+    errors: &mut E,
+) -> u8
+    ensures { result ≤ 3 }
+{
+    let done = perform_serve(rt, words, output, errors);
+    status_of(done, errors)
 }

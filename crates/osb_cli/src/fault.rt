@@ -18,6 +18,10 @@ pub(crate) enum Fault<'a> {
     OutOfMemory,
     /// Standard output doesn't take what is written.
     CannotWrite,
+    /// Connections can't be taken at that address.
+    CannotListen(&'a str),
+    /// The next connection can't be taken.
+    CannotAccept,
     /// The words aren't those of a command, as this text says.
     Words(String),
     /// The settings aren't accepted.
@@ -71,8 +75,12 @@ impl Fault<'_> {
         ensures { result ≤ 3 }
     {
         match self {
-            Fault::CannotRead(_) | Fault::TooLarge(_) | Fault::OutOfMemory | Fault::CannotWrite =>
-                1,
+            Fault::CannotRead(_)
+            | Fault::TooLarge(_)
+            | Fault::OutOfMemory
+            | Fault::CannotWrite
+            | Fault::CannotListen(_)
+            | Fault::CannotAccept => 1,
             Fault::Words(_) => 2,
             Fault::Settings(_) => 3,
         }
@@ -85,6 +93,11 @@ impl Fault<'_> {
             Fault::TooLarge(file) => say(errors, &["osb-broker: too large ", file, "\n"]),
             Fault::OutOfMemory => say(errors, &["osb-broker: out of memory\n"]),
             Fault::CannotWrite => say(errors, &["osb-broker: cannot write\n"]),
+            Fault::CannotListen(address) => say(
+                errors,
+                &["osb-broker: cannot listen on ", address, "\n"],
+            ),
+            Fault::CannotAccept => say(errors, &["osb-broker: cannot accept\n"]),
             Fault::Words(text) => say(errors, &[text.as_str()]),
             Fault::Settings(fault) => tell_settings(*fault, errors),
         }

@@ -1,11 +1,12 @@
-//! The command line of osb-broker, as a library: [`run`] does what the words ask for and gives the
-//! status that the process ends with.
+//! The command line of osb-broker, as a library: [`run`] and [`serve_command`] do what the words ask
+//! for and give the status that the process ends with.
 #![tactic(auto)]
 
 mod check;
 mod commands;
 mod fault;
 mod input;
+mod listen;
 mod per_connection;
 mod replay;
 mod settings;
@@ -13,4 +14,4 @@ mod settings;
 mod tests;
 mod words;
 
-pub use commands::run;
+pub use commands::{run, serve_command};

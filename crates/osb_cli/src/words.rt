@@ -4,6 +4,17 @@ use crate::per_connection::PerConnection;
 use clap::{Arg, ArgMatches, Command, Error, value_parser};
 use std::alloc::Global;
 
+/// Where connections are taken, and how many.
+#[derive(Clone, Copy, Debug)]
+pub(crate) struct Listen<'a> {
+    /// The name of the settings file.
+    pub(crate) settings: &'a str,
+    /// An IP address and a port.
+    pub(crate) address: &'a str,
+    pub(crate) per_connection: PerConnection,
+    pub(crate) connections: u32,
+}
+
 /// What the words ask for.
 #[derive(Clone, Copy, Debug)]
 pub(crate) enum Order<'a> {
@@ -17,6 +28,8 @@ pub(crate) enum Order<'a> {
         settings: Option<&'a str>,
         per_connection: PerConnection,
     },
+    /// Serve TCP connections.
+    Serve(Listen<'a>),
 }
 
 const ABOUT: &str = "The broker end of the Open Service Broker API 2.17";
@@ -25,8 +38,8 @@ const STATUS: &str = "With no command it does `replay`.
 
 Status:
   0  all went well, or help was asked for
-  1  a file can't be read or is too large, memory is refused, or standard
-     output doesn't take what is written
+  1  a file can't be read or is too large, memory is refused, standard
+     output doesn't take what is written, or connections can't be taken
   2  the words are not those of a command
   3  the settings are not accepted
 With any status but 0 a line on standard error says why.";
@@ -42,6 +55,26 @@ const REPLAY: &str = "Answer the requests on standard input";
 const REPLAY_MORE: &str = "Reads standard input to its end, at most 16777216 bytes, serves it as one
 connection and writes the replies to standard output. The broker keeps what it
 is told for as long as it runs.";
+
+const SERVE: &str = "Serve connections at an address";
+
+const SERVE_MORE: &str =
+    "Prints `listening on ADDR`, and then takes one connection after the other. A
+connection that fails is a line on standard error, `connection: read` or
+`connection: write`, and the next one is taken. The broker keeps its orders
+in memory: they are gone when it ends.";
+
+/// The most connections that one run takes.
+const MOST_CONNECTIONS: u32 = 1_000_000;
+
+/// `--per-connection` and its number.
+fn per_connection_word<'a>(alloc: Global) -> Arg<'a> {
+    Arg::new(alloc, "per-connection")
+        .long("per-connection")
+        .value_name("N")
+        .help("How many requests of a connection are answered, 1 to 1000; without it 1")
+        .value_parser(value_parser!(u32).range(1..=1000))
+}
 
 /// `check` and its words.
 fn check_command<'a>(alloc: Global) -> Result<Command<'a>, Error> {
@@ -64,18 +97,44 @@ fn replay_command<'a>(alloc: Global) -> Result<Command<'a>, Error> {
         .long("settings")
         .value_name("FILE")
         .help("The settings file; without it the built-in settings serve");
-    let per_connection = Arg::new(alloc, "per-connection")
-        .long("per-connection")
-        .value_name("N")
-        .help("How many requests of a connection are answered, 1 to 1000; without it 1")
-        .value_parser(value_parser!(u32).range(1..=1000));
     Ok(
         Command::new(alloc, "replay")
             .about(REPLAY)
             .after_help(REPLAY_MORE)
             .override_usage("osb-broker replay [--settings FILE] [--per-connection N] < FILE")
             .arg(settings)?
-            .arg(per_connection)?,
+            .arg(per_connection_word(alloc))?,
+    )
+}
+
+/// `serve` and its words.
+fn serve_command<'a>(alloc: Global) -> Result<Command<'a>, Error> {
+    let settings = Arg::new(alloc, "settings")
+        .long("settings")
+        .value_name("FILE")
+        .help("The settings file")
+        .required(true);
+    let listen = Arg::new(alloc, "listen")
+        .long("listen")
+        .value_name("ADDR")
+        .help("An IP address and a port, as 127.0.0.1:8080")
+        .required(true);
+    let connections = Arg::new(alloc, "connections")
+        .long("connections")
+        .value_name("N")
+        .help("How many connections are served, 1 to 1000000; without it 1000000")
+        .value_parser(value_parser!(u32).range(1..=1_000_000));
+    Ok(
+        Command::new(alloc, "serve")
+            .about(SERVE)
+            .after_help(SERVE_MORE)
+            .override_usage(
+                "osb-broker serve --settings FILE --listen ADDR [--per-connection N] [--connections N]",
+            )
+            .arg(settings)?
+            .arg(listen)?
+            .arg(per_connection_word(alloc))?
+            .arg(connections)?,
     )
 }
 
@@ -87,20 +146,36 @@ fn command<'a>(alloc: Global) -> Result<Command<'a>, Error> {
             .disable_help_subcommand(true)
             .no_binary_name(true)
             .subcommand(check_command(alloc)?)?
-            .subcommand(replay_command(alloc)?)?,
+            .subcommand(replay_command(alloc)?)?
+            .subcommand(serve_command(alloc)?)?,
     )
+}
+
+fn per_connection_of(found: &ArgMatches<'_>) -> PerConnection {
+    match found.get_one::<u32>("per-connection") {
+        Some(number) => PerConnection::of(number).unwrap_or(PerConnection::ONE),
+        None => PerConnection::ONE,
+    }
 }
 
 /// The order to replay, as the words after `replay` say it.
 fn replay_order<'a>(found: &ArgMatches<'a>) -> Order<'a> {
-    let per_connection = match found.get_one::<u32>("per-connection") {
-        Some(number) => PerConnection::of(number).unwrap_or(PerConnection::ONE),
-        None => PerConnection::ONE,
-    };
     Order::Replay {
         settings: found.get_str("settings"),
-        per_connection,
+        per_connection: per_connection_of(found),
     }
+}
+
+/// The order to serve, as the words after `serve` say it.
+fn serve_order<'a>(found: &ArgMatches<'a>) -> Order<'a> {
+    Order::Serve(Listen {
+        settings: found.get_str("settings").unwrap_or(""),
+        address: found.get_str("listen").unwrap_or(""),
+        per_connection: per_connection_of(found),
+        connections: found
+            .get_one::<u32>("connections")
+            .unwrap_or(MOST_CONNECTIONS),
+    })
 }
 
 /// Reads the words that follow the program's name.
@@ -110,6 +185,7 @@ pub(crate) fn read<'a>(alloc: Global, words: &'a [String]) -> Result<Order<'a>, 
         Some(("check", found)) => Ok(Order::Check {
             settings: found.get_str("settings").unwrap_or(""),
         }),
+        Some(("serve", found)) => Ok(serve_order(found)),
         Some((_, found)) => Ok(replay_order(found)),
         None => Ok(Order::Replay {
             settings: None,

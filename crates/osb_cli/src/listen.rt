@@ -1,0 +1,117 @@
+//! `serve`: TCP connections, one after the other.
+
+use crate::fault::Fault;
+use crate::settings::read_settings;
+use crate::words::Listen;
+use osb_broker::{Broker, Buffer, ServeFault};
+use osb_frames::{Counted, Limits, Sink, send_all};
+use std::io::Read;
+use std::net::{Shutdown, SocketAddr, TcpListener, TcpStream};
+use std::time::Duration;
+
+/// How many pieces of what a client sends past its last request are read before its connection is
+/// closed.
+const PIECES_LEFT: u32 = 64;
+
+const PIECE: usize = 4096;
+
+/// How long one of them is waited for.
+const PATIENCE_MILLISECONDS: u64 = 100;
+
+/// Ends a connection so that its client can read the last reply: where bytes of the client lie
+/// unread, the system would take that reply back. A bounded number of pieces is read, and none of
+/// them is waited for long.
+fn end(stream: &TcpStream) {
+    let patience = Duration::from_millis(PATIENCE_MILLISECONDS);
+    let shut = stream.shutdown(Shutdown::Write).is_ok();
+    if !shut || stream.set_read_timeout(Some(patience)).is_err() {
+        return;
+    }
+    let mut piece = [0; PIECE];
+    for _ in 0..PIECES_LEFT {
+        match (&mut &*stream).read(&mut piece) {
+            Ok(0) | Err(_) => return,
+            Ok(_) => {}
+        }
+    }
+}
+
+/// Serves a connection. A fault of it is told, and is none of the next connection.
+fn serve_stream<E: Sink>(
+    broker: &mut Broker<'_>,
+    buffer: &mut Buffer,
+    stream: &TcpStream,
+    errors: &mut E,
+) {
+    // A reply isn't held back for more to come. Where the system can't do that, it is only later.
+    let _ = stream.set_nodelay(true);
+    let mut source = Counted::new(stream);
+    let mut sink = Counted::new(stream);
+    let told = match broker.serve(buffer, &mut source, &mut sink) {
+        Ok(()) => Ok(()),
+        Err(ServeFault::Read) => send_all(errors, b"connection: read\n"),
+        Err(ServeFault::Write) => send_all(errors, b"connection: write\n"),
+    };
+    // A failed write on standard error is passed over.
+    let _ = told;
+    end(stream);
+}
+
+/// Serves so many connections of a listener, one after the other.
+fn serve_listener<E: Sink>(
+    broker: &mut Broker<'_>,
+    buffer: &mut Buffer,
+    listener: &TcpListener,
+    connections: u32,
+    errors: &mut E,
+) -> Result<(), Fault<'static>> {
+    for _ in 0..connections {
+        match listener.accept() {
+            Ok((stream, _)) => serve_stream(broker, buffer, &stream, errors),
+            Err(_) => return Err(Fault::CannotAccept),
+        }
+    }
+    Ok(())
+}
+
+/// Listens at an address.
+fn listen_at<'a>(rt: &HostRuntime, address: &'a str) -> Result<TcpListener, Fault<'a>> {
+    let Ok(parsed) = address.parse::<SocketAddr>() else {
+        return Err(Fault::CannotListen(address));
+    };
+    match TcpListener::bind(rt, parsed) {
+        Ok(listener) => Ok(listener),
+        Err(_) => Err(Fault::CannotListen(address)),
+    }
+}
+
+/// Writes that connections are taken.
+fn tell_listening<W: Sink>(address: &str, output: &mut W) -> Result<(), Fault<'static>> {
+    for piece in ["listening on ", address, "\n"] {
+        if send_all(output, piece.as_bytes()).is_err() {
+            return Err(Fault::CannotWrite);
+        }
+    }
+    Ok(())
+}
+
+/// Serves connections at an address, with the settings of a file.
+pub(crate) fn listen<'a, W: Sink, E: Sink>(
+    rt: &HostRuntime,
+    asked: &Listen<'a>,
+    output: &mut W,
+    errors: &mut E,
+) -> Result<(), Fault<'a>> {
+    let settings = read_settings(rt, asked.settings)?;
+    let mut broker = Broker::new(rt.alloc(), &settings, asked.per_connection.number());
+    let mut buffer = Buffer::new(rt.alloc(), &Limits::STANDARD)?;
+    let listener = listen_at(rt, asked.address)?;
+    tell_listening(asked.address, output)?;
+    serve_listener(
+        &mut broker,
+        &mut buffer,
+        &listener,
+        asked.connections,
+        errors,
+    )
+}
