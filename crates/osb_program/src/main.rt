@@ -10,7 +10,7 @@ fn main(rt: HostRuntime) -> io::Result<ExitCode> {
     let words: Vec<String> = std::env::args(&rt)?.skip(1).collect(rt.alloc())?;
     let mut output = Counted::new(rt.stdout());
     let mut errors = Counted::new(rt.stderr());
-    let serves = words.first().is_some_and(|word| word == "serve");
+    let serves = words.first().is_some_and(|word| word.as_str() == "serve");
     let status = if serves {
         serve_command(&rt, words.as_slice(), &mut output, &mut errors)
     } else {
