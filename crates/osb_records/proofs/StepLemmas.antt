@@ -1,0 +1,91 @@
+-- What a function that is lent the transaction has done.
+use Rattle.std.proofs.Common.{◌≡◌, inl, inr, ℕ, List, false, IsTrue, Ok, Err, Result, OnOk, OnErr, sym, ap, subst, ◌∙◌, arith}
+use Rattle.std.proofs.lemmas.Bool.{cases_Bool}
+use Rattle.sqlite.specs.Order.{Row}
+use Rattle.sqlite.specs.Tree.{Trees}
+use Rattle.sqlite.specs.Schema.{Schema}
+use Rattle.sqlite.specs.Effect.{Database, IsDatabase}
+use Rattle.sqlite.specs.declared.error.Error.{Error}
+use Rattle.sqlite.specs.State.{State, HasCleanDisk, Executes, ExecutesInside, Survives}
+use Rattle.osb_orders.specs.Lives.{Lives}
+use Rattle.osb_orders.specs.IsLife.{IsLives}
+use Rattle.osb_records.specs.Tables.{record_schema}
+use Rattle.osb_records.specs.Stored.{Entry, lives_in}
+use Rattle.osb_records.specs.Steps.{HasTables, ShowsSchema, HoldsLives, IsReady, Steps, Makes, stored}
+use Rattle.osb_records.proofs.SortLemmas.{entries_are, held_again}
+use Rattle.osb_records.proofs.ChangeLemmas.{Gives}
+
+abbrev pub IsOver : State → Result ℕ Error → Error → Type 0
+IsOver old result why = old.in_transaction ≡ false → result ≡ Err why
+
+-- a statement that was run found a transaction
+pub was_inside : (old : State) (count : ℕ) (why : Error) → IsOver old (Ok count) why → IsTrue old.in_transaction
+was_inside old count why ended = elim (cases_Bool old.in_transaction) [
+  | inl inside ↦ inside
+  | inr over ↦ absurd (let e = ended over in cc)
+]
+
+pub clean_before : (old new : State) (P : Trees → Type 0) → Survives old new P → HasCleanDisk new → HasCleanDisk old
+clean_before old new P s clean = omega (arith, s.clean)
+
+module _ (text : List ℕ) (params : Row) (old new : State) (result : Result ℕ Error) (why : Error) (over : IsOver old result why) (survives : Survives old new (λ _. ⊥)) (clean : HasCleanDisk new) where
+  -- a statement whose meaning is known takes one step
+  pub steps_by : (lives : Lives) (entries : List Entry) → ShowsSchema record_schema old
+      → ((count : ℕ) → HasCleanDisk old → IsTrue old.is_open → old.now.schema ≡ record_schema → Executes text params old new (Ok count) → Gives new entries × (lives_in entries ≡ lives))
+      → (IsTrue old.in_transaction → ExecutesInside 0 text params old new result) → OnOk result (Steps old new lives)
+  steps_by lives entries has does h =
+      elim result as (λ r. IsOver old r why → (IsTrue old.in_transaction → ExecutesInside 0 text params old new r) → OnOk r (Steps old new lives)) [
+        | Err e ↦ λ _ _. tt
+        | Ok count ↦ λ ended run.
+            let inside = was_inside old count why ended in
+            let ran = run inside in
+            let before = clean_before old new _ survives clean in
+            let did = does count before ran.1.was_open (has before ran.1.was_open) ran.0 in
+            let gives = did.0 in
+            record {
+              was_inside = inside;
+              inside = ran.1.mode;
+              was_open = ran.1.was_open;
+              is_open = ran.1.is_open;
+              tables = record { schema = gives.0; holds = held_again new.now.trees entries gives.1 };
+              lives_are = ap lives_in (entries_are new.now.trees entries gives.1) ∙ did.1;
+              sound = gives.2;
+              committed = ran.1.committed_is;
+            }
+      ] over h
+
+  -- a statement that makes a table
+  pub makes_by : (before after : Schema) (Also : Type 0) → ShowsSchema before old → ((count : ℕ) → old.now.schema ≡ before → Executes text params old new (Ok count) → (new.now.schema ≡ after) × Also)
+      → (IsTrue old.in_transaction → ExecutesInside 0 text params old new result) → OnOk result (Makes old new after × Also)
+  makes_by before after Also has does h =
+      elim result as (λ r. IsOver old r why → (IsTrue old.in_transaction → ExecutesInside 0 text params old new r) → OnOk r (Makes old new after × Also)) [
+        | Err e ↦ λ _ _. tt
+        | Ok count ↦ λ ended run.
+            let inside = was_inside old count why ended in
+            let ran = run inside in
+            let did = does count (has (clean_before old new _ survives clean) ran.1.was_open) ran.0 in
+            (record { was_inside = inside; inside = ran.1.mode; was_open = ran.1.was_open; is_open = ran.1.is_open; schema_is = did.0; committed = ran.1.committed_is }, did.1)
+      ] over h
+
+-- what a commit may leave, where its transaction took these steps
+pub committed_lives : (old new : State) (lives : Lives) (db : Trees) → Steps old new lives → db ≡ new.now.trees → HoldsLives lives db
+committed_lives old new lives db steps is = subst (HoldsLives lives) (sym is) (record {
+  sound = subst (λ s. IsDatabase (record { schema = s; trees = new.now.trees })) steps.tables.schema steps.sound;
+  holds = steps.tables.holds;
+  lives_are = steps.lives_are;
+})
+
+pub tables_along : (a b : Database) → b ≡ a → HasTables a → HasTables b
+tables_along a b is tables = subst HasTables (sym is) tables
+
+abbrev pub IsKept : State → Type 0
+IsKept new = HasTables new.now × IsLives (stored new) × (new.now ≡ new.committed)
+
+-- the two ways that a commit ends
+pub ready_of : (new : State) (r : Result (Unit {0}) Error) → new.in_transaction ≡ false → (HasCleanDisk new → IsTrue new.is_open → OnOk r (IsKept new)) → (HasCleanDisk new → IsTrue new.is_open → OnErr r (IsKept new)) → IsReady new
+ready_of new (Ok _) ended ok err = record { autocommit = ended; tables = λ clean live. (ok clean live).0; lives = λ clean live. (ok clean live).1; committed = λ clean live. (ok clean live).2 }
+ready_of new (Err _) ended ok err = record { autocommit = ended; tables = λ clean live. (err clean live).0; lives = λ clean live. (err clean live).1; committed = λ clean live. (err clean live).2 }
+
+-- after a rollback
+pub ready_back : (new : State) → new.in_transaction ≡ false → (HasCleanDisk new → IsTrue new.is_open → IsKept new) → IsReady new
+ready_back new ended undone = record { autocommit = ended; tables = λ clean live. (undone clean live).0; lives = λ clean live. (undone clean live).1; committed = λ clean live. (undone clean live).2 }

@@ -1,0 +1,131 @@
+-- What the texts of the statements mean.
+use Rattle.std.proofs.Common.{◌≡◌, ℕ, pos, negsuc, List, [], ◌∷◌, codes, false, Ok, refl}
+use Rattle.sqlite.specs.declared.types.Value.TheVariants.{Null, Int}
+use Rattle.sqlite.specs.Query.{Query}
+use Rattle.sqlite.specs.Term.{Term, lit, col}
+use Rattle.sqlite.specs.Source.TheVariants.{Values}
+use Rattle.sqlite.specs.Command.TheVariants.{Insert, Select, Update, CreateTable}
+use Rattle.sqlite.specs.Compile.{table_defined_by}
+use Rattle.sqlite_sql.specs.Term.{op2}
+use Rattle.sqlite_sql.specs.declared.ops.BinaryOp.TheVariants.{Compare}
+use Rattle.sqlite_sql.specs.declared.ops.CompareOp.TheVariants.{Eq, Gt}
+use Rattle.sqlite_value.specs.declared.keys.Collation.TheVariants.{Binary}
+use Rattle.sqlite_value.specs.declared.keys.Key.{Key}
+use Rattle.sqlite_value.specs.Keys.{ascending}
+use Rattle.sqlite_tied.specs.Compute.{everything}
+use Rattle.sqlite.specs.Listing.{understood, reads_listing}
+use Rattle.sqlite.proofs.Callers.{IsPlain, command_of, statement_of}
+use Rattle.osb_records.specs.Tables.{format_table, no_schema, format_schema, record_schema, plain_table, order_columns}
+use Rattle.osb_records.proofs.AnswerLemmas.{over}
+use Rattle.sqlite.specs.Change.{created}
+use Rattle.sqlite.specs.Table.{Table}
+
+-- no LIMIT
+abbrev pub every : Term
+every = lit (Int (negsuc 0))
+
+-- the column has the value of the parameter
+abbrev pub is_at : ℕ → ℕ → Term
+is_at place param = op2 (Compare Eq Binary) (col 1 place) (col 0 param)
+
+-- ---- the tables
+
+abbrev pub create_format : List ℕ
+create_format = codes "CREATE TABLE format (version INTEGER NOT NULL) STRICT"
+
+pub create_format_is : (command_of (understood no_schema create_format) ≡ CreateTable) × (statement_of create_format (understood no_schema create_format) ≡ create_format) × (table_defined_by create_format ≡ Ok format_table)
+unfolding understood everything
+create_format_is = (refl, refl, refl)
+
+pub create_format_plain : IsPlain (understood no_schema create_format)
+unfolding understood everything
+create_format_plain = (refl, refl)
+
+-- the table of orders as its text has it, before it has a tree
+abbrev pub orders_made : Table
+orders_made = plain_table (codes "orders") 0 order_columns (1 ∷ 2 ∷ []) ((1 ∷ 2 ∷ []) ∷ [])
+
+abbrev pub create_orders : List ℕ
+create_orders = codes "CREATE TABLE orders (instance_id TEXT NOT NULL, seq INTEGER NOT NULL, kind INTEGER NOT NULL, binding_id TEXT NOT NULL, service_id TEXT NOT NULL, plan_id TEXT NOT NULL, place TEXT NOT NULL, spot TEXT NOT NULL, params TEXT NOT NULL, maint TEXT NOT NULL, state INTEGER NOT NULL, note TEXT NOT NULL, credentials TEXT NOT NULL, PRIMARY KEY (instance_id, seq)) STRICT"
+
+pub create_orders_is : (command_of (understood format_schema create_orders) ≡ CreateTable) × (statement_of create_orders (understood format_schema create_orders) ≡ create_orders) × (table_defined_by create_orders ≡ Ok orders_made)
+unfolding understood everything
+create_orders_is = (refl, refl, refl)
+
+pub create_orders_plain : IsPlain (understood format_schema create_orders)
+unfolding understood everything
+create_orders_plain = (refl, refl)
+
+pub orders_placed : created format_schema orders_made ≡ record_schema
+unfolding everything
+orders_placed = refl
+
+abbrev pub insert_version : List ℕ
+insert_version = codes "INSERT INTO format (version) VALUES (1)"
+
+abbrev pub insert_version_terms : List Term
+insert_version_terms = lit Null ∷ lit (Int (pos 1)) ∷ []
+
+pub insert_version_is : (command_of (understood record_schema insert_version) ≡ Insert 0 (Values insert_version_terms 2)) × IsPlain (understood record_schema insert_version)
+unfolding understood everything
+insert_version_is = (refl, (refl, refl))
+
+-- ---- changes
+
+abbrev pub insert_order : List ℕ
+insert_order = codes "INSERT INTO orders (instance_id, seq, kind, binding_id, service_id, plan_id, place, spot, params, maint, state, note, credentials) VALUES (?1, ?2, ?3, ?4, ?5, ?6, ?7, ?8, ?9, ?10, ?11, ?12, ?13)"
+
+abbrev pub insert_order_terms : List Term
+insert_order_terms = lit Null ∷ col 0 0 ∷ col 0 1 ∷ col 0 2 ∷ col 0 3 ∷ col 0 4 ∷ col 0 5 ∷ col 0 6 ∷ col 0 7 ∷ col 0 8 ∷ col 0 9 ∷ col 0 10 ∷ col 0 11 ∷ col 0 12 ∷ []
+
+pub insert_order_is : (command_of (understood record_schema insert_order) ≡ Insert 1 (Values insert_order_terms 14)) × IsPlain (understood record_schema insert_order)
+unfolding understood everything
+insert_order_is = (refl, (refl, refl))
+
+abbrev pub finish_order : List ℕ
+finish_order = codes "UPDATE orders SET state = ?3, note = ?4, credentials = ?5 WHERE instance_id = ?1 AND seq = ?2"
+
+-- what an ended order keeps, and what it gets
+abbrev pub finished_cells : List Term
+finished_cells = col 1 1 ∷ col 1 2 ∷ col 1 3 ∷ col 1 4 ∷ col 1 5 ∷ col 1 6 ∷ col 1 7 ∷ col 1 8 ∷ col 1 9 ∷ col 1 10 ∷ col 0 2 ∷ col 0 3 ∷ col 0 4 ∷ []
+
+abbrev pub finish_query : Query
+finish_query = over 1 (is_at 1 0 ∷ is_at 2 1 ∷ []) (col 1 0 ∷ col 1 0 ∷ finished_cells) [] every
+
+pub finish_order_is : (command_of (understood record_schema finish_order) ≡ Update 1 (record { lets = []; body = finish_query })) × IsPlain (understood record_schema finish_order)
+unfolding understood everything
+finish_order_is = (refl, (refl, refl))
+
+-- ---- queries
+
+abbrev pub all_cells : List Term
+all_cells = col 1 1 ∷ col 1 2 ∷ col 1 3 ∷ col 1 4 ∷ col 1 5 ∷ col 1 6 ∷ col 1 7 ∷ col 1 8 ∷ col 1 9 ∷ col 1 10 ∷ col 1 11 ∷ col 1 12 ∷ col 1 13 ∷ []
+
+abbrev pub all_names : List (List ℕ)
+all_names = codes "instance_id" ∷ codes "seq" ∷ codes "kind" ∷ codes "binding_id" ∷ codes "service_id" ∷ codes "plan_id" ∷ codes "place" ∷ codes "spot" ∷ codes "params" ∷ codes "maint" ∷ codes "state" ∷ codes "note" ∷ codes "credentials" ∷ []
+
+abbrev pub by_key : List (Term × Key)
+by_key = (col 1 1, ascending Binary) ∷ (col 1 2, ascending Binary) ∷ []
+
+abbrev pub select_life : List ℕ
+select_life = codes "SELECT instance_id, seq, kind, binding_id, service_id, plan_id, place, spot, params, maint, state, note, credentials FROM orders WHERE instance_id = ?1 ORDER BY instance_id, seq"
+
+abbrev pub life_query : Query
+life_query = over 1 (is_at 1 0 ∷ []) all_cells by_key every
+
+pub select_life_is : (command_of (understood record_schema select_life) ≡ Select (record { lets = []; body = life_query }) all_names) × (reads_listing record_schema select_life ≡ false) × IsPlain (understood record_schema select_life)
+unfolding understood everything
+select_life_is = (refl, refl, (refl, refl))
+
+abbrev pub select_running : List ℕ
+select_running = codes "SELECT instance_id, seq, kind, binding_id, service_id, plan_id, place, spot, params, maint, state, note, credentials FROM orders WHERE state = 0 AND instance_id > ?1 ORDER BY instance_id, seq LIMIT ?2"
+
+abbrev pub running_tests : List Term
+running_tests = op2 (Compare Eq Binary) (col 1 11) (lit (Int (pos 0))) ∷ op2 (Compare Gt Binary) (col 1 1) (col 0 0) ∷ []
+
+abbrev pub running_query : Query
+running_query = over 1 running_tests all_cells by_key (col 0 1)
+
+pub select_running_is : (command_of (understood record_schema select_running) ≡ Select (record { lets = []; body = running_query }) all_names) × (reads_listing record_schema select_running ≡ false) × IsPlain (understood record_schema select_running)
+unfolding understood everything
+select_running_is = (refl, refl, (refl, refl))

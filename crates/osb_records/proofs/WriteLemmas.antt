@@ -1,0 +1,65 @@
+-- What the statements do to the lives.
+use Rattle.std.proofs.Common.{◌≡◌, ◌≢◌, ℕ, pos, List, [], ◌∷◌, true, false, true≢false, Ok, Err, Result, OnOk, IsTrue, ◌<◌, refl, sym, subst}
+use Rattle.std.specs.List.{AllByRecursion}
+use Rattle.std.specs.FinMap.{empty, get-empty}
+use Rattle.std.specs.Prelude.{IfSome}
+use Rattle.std.specs.Ordering.{nat_cmp}
+use Rattle.std.specs.Cmp.Lexicographic.{slice_cmp}
+use Rattle.sqlite.specs.declared.types.Value.{Value}
+use Rattle.sqlite.specs.declared.types.Value.TheVariants.{Int, Text}
+use Rattle.sqlite.specs.declared.error.Error.{Error}
+use Rattle.sqlite.specs.State.{State, HasCleanDisk, Executes}
+use Rattle.sqlite_keyed.specs.Lists.{insert_sorted, update_where}
+use Rattle.osb_orders.specs.declared.order.Outcome.{Outcome}
+use Rattle.osb_orders.specs.declared.order.Order.{Order}
+use Rattle.osb_orders.specs.declared.order.Change.TheVariants.{Append, Finish}
+use Rattle.osb_orders.specs.Orders.{kind_number, state_number}
+use Rattle.osb_orders.specs.Life.{Life}
+use Rattle.osb_orders.specs.Lives.{life_of}
+use Rattle.osb_orders.specs.Changed.{lives_changed}
+use Rattle.osb_orders.specs.IsLife.{IsLives, IsInstance, ends_running}
+use Rattle.osb_orders.specs.Allowed.{IsFinishable}
+use Rattle.osb_records.specs.Stored.{Entry, entry_row, entry_cmp, is_keyed, entries_in, lives_in}
+use Rattle.osb_records.specs.Steps.{HasTables, IsReady, stored}
+use Rattle.osb_records.proofs.Texts.{insert_order, finish_order}
+use Rattle.osb_records.proofs.TestLemmas.{entry_ended}
+use Rattle.osb_records.proofs.ChangeLemmas.{Gives, adds_order, ends_order}
+use Rattle.osb_records.proofs.LivesLemmas.{life_of_lives, numbered, append_above, entries_below, key_new, append_lives, end_lives}
+
+pub no_lives : IsLives empty
+no_lives id = subst (λ found. IfSome found (IsInstance id)) (sym (get-empty (slice_cmp nat_cmp) id)) tt
+
+-- the tables that were made are ready
+pub made_ready : (new : State) (r : Result (Unit {0}) Error) → new.in_transaction ≡ false → (HasCleanDisk new → IsTrue new.is_open → OnOk r (HasTables new.now × (stored new ≡ empty) × (new.now ≡ new.committed))) → OnOk r (IsReady new)
+made_ready new (Ok _) ended made = record {
+  autocommit = ended;
+  tables = λ clean live. (made clean live).0;
+  lives = λ clean live. subst IsLives (sym (made clean live).1) no_lives;
+  committed = λ clean live. (made clean live).2;
+}
+made_ready new (Err _) ended made = tt
+
+runs_not_empty : (life : Life) → ends_running life ≡ true → life ≢ []
+runs_not_empty life runs none = absurd (true≢false (sym (subst (λ l. ends_running l ≡ true) none runs)))
+
+module _ (old new : State) (count : ℕ) (tables : HasTables old.now) (id : List ℕ) where
+  abbrev entries : List Entry
+  entries = entries_in old.now.trees
+
+  pub appends : (order : Order) → IsLives (lives_changed (Append order) id (stored old)) → Executes insert_order (entry_row (id, order)) old new (Ok count)
+      → Gives new (insert_sorted entry_cmp (id, order) entries) × (lives_in (insert_sorted entry_cmp (id, order) entries) ≡ lives_changed (Append order) id (stored old))
+  appends order whole h =
+      let above = entries_below id order entries (subst (AllByRecursion (λ (other : Order). other.number < order.number)) (life_of_lives id entries) (append_above (stored old) id order whole)) in
+      (adds_order old new count tables.schema entries tables.holds (id, order) (key_new id order entries above) h, append_lives id order entries tables.holds.orders.rising above)
+
+  pub finishes : (number : ℕ) (outcome : Outcome) → IsLives (stored old) → IsFinishable (life_of (stored old) id) number outcome
+      → Executes finish_order (Text id ∷ Int (pos number) ∷ Int (pos (state_number outcome.state)) ∷ Text outcome.description ∷ Text outcome.credentials ∷ []) old new (Ok count)
+      → Gives new (update_where (is_keyed id number) (entry_ended outcome) entries) × (lives_in (update_where (is_keyed id number) (entry_ended outcome) entries) ≡ lives_changed (Finish number outcome) id (stored old))
+  finishes number outcome whole may h =
+      (ends_order old new count tables.schema entries tables.holds id number outcome h, end_lives id number outcome entries (numbered (stored old) id whole) may.last (runs_not_empty _ may.runs))
+
+-- the parameters that show an entry
+pub entry_params : (entry : Entry) {a b c d e f g h i j k l m : Value}
+    → a ≡ Text entry.0 → b ≡ Int (pos entry.1.number) → c ≡ Int (pos (kind_number entry.1.kind)) → d ≡ Text entry.1.binding → e ≡ Text entry.1.attributes.service → f ≡ Text entry.1.attributes.plan → g ≡ Text entry.1.attributes.place → h ≡ Text entry.1.attributes.spot → i ≡ Text entry.1.attributes.parameters → j ≡ Text entry.1.attributes.maintenance → k ≡ Int (pos (state_number entry.1.outcome.state)) → l ≡ Text entry.1.outcome.description → m ≡ Text entry.1.outcome.credentials
+    → a ∷ b ∷ c ∷ d ∷ e ∷ f ∷ g ∷ h ∷ i ∷ j ∷ k ∷ l ∷ m ∷ [] ≡ entry_row entry
+entry_params entry is-a is-b is-c is-d is-e is-f is-g is-h is-i is-j is-k is-l is-m = rw (is-a, is-b, is-c, is-d, is-e, is-f, is-g, is-h, is-i, is-j, is-k, is-l, is-m) refl

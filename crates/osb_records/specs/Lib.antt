@@ -1,0 +1,5 @@
+pub mod Rows
+pub mod Tables
+pub mod Stored
+pub mod Steps
+pub mod Commit

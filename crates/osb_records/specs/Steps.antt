@@ -1,0 +1,69 @@
+-- What a connection shows of the orders, and what calls do to it.
+use Rattle.std.specs.Prelude.{◌≡◌, false, IsTrue}
+use Rattle.sqlite.specs.Tree.{Trees}
+use Rattle.sqlite.specs.Schema.{Schema}
+use Rattle.sqlite.specs.Effect.{Database, IsDatabase}
+use Rattle.sqlite.specs.State.{State, HasCleanDisk}
+use Rattle.osb_orders.specs.Lives.{Lives}
+use Rattle.osb_orders.specs.IsLife.{IsLives}
+use Rattle.osb_records.specs.Tables.{record_schema}
+use Rattle.osb_records.specs.Stored.{Holds, entries_in, lives_stored}
+
+-- the lives that a connection shows
+abbrev pub stored : State → Lives
+stored s = lives_stored s.now.trees
+
+-- the database has the tables, and they hold entries
+pub record HasTables (db : Database) : Type 0 where
+  pub schema : db.schema ≡ record_schema
+  pub holds : Holds (entries_in db.trees) db.trees
+
+-- a clean connection that is open has the tables
+abbrev pub ShowsTables : State → Type 0
+ShowsTables s = HasCleanDisk s → IsTrue s.is_open → HasTables s.now
+
+-- a clean connection that is open has this schema
+abbrev pub ShowsSchema : Schema → State → Type 0
+ShowsSchema schema s = HasCleanDisk s → IsTrue s.is_open → s.now.schema ≡ schema
+
+-- the trees are a database of the tables, and these lives stand there
+pub record HoldsLives (lives : Lives) (db : Trees) : Type 0 where
+  pub sound : IsDatabase (record { schema = record_schema; trees = db })
+  pub holds : Holds (entries_in db) db
+  pub lives_are : lives_stored db ≡ lives
+
+-- No transaction is open, and everything is committed.
+pub record IsSettled (s : State) : Type 0 where
+  pub autocommit : s.in_transaction ≡ false
+  pub committed : HasCleanDisk s → IsTrue s.is_open → s.now ≡ s.committed
+
+-- No transaction is open, the tables are there with well-formed lives, and everything is committed.
+pub record IsReady (s : State) : Type 0 where
+  pub autocommit : s.in_transaction ≡ false
+  pub tables : ShowsTables s
+  pub lives : HasCleanDisk s → IsTrue s.is_open → IsLives (stored s)
+  pub committed : HasCleanDisk s → IsTrue s.is_open → s.now ≡ s.committed
+
+-- Inside a transaction the lives have become these. Nothing is committed.
+pub record Steps (old new : State) (lives : Lives) : Type 0 where
+  pub was_inside : IsTrue old.in_transaction
+  pub inside : IsTrue new.in_transaction
+  pub was_open : IsTrue old.is_open
+  pub is_open : IsTrue new.is_open
+  pub tables : HasTables new.now
+  pub lives_are : stored new ≡ lives
+  pub sound : IsDatabase new.now
+  pub committed : new.committed ≡ old.committed
+
+-- Inside a transaction the schema has become this one. Nothing is committed.
+pub record Makes (old new : State) (schema : Schema) : Type 0 where
+  pub was_inside : IsTrue old.in_transaction
+  pub inside : IsTrue new.in_transaction
+  pub was_open : IsTrue old.is_open
+  pub is_open : IsTrue new.is_open
+  pub schema_is : new.now.schema ≡ schema
+  pub committed : new.committed ≡ old.committed
+
+-- a crash leaves these lives and nothing else
+abbrev pub LeavesOnly : State → Lives → Type 0
+LeavesOnly s lives = (db : Trees) → s.may_leave db → lives_stored db ≡ lives

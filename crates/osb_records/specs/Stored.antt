@@ -1,0 +1,140 @@
+-- The orders in the tables, and the lives that they make up.
+use Rattle.std.specs.Prelude.{Bool, ◌&&◌, ◌==◌, if◌then◌else◌, ℕ, pos, List, [], ◌∷◌, map, bytes_eq}
+use Rattle.std.specs.declared.cmp.Ordering.{Ordering}
+use Rattle.std.specs.Ordering.{nat_cmp, ordering_then}
+use Rattle.std.specs.Cmp.Lexicographic.{slice_cmp}
+use Rattle.std.specs.FinMap.{empty, insert}
+use Rattle.sqlite.specs.declared.types.Value.{Value}
+use Rattle.sqlite.specs.declared.types.Value.TheVariants.{Int, Text as Words}
+use Rattle.sqlite.specs.Order.{Row, column, bytes}
+use Rattle.sqlite.specs.Tree.{Trees}
+use Rattle.sqlite_keyed.specs.Lists.{sort_by}
+use Rattle.osb_orders.specs.declared.order.OrderKind.{OrderKind}
+use Rattle.osb_orders.specs.declared.order.OrderKind.TheVariants.{Create, Update, Delete, Bind, Unbind}
+use Rattle.osb_orders.specs.declared.order.OrderState.{OrderState}
+use Rattle.osb_orders.specs.declared.order.OrderState.TheVariants.{Running, Succeeded, Failed}
+use Rattle.osb_orders.specs.declared.order.Order.{Order}
+use Rattle.osb_orders.specs.Orders.{kind_number, state_number}
+use Rattle.osb_orders.specs.Lives.{Lives, life_of}
+use Rattle.osb_records.specs.Rows.{Stores}
+
+-- an order with the id of its instance
+abbrev pub Entry : Type 0
+Entry = List ℕ × Order
+
+-- by the ids' bytes, and for one instance by number
+abbrev pub entry_cmp : Entry → Entry → Ordering
+entry_cmp a b = ordering_then (slice_cmp nat_cmp a.0 b.0) (nat_cmp a.1.number b.1.number)
+
+-- ---- rows
+
+-- what the columns of an entry hold
+abbrev pub entry_row : Entry → Row
+entry_row entry =
+    Words entry.0
+    ∷ Int (pos entry.1.number)
+    ∷ Int (pos (kind_number entry.1.kind))
+    ∷ Words entry.1.binding
+    ∷ Words entry.1.attributes.service
+    ∷ Words entry.1.attributes.plan
+    ∷ Words entry.1.attributes.place
+    ∷ Words entry.1.attributes.spot
+    ∷ Words entry.1.attributes.parameters
+    ∷ Words entry.1.attributes.maintenance
+    ∷ Int (pos (state_number entry.1.outcome.state))
+    ∷ Words entry.1.outcome.description
+    ∷ Words entry.1.outcome.credentials
+    ∷ []
+
+abbrev pub number_in : Value → ℕ
+number_in (Int (pos n)) = n
+number_in _ = 0
+
+abbrev pub kind_numbered : ℕ → OrderKind
+kind_numbered number =
+    if number == 1 then Create
+    else if number == 2 then Update
+    else if number == 3 then Delete
+    else if number == 4 then Bind
+    else Unbind
+
+abbrev pub state_numbered : ℕ → OrderState
+state_numbered number = if number == 0 then Running else if number == 1 then Succeeded else Failed
+
+-- the order that columns hold
+abbrev pub order_told : Row → Order
+order_told row = record {
+  number = number_in (column row 1);
+  kind = kind_numbered (number_in (column row 2));
+  binding = bytes (column row 3);
+  attributes = record {
+    service = bytes (column row 4);
+    plan = bytes (column row 5);
+    place = bytes (column row 6);
+    spot = bytes (column row 7);
+    parameters = bytes (column row 8);
+    maintenance = bytes (column row 9);
+  };
+  outcome = record {
+    state = state_numbered (number_in (column row 10));
+    description = bytes (column row 11);
+    credentials = bytes (column row 12);
+  };
+}
+
+-- with the id of its instance
+abbrev pub entry_told : Row → Entry
+entry_told row = (bytes (column row 0), order_told row)
+
+-- the columns of a stored row, which has its rowid first
+abbrev pub order_cells : Row → Row
+order_cells row =
+    column row 1
+    ∷ column row 2
+    ∷ column row 3
+    ∷ column row 4
+    ∷ column row 5
+    ∷ column row 6
+    ∷ column row 7
+    ∷ column row 8
+    ∷ column row 9
+    ∷ column row 10
+    ∷ column row 11
+    ∷ column row 12
+    ∷ column row 13
+    ∷ []
+
+abbrev pub version_row : ℕ → Row
+version_row version = Int (pos version) ∷ []
+
+abbrev pub version_cells : Row → Row
+version_cells row = column row 1 ∷ []
+
+-- ---- trees
+
+-- the tables hold format version 1 and these entries
+pub record Holds (entries : List Entry) (db : Trees) : Type 0 where
+  pub format : Stores version_cells version_row nat_cmp (db 0) (1 ∷ [])
+  pub orders : Stores order_cells entry_row entry_cmp (db 1) entries
+
+-- the entries in the order of their keys, whatever the order of the rows
+abbrev pub entries_in : Trees → List Entry
+entries_in db = sort_by entry_cmp (map entry_told (map order_cells (db 1)))
+
+-- ---- lives
+
+-- each order stands before the later ones of its instance
+abbrev pub lives_in : List Entry → Lives
+lives_in [] = empty
+lives_in (entry ∷ entries) = insert (lives_in entries) entry.0 (entry.1 ∷ life_of (lives_in entries) entry.0)
+
+abbrev pub lives_stored : Trees → Lives
+lives_stored db = lives_in (entries_in db)
+
+-- the entry is of the instance
+abbrev pub is_of : List ℕ → Entry → Bool
+is_of id entry = bytes_eq entry.0 id
+
+-- the entry has this key
+abbrev pub is_keyed : List ℕ → ℕ → Entry → Bool
+is_keyed id number entry = bytes_eq entry.0 id && (entry.1.number == number)

@@ -1,0 +1,69 @@
+-- The tables of the database.
+use Rattle.std.specs.Prelude.{true, false, [], ◌∷◌, List, ℕ, None, map, codes}
+use Rattle.sqlite.specs.Collation.TheVariants.{Binary}
+use Rattle.sqlite.specs.declared.types.Value.TheVariants.{Null}
+use Rattle.sqlite.specs.Table.{Table}
+use Rattle.sqlite.specs.Schema.{Schema}
+use Rattle.sqlite.specs.Change.{created}
+use Rattle.sqlite.specs.Kind.TheVariants.{Integer, Text}
+use Rattle.sqlite_schema.specs.declared.schema.Column.{Column}
+
+-- a column of texts, ordered by their bytes
+abbrev pub text_column : List ℕ → Column
+text_column name = record { name = name; kind = Text; is_strict = true; not_null = true; default = Null; collation = Binary }
+
+abbrev pub number_column : List ℕ → Column
+number_column name = record { name = name; kind = Integer; is_strict = true; not_null = true; default = Null; collation = Binary }
+
+-- a table with these columns and the key of those places, if any, and no rule besides
+abbrev pub plain_table : List ℕ → ℕ → List Column → List ℕ → List (List ℕ) → Table
+plain_table name tree columns primary uniques = record {
+  name = name;
+  tree = tree;
+  columns = columns;
+  key = None;
+  primary = primary;
+  uniques = uniques;
+  orders = map (λ _. record { digits = 0 }) uniques;
+  checks = [];
+  references = [];
+  computed = [];
+  stamps = record { places = []; terms = []; formats = [] };
+  is_counted = false;
+}
+
+abbrev pub format_columns : List Column
+format_columns = number_column (codes "version") ∷ []
+
+abbrev pub order_columns : List Column
+order_columns =
+    text_column (codes "instance_id")
+    ∷ number_column (codes "seq")
+    ∷ number_column (codes "kind")
+    ∷ text_column (codes "binding_id")
+    ∷ text_column (codes "service_id")
+    ∷ text_column (codes "plan_id")
+    ∷ text_column (codes "place")
+    ∷ text_column (codes "spot")
+    ∷ text_column (codes "params")
+    ∷ text_column (codes "maint")
+    ∷ number_column (codes "state")
+    ∷ text_column (codes "note")
+    ∷ text_column (codes "credentials")
+    ∷ []
+
+abbrev pub format_table : Table
+format_table = plain_table (codes "format") 0 format_columns [] []
+
+-- its key is the instance and the number of the order
+abbrev pub orders_table : Table
+orders_table = plain_table (codes "orders") 1 order_columns (1 ∷ 2 ∷ []) ((1 ∷ 2 ∷ []) ∷ [])
+
+abbrev pub no_schema : Schema
+no_schema = record { tables = []; indexes = []; views = [] }
+
+abbrev pub format_schema : Schema
+format_schema = created no_schema format_table
+
+abbrev pub record_schema : Schema
+record_schema = created format_schema orders_table

@@ -1,0 +1,57 @@
+//! Changes of a life, each one transaction.
+
+ghost use Rattle.std.specs.Prelude.{◌≡◌, IsTrue, OnOk, OnErr};
+ghost use Rattle.sqlite.specs.Held.{state};
+ghost use Rattle.sqlite.specs.State.{HasCleanDisk, Survives};
+ghost use Rattle.osb_orders.specs.declared.order.Change.TheVariants.{Append, Finish};
+ghost use Rattle.osb_orders.specs.Lives.{life_of};
+ghost use Rattle.osb_orders.specs.Changed.{lives_changed};
+ghost use Rattle.osb_orders.specs.IsLife.{IsLives};
+ghost use Rattle.osb_orders.specs.Allowed.{IsFinishable};
+ghost use Rattle.osb_records.specs.Steps.{HoldsLives, IsReady, LeavesOnly, stored};
+
+use crate::statements::{finish_order, insert_order};
+use osb_orders::{Order, Outcome};
+use sqlite::{Alter, Connection, Error};
+
+/// One order more for the instance.
+#[tactic(auto, using(crate::proofs::StepLemmas::committed_lives))]
+pub(crate) fn append<S: Alter>(
+    conn: &mut Connection<S>,
+    instance: &str,
+    order: &Order,
+) -> Result<(), Error>
+    requires ready { IsReady (state S.Store conn.old) }
+    requires whole { HasCleanDisk (state S.Store conn.old) → IsTrue (state S.Store conn.old).is_open → IsLives (lives_changed (Append order.now) instance.now (stored (state S.Store conn.old))) }
+    ensures ready { IsReady (state S.Store conn.new) }
+    ensures ok { HasCleanDisk (state S.Store conn.new) → OnOk result (stored (state S.Store conn.new) ≡ lives_changed (Append order.now) instance.now (stored (state S.Store conn.old))) }
+    ensures err { HasCleanDisk (state S.Store conn.new) → IsTrue (state S.Store conn.new).is_open → OnErr result (stored (state S.Store conn.new) ≡ stored (state S.Store conn.old)) }
+    ensures crash { Survives (state S.Store conn.old) (state S.Store conn.new) (HoldsLives (lives_changed (Append order.now) instance.now (stored (state S.Store conn.old)))) }
+    ensures durable { HasCleanDisk (state S.Store conn.new) → IsTrue (state S.Store conn.new).is_open → OnOk result (LeavesOnly (state S.Store conn.new) (stored (state S.Store conn.new))) }
+{
+    let mut tx = conn.transaction();
+    insert_order(&mut tx, instance, order)?;
+    tx.commit()
+}
+
+/// The end of the running last order of the instance.
+#[tactic(auto, using(crate::proofs::StepLemmas::committed_lives))]
+pub(crate) fn finish<S: Alter>(
+    conn: &mut Connection<S>,
+    instance: &str,
+    number: u32,
+    outcome: &Outcome,
+) -> Result<(), Error>
+    requires ready { IsReady (state S.Store conn.old) }
+    requires whole { HasCleanDisk (state S.Store conn.old) → IsTrue (state S.Store conn.old).is_open → IsLives (lives_changed (Finish number outcome.now) instance.now (stored (state S.Store conn.old))) }
+    requires last { HasCleanDisk (state S.Store conn.old) → IsTrue (state S.Store conn.old).is_open → IsFinishable (life_of (stored (state S.Store conn.old)) instance.now) number outcome.now }
+    ensures ready { IsReady (state S.Store conn.new) }
+    ensures ok { HasCleanDisk (state S.Store conn.new) → OnOk result (stored (state S.Store conn.new) ≡ lives_changed (Finish number outcome.now) instance.now (stored (state S.Store conn.old))) }
+    ensures err { HasCleanDisk (state S.Store conn.new) → IsTrue (state S.Store conn.new).is_open → OnErr result (stored (state S.Store conn.new) ≡ stored (state S.Store conn.old)) }
+    ensures crash { Survives (state S.Store conn.old) (state S.Store conn.new) (HoldsLives (lives_changed (Finish number outcome.now) instance.now (stored (state S.Store conn.old)))) }
+    ensures durable { HasCleanDisk (state S.Store conn.new) → IsTrue (state S.Store conn.new).is_open → OnOk result (LeavesOnly (state S.Store conn.new) (stored (state S.Store conn.new))) }
+{
+    let mut tx = conn.transaction();
+    finish_order(&mut tx, instance, number, outcome)?;
+    tx.commit()
+}

@@ -1,0 +1,17 @@
+//! The orders of all instances in a SQL database.
+#![tactic(auto)]
+
+mod commits;
+mod fault;
+pub mod memory;
+mod reading;
+mod records;
+mod row;
+mod statements;
+mod tables;
+
+pub use fault::StoreFault;
+pub use records::{Records, open_memory};
+
+#[cfg(test)]
+mod tests;

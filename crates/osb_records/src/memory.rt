@@ -1,0 +1,57 @@
+//! The records in memory, where no disk fails and the store stays open.
+
+ghost use Rattle.std.specs.Prelude.{◌≡◌, IfOk, OnOk, OnErr};
+ghost use Rattle.sqlite.specs.Held.{state};
+ghost use Rattle.sqlite.specs.Steps.{over_memory};
+ghost use Rattle.osb_orders.specs.Lives.{life_of};
+ghost use Rattle.osb_orders.specs.Listing.{listing};
+ghost use Rattle.osb_orders.specs.Changed.{lives_changed};
+ghost use Rattle.osb_orders.specs.IsLife.{IsLives};
+ghost use Rattle.osb_records.specs.Steps.{stored};
+ghost use Rattle.osb_records.specs.Commit.{FinishesLast};
+
+use crate::fault::StoreFault;
+use crate::records::Records;
+use osb_orders::{Change, Order};
+use osb_text::Text;
+use sqlite::MemStore;
+use std::alloc::Global;
+
+/// As `Records::life`.
+pub fn life(
+    records: &mut Records<MemStore>,
+    alloc: Global,
+    instance: &str,
+) -> Result<Vec<Order>, StoreFault>
+    ensures ok { IfOk result (λ life. life.items ≡ life_of (stored (state over_memory records.old)) instance.now) }
+    ensures same { stored (state over_memory records.new) ≡ stored (state over_memory records.old) }
+{
+    records.life(alloc, instance)
+}
+
+/// As `Records::running`.
+pub fn running(
+    records: &mut Records<MemStore>,
+    alloc: Global,
+    after: &str,
+    limit: u32,
+) -> Result<Vec<(Text, Order)>, StoreFault>
+    ensures ok { IfOk result (λ pairs. pairs.items ≡ listing (stored (state over_memory records.old)) after.now limit) }
+    ensures same { stored (state over_memory records.new) ≡ stored (state over_memory records.old) }
+{
+    records.running(alloc, after, limit)
+}
+
+/// As `Records::commit`.
+pub fn commit(
+    records: &mut Records<MemStore>,
+    instance: &str,
+    change: &Change,
+) -> Result<(), StoreFault>
+    requires whole { IsLives (lives_changed change.now instance.now (stored (state over_memory records.old))) }
+    requires finishes { FinishesLast (life_of (stored (state over_memory records.old)) instance.now) change.now }
+    ensures ok { OnOk result (stored (state over_memory records.new) ≡ lives_changed change.now instance.now (stored (state over_memory records.old))) }
+    ensures err { OnErr result (stored (state over_memory records.new) ≡ stored (state over_memory records.old)) }
+{
+    records.commit(instance, change)
+}

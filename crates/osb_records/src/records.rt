@@ -1,0 +1,102 @@
+//! The records of all orders, over any store.
+
+ghost use Rattle.std.specs.Prelude.{◌≡◌, IsTrue, IfOk, OnOk, OnErr};
+ghost use Rattle.std.specs.FinMap.{empty};
+ghost use Rattle.sqlite.specs.Held.{state};
+ghost use Rattle.sqlite.specs.State.{HasCleanDisk, Survives};
+ghost use Rattle.sqlite.specs.Steps.{over_memory};
+ghost use Rattle.osb_orders.specs.Lives.{life_of};
+ghost use Rattle.osb_orders.specs.Listing.{listing};
+ghost use Rattle.osb_orders.specs.Changed.{lives_changed};
+ghost use Rattle.osb_orders.specs.IsLife.{IsLives};
+ghost use Rattle.osb_records.specs.Steps.{HoldsLives, LeavesOnly, stored};
+ghost use Rattle.osb_records.specs.Commit.{FinishesLast};
+
+use crate::commits::{append, finish};
+use crate::fault::StoreFault;
+use crate::reading::{read_life, read_running};
+use crate::row::{entries_in, orders_in};
+use crate::tables::make_tables;
+use osb_orders::{Change, Order};
+use osb_text::Text;
+use sqlite::{Alter, Connection, MemStore};
+use std::alloc::Global;
+use std::marker::Model;
+
+/// The orders of all instances in a database. Contracts see its connection, which shows the lives.
+#[derive(Drop)]
+pub struct Records<S: Alter> {
+    conn: Connection<S>,
+}
+
+impl<S: Alter> Model for Records<S> {
+    ghost use Rattle.sqlite.specs.Held.{Held, held_code, state};
+    ghost use Rattle.osb_records.specs.Steps.{IsReady};
+
+    ghost Value = { Held S };
+
+    ghost coded = { held_code S.code };
+
+    ghost view = { λ records. records.conn };
+
+    ghost invariant = { λ records. IsReady (state S.Store records.conn) };
+}
+
+/// A new database in memory.
+pub fn open_memory(alloc: Global) -> Result<Records<MemStore>, StoreFault>
+    ensures { IfOk result (λ records. stored (state over_memory records) ≡ empty) }
+{
+    let mut conn = Connection::open_in_memory(alloc)?;
+    make_tables(&mut conn)?;
+    Ok(Records { conn })
+}
+
+impl<S: Alter> Records<S> {
+    /// All orders of the instance.
+    #[tactic(auto, using(crate::proofs::ReadLemmas::life_told))]
+    pub fn life(&mut self, alloc: Global, instance: &str) -> Result<Vec<Order>, StoreFault>
+        ensures ok { HasCleanDisk (state S.Store self.new) → IfOk result (λ life. life.items ≡ life_of (stored (state S.Store self.old)) instance.now) }
+        ensures same { HasCleanDisk (state S.Store self.new) → IsTrue (state S.Store self.new).is_open → stored (state S.Store self.new) ≡ stored (state S.Store self.old) }
+        ensures crash { Survives (state S.Store self.old) (state S.Store self.new) (λ _. ⊥) }
+    {
+        let rows = read_life(&mut self.conn, instance)?;
+        orders_in(alloc, &rows)
+    }
+
+    /// The first so many instances whose last order runs and whose id is greater than `after` by
+    /// bytes, in the order of their ids, each with that order.
+    #[tactic(auto, using(crate::proofs::ReadLemmas::listing_rows))]
+    pub fn running(
+        &mut self,
+        alloc: Global,
+        after: &str,
+        limit: u32,
+    ) -> Result<Vec<(Text, Order)>, StoreFault>
+        ensures ok { HasCleanDisk (state S.Store self.new) → IfOk result (λ pairs. pairs.items ≡ listing (stored (state S.Store self.old)) after.now limit) }
+        ensures same { HasCleanDisk (state S.Store self.new) → IsTrue (state S.Store self.new).is_open → stored (state S.Store self.new) ≡ stored (state S.Store self.old) }
+        ensures crash { Survives (state S.Store self.old) (state S.Store self.new) (λ _. ⊥) }
+    {
+        let rows = read_running(&mut self.conn, after, limit)?;
+        entries_in(alloc, &rows)
+    }
+
+    /// Makes the change to the life of the instance, in one transaction. Where the store refuses it,
+    /// nothing is changed; where a failed disk shuts the store, the next opening finds the lives as
+    /// they were or as they would be.
+    pub fn commit(&mut self, instance: &str, change: &Change) -> Result<(), StoreFault>
+        requires whole { HasCleanDisk (state S.Store self.old) → IsTrue (state S.Store self.old).is_open → IsLives (lives_changed change.now instance.now (stored (state S.Store self.old))) }
+        requires finishes { HasCleanDisk (state S.Store self.old) → IsTrue (state S.Store self.old).is_open → FinishesLast (life_of (stored (state S.Store self.old)) instance.now) change.now }
+        ensures ok { HasCleanDisk (state S.Store self.new) → OnOk result (stored (state S.Store self.new) ≡ lives_changed change.now instance.now (stored (state S.Store self.old))) }
+        ensures err { HasCleanDisk (state S.Store self.new) → IsTrue (state S.Store self.new).is_open → OnErr result (stored (state S.Store self.new) ≡ stored (state S.Store self.old)) }
+        ensures crash { Survives (state S.Store self.old) (state S.Store self.new) (HoldsLives (lives_changed change.now instance.now (stored (state S.Store self.old)))) }
+        ensures durable { HasCleanDisk (state S.Store self.new) → IsTrue (state S.Store self.new).is_open → OnOk result (LeavesOnly (state S.Store self.new) (stored (state S.Store self.new))) }
+    {
+        match change {
+            Change::Nothing => Ok(()),
+            Change::Append(order) => Ok(append(&mut self.conn, instance, order)?),
+            Change::Finish(number, outcome) => {
+                Ok(finish(&mut self.conn, instance, *number, outcome)?)
+            }
+        }
+    }
+}

@@ -1,0 +1,66 @@
+//! Making the tables.
+
+ghost use Rattle.std.specs.Prelude.{◌≡◌, [], IsTrue, OnOk, OnErr};
+ghost use Rattle.std.specs.FinMap.{empty};
+ghost use Rattle.sqlite.specs.Held.{state};
+ghost use Rattle.sqlite.specs.State.{HasCleanDisk, KeepsCommit, Survives};
+ghost use Rattle.osb_records.specs.Tables.{no_schema, format_schema, record_schema};
+ghost use Rattle.osb_records.specs.Steps.{ShowsSchema, HoldsLives, IsSettled, IsReady, Steps, Makes, LeavesOnly, stored};
+
+use sqlite::{Alter, Connection, Error, Transaction};
+
+fn create_format<S: Alter>(tx: &mut Transaction<'_, S>) -> Result<usize, Error>
+    requires { ShowsSchema no_schema (state S.Store tx.old.conn.now) }
+    ensures same_reference { tx.new.conn.ghost_name ≡ tx.old.conn.ghost_name }
+    ensures ok { HasCleanDisk (state S.Store tx.new.conn.now) → OnOk result (Makes (state S.Store tx.old.conn.now) (state S.Store tx.new.conn.now) format_schema × ((state S.Store tx.new.conn.now).now.trees 0 ≡ [])) }
+    ensures kept { HasCleanDisk (state S.Store tx.new.conn.now) → IsTrue (state S.Store tx.old.conn.now).in_transaction → KeepsCommit (state S.Store tx.old.conn.now) (state S.Store tx.new.conn.now) }
+    ensures survives { Survives (state S.Store tx.old.conn.now) (state S.Store tx.new.conn.now) (λ _. ⊥) }
+{
+    tx.execute("CREATE TABLE format (version INTEGER NOT NULL) STRICT", &[])
+}
+
+/// Makes the table of orders beside that of the format.
+fn create_orders<S: Alter>(tx: &mut Transaction<'_, S>) -> Result<usize, Error>
+    requires { ShowsSchema format_schema (state S.Store tx.old.conn.now) }
+    ensures same_reference { tx.new.conn.ghost_name ≡ tx.old.conn.ghost_name }
+    ensures ok { HasCleanDisk (state S.Store tx.new.conn.now) → OnOk result (Makes (state S.Store tx.old.conn.now) (state S.Store tx.new.conn.now) record_schema × (((state S.Store tx.new.conn.now).now.trees 1 ≡ []) × ((state S.Store tx.new.conn.now).now.trees 0 ≡ (state S.Store tx.old.conn.now).now.trees 0))) }
+    ensures kept { HasCleanDisk (state S.Store tx.new.conn.now) → IsTrue (state S.Store tx.old.conn.now).in_transaction → KeepsCommit (state S.Store tx.old.conn.now) (state S.Store tx.new.conn.now) }
+    ensures survives { Survives (state S.Store tx.old.conn.now) (state S.Store tx.new.conn.now) (λ _. ⊥) }
+{
+    tx.execute(
+        "CREATE TABLE orders (instance_id TEXT NOT NULL, seq INTEGER NOT NULL, kind INTEGER NOT NULL, binding_id TEXT NOT NULL, service_id TEXT NOT NULL, plan_id TEXT NOT NULL, place TEXT NOT NULL, spot TEXT NOT NULL, params TEXT NOT NULL, maint TEXT NOT NULL, state INTEGER NOT NULL, note TEXT NOT NULL, credentials TEXT NOT NULL, PRIMARY KEY (instance_id, seq)) STRICT",
+        &[],
+    )
+}
+
+/// Writes the version of the format, which makes tables without rows those of no lives.
+fn insert_version<S: Alter>(tx: &mut Transaction<'_, S>) -> Result<usize, Error>
+    requires schema { ShowsSchema record_schema (state S.Store tx.old.conn.now) }
+    requires no_version { HasCleanDisk (state S.Store tx.old.conn.now) → IsTrue (state S.Store tx.old.conn.now).is_open → (state S.Store tx.old.conn.now).now.trees 0 ≡ [] }
+    requires no_order { HasCleanDisk (state S.Store tx.old.conn.now) → IsTrue (state S.Store tx.old.conn.now).is_open → (state S.Store tx.old.conn.now).now.trees 1 ≡ [] }
+    ensures same_reference { tx.new.conn.ghost_name ≡ tx.old.conn.ghost_name }
+    ensures ok { HasCleanDisk (state S.Store tx.new.conn.now) → OnOk result (Steps (state S.Store tx.old.conn.now) (state S.Store tx.new.conn.now) empty) }
+    ensures kept { HasCleanDisk (state S.Store tx.new.conn.now) → IsTrue (state S.Store tx.old.conn.now).in_transaction → KeepsCommit (state S.Store tx.old.conn.now) (state S.Store tx.new.conn.now) }
+    ensures survives { Survives (state S.Store tx.old.conn.now) (state S.Store tx.new.conn.now) (λ _. ⊥) }
+{
+    tx.execute("INSERT INTO format (version) VALUES (1)", &[])
+}
+
+/// Makes the tables in a database that has none: all of them or none.
+#[tactic(auto, using(crate::proofs::StepLemmas::committed_lives))]
+pub(crate) fn make_tables<S: Alter>(conn: &mut Connection<S>) -> Result<(), Error>
+    requires settled { IsSettled (state S.Store conn.old) }
+    requires blank { ShowsSchema no_schema (state S.Store conn.old) }
+    ensures settled { IsSettled (state S.Store conn.new) }
+    ensures ready { OnOk result (IsReady (state S.Store conn.new)) }
+    ensures ok { HasCleanDisk (state S.Store conn.new) → OnOk result (stored (state S.Store conn.new) ≡ empty) }
+    ensures err { HasCleanDisk (state S.Store conn.new) → IsTrue (state S.Store conn.new).is_open → OnErr result ((state S.Store conn.new).now ≡ (state S.Store conn.old).now) }
+    ensures crash { Survives (state S.Store conn.old) (state S.Store conn.new) (HoldsLives empty) }
+    ensures durable { HasCleanDisk (state S.Store conn.new) → OnOk result (LeavesOnly (state S.Store conn.new) empty) }
+{
+    let mut tx = conn.transaction();
+    create_format(&mut tx)?;
+    create_orders(&mut tx)?;
+    insert_version(&mut tx)?;
+    tx.commit()
+}
