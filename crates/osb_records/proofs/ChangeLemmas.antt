@@ -32,9 +32,9 @@ abbrev pub IsNew : Entry → List Entry → Type 0
 IsNew entry entries = AllByRecursion (λ other. is_eq (entry_cmp entry other) ≡ false) entries
 
 -- what a row that shows an entry has in the columns that stay
-kept_cells : (row : Row) (entry : Entry) → order_cells row ≡ entry_row entry
-    → (column row 1 ≡ Text entry.0) × (column row 2 ≡ Int (pos entry.1.number)) × (column row 3 ≡ Int (pos (kind_number entry.1.kind))) × (column row 4 ≡ Text entry.1.binding) × (column row 5 ≡ Text entry.1.attributes.service) × (column row 6 ≡ Text entry.1.attributes.plan) × (column row 7 ≡ Text entry.1.attributes.place) × (column row 8 ≡ Text entry.1.attributes.spot) × (column row 9 ≡ Text entry.1.attributes.parameters) × (column row 10 ≡ Text entry.1.attributes.maintenance)
-kept_cells row entry is = (ap (λ cells. column cells 0) is, ap (λ cells. column cells 1) is, ap (λ cells. column cells 2) is, ap (λ cells. column cells 3) is, ap (λ cells. column cells 4) is, ap (λ cells. column cells 5) is, ap (λ cells. column cells 6) is, ap (λ cells. column cells 7) is, ap (λ cells. column cells 8) is, ap (λ cells. column cells 9) is)
+kept_cells : (shown : Row) (entry : Entry) → order_cells shown ≡ entry_row entry
+    → (column shown 1 ≡ Text entry.0) × (column shown 2 ≡ Int (pos entry.1.number)) × (column shown 3 ≡ Int (pos (kind_number entry.1.kind))) × (column shown 4 ≡ Text entry.1.binding) × (column shown 5 ≡ Text entry.1.attributes.service) × (column shown 6 ≡ Text entry.1.attributes.plan) × (column shown 7 ≡ Text entry.1.attributes.place) × (column shown 8 ≡ Text entry.1.attributes.spot) × (column shown 9 ≡ Text entry.1.attributes.parameters) × (column shown 10 ≡ Text entry.1.attributes.maintenance)
+kept_cells shown entry is = (ap (λ cells. column cells 0) is, ap (λ cells. column cells 1) is, ap (λ cells. column cells 2) is, ap (λ cells. column cells 3) is, ap (λ cells. column cells 4) is, ap (λ cells. column cells 5) is, ap (λ cells. column cells 6) is, ap (λ cells. column cells 7) is, ap (λ cells. column cells 8) is, ap (λ cells. column cells 9) is)
 
 ended_row : (params : Row) (outcome : Outcome) (row : Row) (entry : Entry) → column params 2 ≡ Int (pos (state_number outcome.state)) → column params 3 ≡ Text outcome.description → column params 4 ≡ Text outcome.credentials → order_cells row ≡ entry_row entry
     → cast_all order_columns (eval_all finished_cells (params ∷ row ∷ [])) ≡ entry_row (entry_ended outcome entry)

@@ -63,52 +63,52 @@ state_numbered number = if number == 0 then Running else if number == 1 then Suc
 
 -- the order that columns hold
 abbrev pub order_told : Row → Order
-order_told row = record {
-  number = number_in (column row 1);
-  kind = kind_numbered (number_in (column row 2));
-  binding = bytes (column row 3);
+order_told cells = record {
+  number = number_in (column cells 1);
+  kind = kind_numbered (number_in (column cells 2));
+  binding = bytes (column cells 3);
   attributes = record {
-    service = bytes (column row 4);
-    plan = bytes (column row 5);
-    place = bytes (column row 6);
-    spot = bytes (column row 7);
-    parameters = bytes (column row 8);
-    maintenance = bytes (column row 9);
+    service = bytes (column cells 4);
+    plan = bytes (column cells 5);
+    place = bytes (column cells 6);
+    spot = bytes (column cells 7);
+    parameters = bytes (column cells 8);
+    maintenance = bytes (column cells 9);
   };
   outcome = record {
-    state = state_numbered (number_in (column row 10));
-    description = bytes (column row 11);
-    credentials = bytes (column row 12);
+    state = state_numbered (number_in (column cells 10));
+    description = bytes (column cells 11);
+    credentials = bytes (column cells 12);
   };
 }
 
 -- with the id of its instance
 abbrev pub entry_told : Row → Entry
-entry_told row = (bytes (column row 0), order_told row)
+entry_told cells = (bytes (column cells 0), order_told cells)
 
 -- the columns of a stored row, which has its rowid first
 abbrev pub order_cells : Row → Row
-order_cells row =
-    column row 1
-    ∷ column row 2
-    ∷ column row 3
-    ∷ column row 4
-    ∷ column row 5
-    ∷ column row 6
-    ∷ column row 7
-    ∷ column row 8
-    ∷ column row 9
-    ∷ column row 10
-    ∷ column row 11
-    ∷ column row 12
-    ∷ column row 13
+order_cells cells =
+    column cells 1
+    ∷ column cells 2
+    ∷ column cells 3
+    ∷ column cells 4
+    ∷ column cells 5
+    ∷ column cells 6
+    ∷ column cells 7
+    ∷ column cells 8
+    ∷ column cells 9
+    ∷ column cells 10
+    ∷ column cells 11
+    ∷ column cells 12
+    ∷ column cells 13
     ∷ []
 
 abbrev pub version_row : ℕ → Row
 version_row version = Int (pos version) ∷ []
 
 abbrev pub version_cells : Row → Row
-version_cells row = column row 1 ∷ []
+version_cells cells = column cells 1 ∷ []
 
 -- ---- trees
 
