@@ -40,7 +40,7 @@ impl From<AllocError> for Fault<'_> {
 }
 
 /// Writes the pieces, one behind the other. A failed write is passed over.
-fn say<E: Sink>(errors: &mut E, pieces: &[&str]) {
+pub(crate) fn say<E: Sink>(errors: &mut E, pieces: &[&str]) {
     for piece in pieces {
         if send_all(errors, piece.as_bytes()).is_err() {
             return;

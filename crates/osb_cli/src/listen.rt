@@ -1,6 +1,6 @@
 //! `serve`: TCP connections, one after the other.
 
-use crate::fault::Fault;
+use crate::fault::{Fault, say};
 use crate::settings::read_settings;
 use crate::words::Listen;
 use osb_broker::{Broker, Buffer, ServeFault};
@@ -47,13 +47,11 @@ fn serve_stream<E: Sink>(
     let _ = stream.set_nodelay(true);
     let mut source = Counted::new(stream);
     let mut sink = Counted::new(stream);
-    let told = match broker.serve(buffer, &mut source, &mut sink) {
-        Ok(()) => Ok(()),
-        Err(ServeFault::Read) => send_all(errors, b"connection: read\n"),
-        Err(ServeFault::Write) => send_all(errors, b"connection: write\n"),
-    };
-    // A failed write on standard error is passed over.
-    let _ = told;
+    match broker.serve(buffer, &mut source, &mut sink) {
+        Ok(()) => {}
+        Err(ServeFault::Read) => say(errors, &["connection: read\n"]),
+        Err(ServeFault::Write) => say(errors, &["connection: write\n"]),
+    }
     end(stream);
 }
 
