@@ -257,6 +257,43 @@ fn framing_faults(rt: HostRuntime) -> Result<(), Fail> {
 }
 
 #[test]
+fn no_beginning_of_a_request_is_one(rt: HostRuntime) -> Result<(), Fail> {
+    let alloc = rt.alloc();
+    let settings = built_in(alloc)?;
+    for length in 1..GET_CATALOG.len() {
+        let mut broker = Broker::new(alloc, &settings, 1);
+        let text = served(alloc, &mut broker, &GET_CATALOG[..length], 100_000)?;
+        assert_eq!(rt; text.as_slice(), NO_HEAD);
+    }
+    Ok(())
+}
+
+/// Whether bytes that come one by one, up to a read that fails, are answered with this text before
+/// that read is made.
+fn answers_before_a_failure(alloc: Global, bytes: &[u8], text: &[u8]) -> Result<bool, Fail> {
+    let settings = built_in(alloc)?;
+    let mut broker = Broker::new(alloc, &settings, 1);
+    let mut buffer = Buffer::new(alloc, &Limits::STANDARD)?;
+    let mut source = Counted::new(Reader {
+        bytes,
+        piece: 1,
+        reads_before_failure: bytes.len(),
+    });
+    let mut sink = Counted::new(Vec::new(alloc));
+    let result = broker.serve(&mut buffer, &mut source, &mut sink);
+    Ok(result == Ok(()) && sink.into_inner().as_slice() == text)
+}
+
+#[test]
+fn nothing_is_read_once_the_answer_stands(rt: HostRuntime) -> Result<(), Fail> {
+    let alloc = rt.alloc();
+    assert!(rt; answers_before_a_failure(alloc, PUT_I, CREATED_LAST)?);
+    // No head begins with this byte.
+    assert!(rt; answers_before_a_failure(alloc, &[0], NO_HEAD)?);
+    Ok(())
+}
+
+#[test]
 fn a_read_that_fails_leaves_whole_replies(rt: HostRuntime) -> Result<(), Fail> {
     let alloc = rt.alloc();
     let bytes = joined(alloc, &[PUT_I, PUT_I])?;

@@ -37,7 +37,7 @@ fn end(stream: &TcpStream) {
 }
 
 /// Serves a connection. A fault of it is told, and is none of the next connection.
-fn serve_stream<E: Sink>(
+pub(crate) fn serve_stream<E: Sink>(
     broker: &mut Broker<'_>,
     buffer: &mut Buffer,
     stream: &TcpStream,
@@ -56,7 +56,7 @@ fn serve_stream<E: Sink>(
 }
 
 /// Serves so many connections of a listener, one after the other.
-fn serve_listener<E: Sink>(
+pub(crate) fn serve_listener<E: Sink>(
     broker: &mut Broker<'_>,
     buffer: &mut Buffer,
     listener: &TcpListener,

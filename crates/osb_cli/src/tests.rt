@@ -1,5 +1,7 @@
 //! The statuses and lines of commands that need no file.
 
+mod sockets;
+
 use super::*;
 use osb_frames::Counted;
 use std::alloc::Global;

@@ -1,148 +1,139 @@
--- Edits of rows whose order is not known.
-use Rattle.std.proofs.Common.{◌≡◌, inl, inr, ℤ, List, [], ◌∷◌, map, filter, Bool, true, false, not, true≢false, Ordering, Less, Equal, Greater, is_eq, refl, sym, ap, subst, ◌∙◌, IsPermutation}
+-- Rows that are put in and taken out, in whatever order rows lie.
+use Rattle.std.proofs.Common.{◌≡◌, inl, inr, ℤ, List, [], ◌∷◌, map, filter, Bool, true, false, not, ◌||◌, ◌&&◌, true≢false, Ordering, Less, Equal, Greater, is_eq, refl, sym, ap, subst, ◌∙◌, IsPermutation}
 use Rattle.std.specs.List.{AllByRecursion, list_any}
+use Rattle.std.specs.Cmp.{IsTotalOrder}
 use Rattle.std.specs.Ordering.{match_ordering, ordering_reverse}
-use Rattle.std.proofs.lemmas.Bool.{or_parts, cases_Bool, false_from_ne_true}
+use Rattle.std.proofs.lemmas.Bool.{or_parts, cases_Bool}
 use Rattle.std.proofs.lemmas.Cmp.{tied_itself}
-use Rattle.std.proofs.lemmas.List.Sorted.{IsPermutation-refl, IsPermutation-sym, IsPermutation-trans, IsPermutation-cons, IsPermutation-middle, IsPermutation-map}
+use Rattle.std.proofs.lemmas.List.Sorted.{IsPermutation-refl, IsPermutation-sym, IsPermutation-trans, IsPermutation-cons, IsPermutation-middle, IsPermutation-map, list_any-IsPermutation}
 use Rattle.sqlite_value.specs.Order.{Row, value_cmp}
 use Rattle.sqlite_value.proofs.OrderLemmas.{value_cmp_total}
 use Rattle.sqlite_trees.specs.Tree.{rowid, has_rowid, put_row, without_rowid, IsAscending}
 use Rattle.sqlite_trees.specs.View.{is_int}
+use Rattle.sqlite_trees.proofs.ListLemmas.{all-permutation, filter_same as filter_same_on}
 use Rattle.sqlite_rules.specs.Edit.{id_in, without_all, is_taken}
 use Rattle.sqlite_rules.specs.Lists.{Has}
-use Rattle.sqlite_rules.proofs.ListLemmas.{all_has, all_from, some_has, some_from, has_filtered, has_kept}
+use Rattle.sqlite_rules.proofs.ListLemmas.{all_from, all_has}
 use Rattle.sqlite_rules.proofs.TableLemmas.{int_is}
-use Rattle.sqlite_keyed.proofs.ListLemmas.{all-filter, ascending-filter, along_permutation, filter-map, IsPermutation-filter}
+use Rattle.sqlite_keyed.proofs.ListLemmas.{all_of, all_weaker, all-filter, any_from_none, none_from_any, along_permutation, ascending-filter, filter-map, filter_all, filter_same, IsPermutation-filter}
+use Rattle.sqlite_keyed.proofs.SliceLemmas.{list_any_same}
 use Rattle.osb_records.specs.Rows.{Apart, AreRows}
 
--- ---- lists
+-- ---- orders and lists
 
-pub has_along : {X : Type 0} (xs ys : List X) → IsPermutation xs ys → (x : X) → Has xs x → Has ys x
-has_along = along_permutation (λ xs ys. (x : _) → Has xs x → Has ys x)
-    (λ xs x h. h)
-    (λ y xs ys more x h. elim h [ inl is ↦ inl is | inr later ↦ inr (more x later) ])
-    (λ y z xs x h. elim h [ inl is ↦ inr (inl is) | inr later ↦ elim later [ inl is ↦ inl is | inr last ↦ inr (inr last) ] ])
-    (λ xs ys zs p q x h. q x (p x h))
+-- who differs from another is one from whom the other differs
+pub untied_back : {X : Type 0} (cmp : X → X → Ordering) → IsTotalOrder cmp → (a b : X) → is_eq (cmp a b) ≡ false → is_eq (cmp b a) ≡ false
+untied_back cmp total a b apart = ap is_eq (total.antisymm b a) ∙ reversed (cmp a b) ∙ apart
+  where
+    reversed : (o : Ordering) → is_eq (ordering_reverse o) ≡ is_eq o
+    reversed Less = refl
+    reversed Equal = refl
+    reversed Greater = refl
 
-pub all_along : {X : Type 0} (P : X → Type 0) (xs ys : List X) → IsPermutation xs ys → AllByRecursion P xs → AllByRecursion P ys
-all_along P xs ys same all = all_from P ys (λ x h. all_has P xs x all (has_along ys xs (IsPermutation-sym xs ys same) x h))
-
--- a relation that goes both ways between any two elements does not see their order
+-- what holds of each two elements, both ways, holds in any order
 module _ {X : Type 0} (R : X → X → Type 0) (back : (a b : X) → R a b → R b a) where
-  abbrev Goes : List X → List X → Type 0
-  Goes xs ys = ((x : X) → AllByRecursion (R x) xs → AllByRecursion (R x) ys) × (IsAscending R xs → IsAscending R ys)
+  abbrev Follows : List X → List X → Type 0
+  Follows xs ys = IsPermutation xs ys × (IsAscending R xs → IsAscending R ys)
 
-  pub ascending_along : (xs ys : List X) → IsPermutation xs ys → IsAscending R xs → IsAscending R ys
-  ascending_along xs ys same = (along_permutation Goes
-      (λ xs. (λ x h. h, λ h. h))
-      (λ y xs ys more. (λ x h. (h.0, more.0 x h.1), λ h. (more.0 y h.0, more.1 h.1)))
-      (λ y z xs. (λ x h. (h.1.0, (h.0, h.1.1)), λ h. ((back y z h.0.0, h.1.0), (h.0.1, h.1.1))))
-      (λ xs ys zs p q. (λ x h. q.0 x (p.0 x h), λ h. q.1 (p.1 h)))
+  pub ascending_permuted : (xs ys : List X) → IsPermutation xs ys → IsAscending R xs → IsAscending R ys
+  ascending_permuted xs ys same = (along_permutation Follows
+      (λ xs. (IsPermutation-refl xs, λ up. up))
+      (λ x xs ys more. (IsPermutation-cons x xs ys more.0, λ up. (all-permutation (R x) xs ys more.0 up.0, more.1 up.1)))
+      (λ x y xs. (IsPermutation-middle (x ∷ []) y xs, λ up. ((back x y up.0.0, up.1.0), (up.0.1, up.1.1))))
+      (λ xs ys zs first second. (IsPermutation-trans xs ys zs first.0 second.0, λ up. second.1 (first.1 up)))
       xs ys same).1
 
--- filters that agree on each element
-pub filter_on : {X : Type 0} (p q : X → Bool) (xs : List X) → AllByRecursion (λ x. p x ≡ q x) xs → filter p xs ≡ filter q xs
-filter_on p q [] all = refl
-filter_on p q (x ∷ xs) all = rw (all.0, filter_on p q xs all.1) refl
+filter_twice : {X : Type 0} (p q : X → Bool) (xs : List X) → filter p (filter q xs) ≡ filter (λ x. q x && p x) xs
+filter_twice p q [] = refl
+filter_twice p q (x ∷ xs) = elim (cases_Bool (q x)) [
+  | inl kept ↦ rw (kept, filter_twice p q xs) refl
+  | inr left ↦ rw (left, filter_twice p q xs) refl
+]
 
--- ---- rows
+any-map : {X Y : Type 0} (p : Y → Bool) (f : X → Y) (xs : List X) → list_any p (map f xs) ≡ list_any (λ x. p (f x)) xs
+any-map p f [] = refl
+any-map p f (x ∷ xs) = ap (λ rest. p (f x) || rest) (any-map p f xs)
 
-pub apart_back : (a b : Row) → Apart a b → Apart b a
-apart_back a b h = ap is_eq (value_cmp_total.antisymm (rowid b) (rowid a)) ∙ turned (value_cmp (rowid a) (rowid b)) h
+-- ---- a row put in
+
+apart_back : (a b : Row) → Apart a b → Apart b a
+apart_back a b = untied_back value_cmp value_cmp_total (rowid a) (rowid b)
+
+-- under a free rowid, a row is one more
+put_adds : (new : Row) (rows : List Row) → is_taken rows new ≡ false → IsPermutation (new ∷ rows) (put_row new rows)
+put_adds new [] free = IsPermutation-refl (new ∷ [])
+put_adds new (row ∷ rows) free =
+    let parts = or_parts _ _ free in
+    placed (value_cmp (rowid row) (rowid new)) parts.0 (IsPermutation-cons row _ _ (put_adds new rows parts.1))
   where
-    turned : (o : Ordering) → is_eq o ≡ false → is_eq (ordering_reverse o) ≡ false
-    turned Less h = refl
-    turned Equal h = h
-    turned Greater h = refl
+    placed : (o : Ordering) → is_eq o ≡ false → IsPermutation (row ∷ new ∷ rows) (row ∷ put_row new rows)
+        → IsPermutation (new ∷ row ∷ rows) (match_ordering o (row ∷ put_row new rows) (new ∷ rows) (new ∷ row ∷ rows))
+    placed Less untied behind = IsPermutation-trans _ _ _ (IsPermutation-middle (new ∷ []) row rows) behind
+    placed Equal untied behind = absurd (true≢false untied)
+    placed Greater untied behind = IsPermutation-refl _
 
-pub put_fresh : (new : Row) (rows : List Row) → is_taken rows new ≡ false → IsPermutation (new ∷ rows) (put_row new rows)
-put_fresh new [] free = IsPermutation-refl _
-put_fresh new (r ∷ rows) free = go (value_cmp (rowid r) (rowid new)) (or_parts _ _ free).0 (put_fresh new rows (or_parts _ _ free).1)
-  where
-    go : (o : Ordering) → is_eq o ≡ false → IsPermutation (new ∷ rows) (put_row new rows) → IsPermutation (new ∷ r ∷ rows) (match_ordering o (r ∷ put_row new rows) (new ∷ rows) (new ∷ r ∷ rows))
-    go Less e h = IsPermutation-trans _ _ _ (IsPermutation-sym _ _ (IsPermutation-middle (r ∷ []) new rows)) (IsPermutation-cons r _ _ h)
-    go Equal e h = absurd (true≢false e)
-    go Greater e h = IsPermutation-refl _
-
-free_apart : (new : Row) (rows : List Row) → is_taken rows new ≡ false → AllByRecursion (Apart new) rows
-free_apart new [] free = tt
-free_apart new (r ∷ rows) free = (apart_back r new (or_parts _ _ free).0, free_apart new rows (or_parts _ _ free).1)
-
--- a row is put in under a rowid that is free
-pub rows_put : (cells : Row → Row) (rows cs : List Row) (new : Row) → is_int (rowid new) ≡ true → is_taken rows new ≡ false → AreRows cells rows cs → AreRows cells (put_row new rows) (cells new ∷ cs)
-rows_put cells rows cs new int free h =
-    let put = put_fresh new rows free in
+-- what is put in under a free rowid is shown beside the rest
+pub put_shows : (cells : Row → Row) (rows shown : List Row) (new : Row) → is_int (rowid new) ≡ true → is_taken rows new ≡ false → AreRows cells rows shown → AreRows cells (put_row new rows) (cells new ∷ shown)
+put_shows cells rows shown new int free are =
+    let adds = put_adds new rows free in
+    let away = all_weaker _ (Apart new) (λ row. apart_back row new) rows (none_from_any _ rows free) in
     record {
-      apart = ascending_along Apart apart_back _ _ put (free_apart new rows free, h.apart);
-      keyed = all_along _ _ _ put (int, h.keyed);
-      same = IsPermutation-trans _ _ _ (IsPermutation-map cells _ _ (IsPermutation-sym _ _ put)) (IsPermutation-cons (cells new) _ _ h.same);
+      apart = ascending_permuted Apart apart_back _ _ adds (away, are.apart);
+      keyed = all-permutation _ _ _ adds (int, are.keyed);
+      same = IsPermutation-trans _ _ _ (IsPermutation-map cells _ _ (IsPermutation-sym _ _ adds)) (IsPermutation-cons _ _ _ are.same);
     }
 
--- rows with one rowid are one
-alone : (rows : List Row) (a b : Row) → IsAscending Apart rows → Has rows a → Has rows b → is_eq (value_cmp (rowid a) (rowid b)) ≡ true → a ≡ b
-alone [] a b up h k tie = absurd h
-alone (r ∷ rows) a b up (inl h) (inl k) tie = h ∙ sym k
-alone (r ∷ rows) a b up (inl h) (inr k) tie = absurd (true≢false (sym (rw h at tie) ∙ all_has _ rows b up.0 k))
-alone (r ∷ rows) a b up (inr h) (inl k) tie = absurd (true≢false (sym (rw k at tie) ∙ apart_back r a (all_has _ rows a up.0 h)))
-alone (r ∷ rows) a b up (inr h) (inr k) tie = alone rows a b up.1 h k tie
+-- ---- rows taken out
 
 abbrev pub id_of : Row → ℤ
-id_of r = id_in (rowid r)
+id_of row = id_in (rowid row)
 
-without_all_is : (ids : List ℤ) (rows : List Row) → without_all rows ids ≡ filter (λ r. not (list_any (λ id. has_rowid id r) ids)) rows
-without_all_is [] rows = sym (filter_all rows)
+abbrev is_among : List ℤ → Row → Bool
+is_among ids row = list_any (λ id. has_rowid id row) ids
+
+without_all_filters : (ids : List ℤ) (rows : List Row) → without_all rows ids ≡ filter (λ row. not (is_among ids row)) rows
+without_all_filters [] rows = sym (filter_all _ rows (all_of _ (λ _. refl) rows))
+without_all_filters (id ∷ ids) rows =
+    without_all_filters ids (without_rowid id rows) ∙ filter_twice (λ row. not (is_among ids row)) (λ row. not (has_rowid id row)) rows ∙ filter_same _ _ (λ row. neither (has_rowid id row) (is_among ids row)) rows
   where
-    filter_all : (rows : List Row) → filter (λ r. true) rows ≡ rows
-    filter_all [] = refl
-    filter_all (r ∷ rows) = ap (λ more. r ∷ more) (filter_all rows)
-without_all_is (id ∷ ids) rows = without_all_is ids (without_rowid id rows) ∙ twice rows
-  where
-    twice : (rows : List Row) → filter (λ r. not (list_any (λ id. has_rowid id r) ids)) (filter (λ r. not (has_rowid id r)) rows) ≡ filter (λ r. not (list_any (λ i. has_rowid i r) (id ∷ ids))) rows
-    twice [] = refl
-    twice (r ∷ rows) = go (has_rowid id r) refl (twice rows)
-      where
-        go : (b : Bool) → has_rowid id r ≡ b → filter (λ r. not (list_any (λ id. has_rowid id r) ids)) (filter (λ r. not (has_rowid id r)) rows) ≡ filter (λ r. not (list_any (λ i. has_rowid i r) (id ∷ ids))) rows
-            → filter (λ r. not (list_any (λ id. has_rowid id r) ids)) (filter (λ r. not (has_rowid id r)) (r ∷ rows)) ≡ filter (λ r. not (list_any (λ i. has_rowid i r) (id ∷ ids))) (r ∷ rows)
-        go true e more = rw e more
-        go false e more = rw (e, more) refl
+    neither : (a b : Bool) → (not a && not b) ≡ not (a || b)
+    neither true b = refl
+    neither false b = refl
 
-tied : (a b : Row) → is_int (rowid b) ≡ true → has_rowid (id_of b) a ≡ is_eq (value_cmp (rowid a) (rowid b))
-tied a b int = ap (λ v. is_eq (value_cmp (rowid a) v)) (sym (int_is (rowid b) int))
+-- two rows have one rowid
+abbrev ties : Row → Row → Bool
+ties a b = is_eq (value_cmp (rowid a) (rowid b))
 
-ints_tied : (r : Row) → is_int (rowid r) ≡ true → has_rowid (id_of r) r ≡ true
-ints_tied r int = tied r r int ∙ ap is_eq (tied_itself value_cmp_total (rowid r))
+-- among the rows that pass, a row's rowid is found where the row itself passes
+found_itself : (p : Row → Bool) (rows : List Row) → IsAscending Apart rows → (row : Row) → Has rows row → list_any (ties row) (filter p rows) ≡ p row
+found_itself p [] up row there = absurd there
+found_itself p (first ∷ rows) up row (inl is) = elim (cases_Bool (p first)) [
+  | inl passes ↦ rw (is, passes, tied_itself value_cmp_total (rowid first)) refl
+  | inr fails ↦ rw (is, fails) (any_from_none _ _ (all-filter _ p rows up.0))
+]
+found_itself p (first ∷ rows) up row (inr later) =
+    let other = apart_back first row (all_has _ rows row up.0 later) in
+    let rest = found_itself p rows up.1 row later in
+    elim (cases_Bool (p first)) [ inl passes ↦ rw (passes, other) rest | inr fails ↦ rw fails rest ]
 
-pub mapped : {A B : Type 0} (f : A → B) (xs : List A) (y : B) → Has (map f xs) y → (x : A) × Has xs x × (y ≡ f x)
-mapped f [] y h = absurd h
-mapped f (x ∷ xs) y (inl is) = (x, inl refl, is)
-mapped f (x ∷ xs) y (inr later) = let it = mapped f xs y later in (it.0, inr it.1, it.2)
+module _ (p : Row → Bool) (rows : List Row) (ids : List ℤ) (apart : IsAscending Apart rows) (keyed : AllByRecursion (λ row. is_int (rowid row) ≡ true) rows) (same : IsPermutation (map id_of (filter p rows)) ids) where
+  -- a row's rowid is among them exactly where it passes
+  among_passes : (row : Row) → Has rows row → is_among ids row ≡ p row
+  among_passes row there =
+      let test = λ (id : ℤ). has_rowid id row in
+      let reads = λ (other : Row) (int : is_int (rowid other) ≡ true). ap (λ value. is_eq (value_cmp (rowid row) value)) (sym (int_is (rowid other) int)) in
+      sym (list_any-IsPermutation test _ ids same) ∙ any-map test id_of (filter p rows)
+      ∙ list_any_same _ (ties row) _ (all_weaker _ _ reads _ (all-filter _ p rows keyed)) ∙ found_itself p rows apart row there
 
-pub mapped_has : {A B : Type 0} (f : A → B) (xs : List A) (x : A) → Has xs x → Has (map f xs) (f x)
-mapped_has f [] x h = absurd h
-mapped_has f (y ∷ xs) x (inl is) = inl (ap f is)
-mapped_has f (y ∷ xs) x (inr later) = inr (mapped_has f xs x later)
+  left_fails : without_all rows ids ≡ filter (λ row. not (p row)) rows
+  left_fails = without_all_filters ids rows ∙ filter_same_on _ _ rows (all_from _ rows (λ row there. ap not (among_passes row there)))
 
--- taking out the rowids of the rows that pass leaves those that fail
-left_is : (p : Row → Bool) (rows : List Row) (ids : List ℤ) → IsAscending Apart rows → AllByRecursion (λ r. is_int (rowid r) ≡ true) rows → IsPermutation (map id_of (filter p rows)) ids
-    → without_all rows ids ≡ filter (λ r. not (p r)) rows
-left_is p rows ids apart keyed same = without_all_is ids rows ∙ filter_on _ _ rows (all_from _ rows (λ r h. ap not (agree r h)))
-  where
-    agree : (r : Row) → Has rows r → list_any (λ id. has_rowid id r) ids ≡ p r
-    agree r h = elim (cases_Bool (p r)) [
-      | inl hit ↦ some_from (λ id. has_rowid id r) ids (id_of r) (has_along _ _ same _ (mapped_has id_of _ r (has_kept p rows r h hit))) (ints_tied r (all_has _ rows r keyed h)) ∙ sym hit
-      | inr miss ↦ false_from_ne_true _ (λ any.
-          let id = some_has (λ id. has_rowid id r) ids any in
-          let from = mapped id_of (filter p rows) id.0 (has_along _ _ (IsPermutation-sym _ _ same) _ id.1) in
-          let there = has_filtered p rows from.0 from.1 in
-          let one = alone rows r from.0 apart h there.0 (sym (tied r from.0 (all_has _ rows from.0 keyed there.0)) ∙ subst (λ i. has_rowid i r ≡ true) from.2 id.2) in
-          true≢false (sym (ap p one ∙ there.1) ∙ miss)) ∙ sym miss
-    ]
-
-pub rows_left : (cells : Row → Row) (p : Row → Bool) (rows cs : List Row) (ids : List ℤ) → IsPermutation (map id_of (filter (λ r. p (cells r)) rows)) ids → AreRows cells rows cs
-    → AreRows cells (without_all rows ids) (filter (λ c. not (p c)) cs)
-rows_left cells p rows cs ids same h = rw (left_is (λ r. p (cells r)) rows ids h.apart h.keyed same) (record {
-  apart = ascending-filter Apart _ rows h.apart;
-  keyed = all-filter _ _ rows h.keyed;
-  same = rw (← filter-map (λ c. not (p c)) cells rows) (IsPermutation-filter (λ c. not (p c)) _ _ h.same);
-})
+-- where the rowids of the rows that pass are taken out, those that fail are shown
+pub left_shows : (cells : Row → Row) (p : Row → Bool) (rows shown : List Row) (ids : List ℤ) → IsPermutation (map id_of (filter (λ row. p (cells row)) rows)) ids → AreRows cells rows shown
+    → AreRows cells (without_all rows ids) (filter (λ row. not (p row)) shown)
+left_shows cells p rows shown ids same are =
+    subst (λ left. AreRows cells left (filter (λ row. not (p row)) shown)) (sym (left_fails (λ row. p (cells row)) rows ids are.apart are.keyed same)) (record {
+      apart = ascending-filter Apart _ rows are.apart;
+      keyed = all-filter _ _ rows are.keyed;
+      same = subst (λ left. IsPermutation left (filter (λ row. not (p row)) shown)) (filter-map (λ row. not (p row)) cells rows) (IsPermutation-filter _ _ _ are.same);
+    })
