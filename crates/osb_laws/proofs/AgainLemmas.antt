@@ -47,7 +47,8 @@ use Rattle.osb_machine.specs.Bind.{bind_opening, is_of_plan, bind_new, bind_by, 
 use Rattle.osb_machine.specs.Unbind.{unbind_opening, unbind_over, unbind_at}
 use Rattle.osb_machine.specs.Report.{reported_state, kept_outcome, is_outcome, report}
 use Rattle.std.specs.Cmp.Lexicographic.{nat_list_eq_equiv}
-use Rattle.osb_laws.proofs.LifeLemmas.{choose, split, grow, unless, unless-miss, unless-hit, from_last-hit, from_last-miss, last_where-hit, last_where-miss, present_of_some, last_of-push, since_birth-create, since_birth-later, since_birth-deleted}
+use Rattle.osb_orders.proofs.GrowLemmas.{choose, grow, unless, unless-miss, unless-hit, from_last-hit, from_last-miss, last_where-hit, last_where-miss, last_of-push, since_birth-create, since_birth-later, since_birth-deleted}
+use Rattle.osb_laws.proofs.LifeLemmas.{split, present_of_some}
 use Rattle.osb_laws.proofs.StepLemmas.{change_of, after_ask, accepted_quiet, provision_over_quiet, bind_over_quiet, poll_quiet, update_running_quiet, fetch_quiet, fetch_binding_quiet}
 
 -- The ask is asked again after the change c, which is its own.

@@ -31,7 +31,8 @@ use Rattle.osb_machine.specs.Machine.{answer_to, after_step}
 use Rattle.osb_laws.specs.Exclusive.{Steps, ChangesKeepLives, NoLivesAreWellFormed, StepsAreAllowed, StepsKeepLives, LivesStep}
 use Rattle.osb_laws.specs.AskedAgain.{AskedAgainStays}
 use Rattle.osb_laws.specs.Apart.{AnsweredByOneLife, OthersStay, UnnamedStay}
-use Rattle.osb_laws.proofs.LifeLemmas.{choose, length-push, life_push, life_ended}
+use Rattle.osb_orders.proofs.GrowLemmas.{choose}
+use Rattle.osb_laws.proofs.LifeLemmas.{length-push, life_push, life_ended}
 use Rattle.osb_laws.proofs.StepLemmas.{change_of, IsStep, steps_allowed}
 use Rattle.osb_laws.proofs.AgainLemmas.{again_all}
 use Rattle.osb_laws.proofs.WordLemmas.{IsWordedChange, rules_worded, steps_worded}

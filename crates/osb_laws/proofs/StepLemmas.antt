@@ -49,7 +49,8 @@ use Rattle.osb_machine.specs.Polls.{told, polled_named, poll_at, poll}
 use Rattle.osb_machine.specs.Report.{reported_state, kept_outcome, is_outcome, report}
 use Rattle.osb_machine.specs.Answer.{answer}
 use Rattle.std.proofs.lemmas.Bool.{leb-false}
-use Rattle.osb_laws.proofs.LifeLemmas.{choose, absent_of_none, present_of_some, absent_not_running, found_running, IsLast, last_of-push}
+use Rattle.osb_orders.proofs.GrowLemmas.{choose, last_of-push}
+use Rattle.osb_laws.proofs.LifeLemmas.{absent_of_none, present_of_some, absent_not_running, found_running, IsLast}
 
 -- the change that an ask makes to a life
 abbrev pub change_of : Rules → Life → List (List ℕ × Order) → Ask → Change

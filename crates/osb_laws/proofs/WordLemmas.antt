@@ -49,7 +49,7 @@ use Rattle.osb_text.proofs.ReadableLemmas.{empty_object as empty_is_object}
 use Rattle.osb_catalog.specs.declared.plan.Mode.{Mode}
 use Rattle.osb_catalog.specs.Sound.{AreSound}
 use Rattle.osb_asks.specs.Worded as asks
-use Rattle.osb_laws.proofs.LifeLemmas.{choose, unless}
+use Rattle.osb_orders.proofs.GrowLemmas.{choose, unless}
 use Rattle.osb_laws.proofs.StepLemmas.{change_of, accepted_quiet, provision_over_quiet, bind_over_quiet, poll_quiet, update_running_quiet, fetch_quiet, fetch_binding_quiet}
 
 abbrev IsId : List ℕ → Type 0

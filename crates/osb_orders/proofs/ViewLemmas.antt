@@ -1,5 +1,5 @@
 -- The view of the lives, put together.
-use Rattle.std.proofs.Common.{◌≡◌, List, [], refl, sym, ◌∙◌, ap, ℕ}
+use Rattle.std.proofs.Common.{◌≡◌, List, [], refl, ◌∙◌, ap, ℕ}
 use Rattle.osb_asks.specs.declared.ask.Ask.{Ask}
 use Rattle.osb_asks.specs.declared.ask.Ask.TheVariants as the
 use Rattle.osb_orders.specs.declared.order.Order.{Order}

@@ -1,5 +1,5 @@
 -- The instance, the binding and the order that an ask names.
-use Rattle.std.specs.Prelude.{ℕ, ◌==◌, List, [], filter, bytes_eq, Option, None, Some, option_and_then}
+use Rattle.std.specs.Prelude.{ℕ, ◌==◌, List, [], filter, bytes_eq, Option, None, option_and_then}
 use Rattle.std.specs.List.{find}
 use Rattle.osb_asks.specs.declared.ask.Ask.{Ask}
 use Rattle.osb_asks.specs.declared.ask.Ask.TheVariants.{InstanceOp, BindingOp, Report}

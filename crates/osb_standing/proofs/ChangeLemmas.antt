@@ -23,7 +23,7 @@ use Rattle.osb_orders.proofs.LastLemmas.{ended_push}
 use Rattle.osb_standing.specs.Rows.{birth_failed}
 use Rattle.osb_standing.specs.Written.{IsWritten}
 use Rattle.osb_standing.specs.Instance.{standing_over, standing_after}
-use Rattle.osb_standing.proofs.LifeLemmas.{last_of-push, EndsWith, ends}
+use Rattle.osb_orders.proofs.GrowLemmas.{last_of-push, EndsWith, ends}
 use Rattle.osb_standing.proofs.PushLemmas.{birth_failed-push, standing_push, binding_push, pushed_binding}
 
 -- An order that ends does what it would have done at once

@@ -21,7 +21,8 @@ use Rattle.osb_standing.specs.Rows.{birth_failed}
 use Rattle.osb_standing.specs.Instance.{stands, kept_phase, phase_of_birth, standing_over, standing_after}
 use Rattle.osb_standing.specs.Binding.{binding_by, phase_of_bind}
 use Rattle.osb_standing.specs.Binding.{in_phase as binding_in_phase}
-use Rattle.osb_standing.proofs.LifeLemmas.{grow, from_last-hit, from_last-miss, filter-miss, last_where-hit, last_where-miss, unless, unless-miss, unless-hit, since_birth-create, since_birth-later, since_birth-deleted, first_of, first_from_last}
+use Rattle.osb_orders.proofs.GrowLemmas.{grow, from_last-hit, from_last-miss, filter-miss, last_where-hit, last_where-miss, unless, unless-miss, unless-hit, since_birth-create, since_birth-later, since_birth-deleted}
+use Rattle.osb_standing.proofs.LifeLemmas.{first_of, first_from_last}
 
 -- Tests of an order whose kind and state are known
 

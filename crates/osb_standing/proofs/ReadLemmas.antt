@@ -25,7 +25,7 @@ use Rattle.osb_standing.specs.declared.read.Read.{Read}
 use Rattle.osb_standing.specs.Rows.{row_of, standing_in, Bindings, with_binding, bindings_named, bindings_of}
 use Rattle.osb_standing.specs.Laws.{count_in, has_rows, CountIsTheLastNumber, BindingsRemain}
 use Rattle.osb_standing.specs.Read.{IsReadFor}
-use Rattle.osb_standing.proofs.LifeLemmas.{last_of-push, EndsWith, ends}
+use Rattle.osb_orders.proofs.GrowLemmas.{last_of-push, EndsWith, ends}
 use Rattle.osb_standing.proofs.RowLemmas.{standing_is, bindings_are}
 
 -- The last number is the count

@@ -29,7 +29,7 @@ use Rattle.osb_standing.specs.Rows.{row_by, row_of, standing_in, birth_failed, B
 use Rattle.osb_standing.specs.Written.{IsWritten}
 use Rattle.osb_standing.specs.Instance.{standing_over, standing_after, row_after, is_failed_deletion}
 use Rattle.osb_standing.specs.Binding.{edit_over, edit_of, edited}
-use Rattle.osb_standing.proofs.LifeLemmas.{choose, unless}
+use Rattle.osb_orders.proofs.GrowLemmas.{choose, unless}
 use Rattle.osb_standing.proofs.PushLemmas.{pushed_binding}
 use Rattle.osb_standing.proofs.ChangeLemmas.{follows}
 
