@@ -1,18 +1,13 @@
 -- What one more order does to what a life says.
-use Rattle.std.proofs.Common.{◌≡◌, ◌+◌, Bool, true, false, cond, ◌&&◌, ◌||◌, ◌==◌, List, [], ◌∷◌, ◌++◌, length, filter, Option, None, Some, refl, sym, ◌∙◌, ap, subst, append_assoc, length-append, arith}
-use Rattle.std.specs.List.{list_any, find}
-use Rattle.std.specs.Prelude.{if◌then◌else◌}
+use Rattle.std.proofs.Common.{append-nil, ◌≡◌, ◌+◌, Bool, true, false, cond, ◌&&◌, ◌==◌, List, [], ◌∷◌, ◌++◌, length, Option, None, Some, refl, sym, ◌∙◌, ap, subst, append_assoc, length-append, arith}
+use Rattle.std.specs.List.{find}
 use Rattle.std.specs.Option.{option_map_or}
-use Rattle.std.proofs.lemmas.List.Folds.{list_any-append}
-use Rattle.std.proofs.lemmas.List.Elements.{filter-append}
-use Rattle.osb_orders.specs.declared.order.OrderKind.{OrderKind}
-use Rattle.osb_orders.specs.declared.order.OrderKind.TheVariants.{Create, Update, Delete, Bind, Unbind}
+use Rattle.osb_orders.specs.declared.order.OrderKind.TheVariants.{Create, Delete}
 use Rattle.osb_orders.specs.declared.order.OrderState.{OrderState}
 use Rattle.osb_orders.specs.declared.order.OrderState.TheVariants.{Running, Succeeded, Failed}
 use Rattle.osb_orders.specs.declared.order.Order.{Order}
 use Rattle.osb_orders.specs.declared.order.Outcome.{Outcome}
-use Rattle.osb_orders.specs.Lists.{or_else, from_last, last_from, last_where, last_of}
-use Rattle.osb_orders.specs.Orders.{is_a, is_now, has_succeeded, kind_number, state_number}
+use Rattle.osb_orders.specs.Orders.{is_a, is_now, has_succeeded, state_number}
 use Rattle.osb_orders.specs.Life.{Life, since_birth, standing_since}
 use Rattle.osb_orders.specs.Changed.{with_outcome, with_last_ended}
 use Rattle.osb_orders.proofs.GrowLemmas.{grow, last_of-push, since_birth-create, since_birth-later, EndsWith, ends}

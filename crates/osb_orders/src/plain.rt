@@ -12,7 +12,6 @@ mod named;
 mod whole;
 
 use self::kept::{end_last, keep, life_of, listing};
-use self::named::instance_in;
 use self::whole::shown;
 use crate::order::{Change, Order};
 use crate::view::View;
@@ -94,8 +93,8 @@ impl PlainLives {
     fn named_life(&self, alloc: Global, ask: &Ask) -> Result<Vec<Order>, AllocError>
         ensures { IfOk result (λ life. life.items ≡ named_life self.now (instance_in ask.now)) }
     {
-        match instance_in(ask) {
-            Some(id) => self.life(alloc, id),
+        match ask.instance() {
+            Some(id) => self.life(alloc, id.as_str()),
             None => Ok(Vec::new(alloc)),
         }
     }

@@ -1,51 +1,12 @@
-ghost use Rattle.std.specs.Prelude.{◌≡◌, IfOk, option_map, filter};
+ghost use Rattle.std.specs.Prelude.{◌≡◌, IfOk, filter};
 ghost use Rattle.osb_orders.specs.Lists.{last_of, last_from};
 ghost use Rattle.osb_orders.specs.Orders.{is_of_instance, is_of_binding};
-ghost use Rattle.osb_orders.specs.Named.{instance_in, binding_in, subject, order_named, order_numbered, named_by, named_in};
+ghost use Rattle.osb_orders.specs.Named.{subject, order_named, order_numbered, named_by, named_in};
 
 use crate::order::Order;
 use osb_asks::Ask;
 use osb_text::Text;
 use std::alloc::{AllocError, Global};
-
-/// The instance that the ask names.
-pub(super) fn instance_in(ask: &Ask) -> Option<&str>
-    ensures { option_map (λ id. id.now) result ≡ instance_in ask.now }
-{
-    match ask {
-        Ask::Catalog | Ask::Orders(_) => None,
-        Ask::Provision(ask) => Some(ask.instance.as_str()),
-        Ask::Fetch(ask) => Some(ask.instance.as_str()),
-        Ask::Update(ask) => Some(ask.instance.as_str()),
-        Ask::Deprovision(ask) => Some(ask.instance.as_str()),
-        Ask::InstanceOp(ask) => Some(ask.instance.as_str()),
-        Ask::Bind(ask) => Some(ask.instance.as_str()),
-        Ask::FetchBinding(ask) => Some(ask.instance.as_str()),
-        Ask::Unbind(ask) => Some(ask.instance.as_str()),
-        Ask::BindingOp(ask) => Some(ask.instance.as_str()),
-        Ask::Report(ask) => Some(ask.instance.as_str()),
-    }
-}
-
-/// The binding that the ask names.
-pub(super) fn binding_in(ask: &Ask) -> Option<&str>
-    ensures { option_map (λ id. id.now) result ≡ binding_in ask.now }
-{
-    match ask {
-        Ask::Bind(ask) => Some(ask.binding.as_str()),
-        Ask::FetchBinding(ask) => Some(ask.binding.as_str()),
-        Ask::Unbind(ask) => Some(ask.binding.as_str()),
-        Ask::BindingOp(ask) => Some(ask.binding.as_str()),
-        Ask::Catalog
-        | Ask::Provision(_)
-        | Ask::Fetch(_)
-        | Ask::Update(_)
-        | Ask::Deprovision(_)
-        | Ask::InstanceOp(_)
-        | Ask::Orders(_)
-        | Ask::Report(_) => None,
-    }
-}
 
 /// The orders that a poll is about.
 pub(super) fn subject(alloc: Global, ask: &Ask, life: &[Order]) -> Result<Vec<Order>, AllocError>

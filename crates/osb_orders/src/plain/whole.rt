@@ -7,7 +7,7 @@ ghost use Rattle.osb_orders.specs.Facts.{facts, facts_of};
 
 use super::bindings::{binding_of, has_bindings};
 use super::instances::standing_of;
-use super::named::{binding_in, last_of, named_in, subject};
+use super::named::{last_of, named_in, subject};
 use crate::order::Order;
 use crate::view::{BindingNow, Standing, View};
 use osb_asks::Ask;
@@ -82,8 +82,8 @@ fn count_of(life: &[Order]) -> Result<u32, AllocError>
 fn named_binding(alloc: Global, ask: &Ask, life: &[Order]) -> Result<Option<BindingNow>, AllocError>
     ensures { IfOk result (λ binding. binding ≡ option_and_then (λ id. binding_of id life.now) (binding_in ask.now)) }
 {
-    match binding_in(ask) {
-        Some(id) => binding_of(alloc, id, life),
+    match ask.binding() {
+        Some(id) => binding_of(alloc, id.as_str(), life),
         None => Ok(None),
     }
 }
