@@ -27,13 +27,13 @@ run() {
 port=18080
 for each in 1 100; do
     connections=$((20000 / each))
-    for kind in catalog:374 create:79 repeat:74; do
+    for kind in catalog:365 create:77 repeat:72; do
         port=$((port + 1))
         echo "osb-broker"
         run "${kind%:*}" "$connections" "$each" "${kind#*:}" "$port" "$program" serve \
             --settings "$here/../examples/settings.json" --listen "127.0.0.1:$port" --per-connection "$each"
     done
-    for kind in catalog:374 create:79; do
+    for kind in catalog:365 create:77; do
         port=$((port + 1))
         echo "bare"
         run "${kind%:*}" "$connections" "$each" "${kind#*:}" "$port" "$made/bare" "$port" "${kind#*:}" "$each"

@@ -5,19 +5,19 @@ use osb_catalog::{BUILT_IN, Settings};
 use std::alloc::Global;
 use std::test::Fail;
 
-const OK: &str = "200 OK";
+pub(super) const OK: &str = "200 OK";
 
-const CREATED: &str = "201 Created";
+pub(super) const CREATED: &str = "201 Created";
 
-const ACCEPTED: &str = "202 Accepted";
+pub(super) const ACCEPTED: &str = "202 Accepted";
 
-const NOT_FOUND: &str = "404 Not Found";
+pub(super) const NOT_FOUND: &str = "404 Not Found";
 
-const CONFLICT: &str = "409 Conflict";
+pub(super) const CONFLICT: &str = "409 Conflict";
 
-const GONE: &str = "410 Gone";
+pub(super) const GONE: &str = "410 Gone";
 
-const UNPROCESSABLE: &str = "422 Unprocessable Entity";
+pub(super) const UNPROCESSABLE: &str = "422 Unprocessable Entity";
 
 const PUT: &str = "PUT /v2/service_instances/i";
 
@@ -50,7 +50,7 @@ const UNBIND_LATER: &str =
 
 const POLL_BINDING: &str = "GET /v2/service_instances/i/service_bindings/b/last_operation";
 
-const ORDERS: &str = "GET /backend/v1/orders";
+pub(super) const ORDERS: &str = "GET /backend/v1/orders";
 
 const REPORT_1: &str = "PUT /backend/v1/orders/i/1";
 
@@ -58,31 +58,31 @@ const REPORT_2: &str = "PUT /backend/v1/orders/i/2";
 
 const REPORT_3: &str = "PUT /backend/v1/orders/i/3";
 
-const ASYNC: &str =
+pub(super) const ASYNC: &str =
     r#"{"service_id":"svc","plan_id":"p-async","organization_guid":"o","space_guid":"s"}"#;
 
-const SUCCEEDED: &str = r#"{"state":"succeeded"}"#;
+pub(super) const SUCCEEDED: &str = r#"{"state":"succeeded"}"#;
 
-const FAILED: &str = r#"{"state":"failed"}"#;
+pub(super) const FAILED: &str = r#"{"state":"failed"}"#;
 
-const ASYNC_REQUIRED: &str =
+pub(super) const ASYNC_REQUIRED: &str =
     r#"{"description":"The plan needs asynchronous operations.","error":"AsyncRequired"}"#;
 
-const BUSY: &str =
+pub(super) const BUSY: &str =
     r#"{"description":"Another operation is in progress.","error":"ConcurrencyError"}"#;
 
-const OTHER_VERSION: &str =
+pub(super) const OTHER_VERSION: &str =
     r#"{"description":"The maintenance version is not the catalog's.","error":"MaintenanceInfoConflict"}"#;
 
 const NO_PLAN_CHANGE: &str = r#"{"description":"The plan does not allow a change of plan."}"#;
 
-const MISMATCH: &str = r#"{"description":"The service or plan is not the instance's."}"#;
+pub(super) const MISMATCH: &str = r#"{"description":"The service or plan is not the instance's."}"#;
 
 const NOT_BINDABLE: &str = r#"{"description":"The plan is not bindable."}"#;
 
-const BINDINGS_REMAIN: &str = r#"{"description":"The instance still has bindings."}"#;
+pub(super) const BINDINGS_REMAIN: &str = r#"{"description":"The instance still has bindings."}"#;
 
-const NO_SUCH_OPERATION: &str =
+pub(super) const NO_SUCH_OPERATION: &str =
     r#"{"description":"The operation is not known for this resource."}"#;
 
 const FULL: &str = r#"{"description":"The instance has no order numbers left."}"#;
@@ -94,7 +94,7 @@ fn settings_with(alloc: Global, from: &str, to: &str) -> Result<Settings, Fail> 
 }
 
 /// Fails with the number of the first exchange that goes otherwise.
-fn converses(alloc: Global, settings: &Settings, exchanges: &[Exchange]) -> Result<(), Fail> {
+pub(super) fn converses(alloc: Global, settings: &Settings, exchanges: &[Exchange]) -> Result<(), Fail> {
     let met = conversed(alloc, settings, exchanges)?;
     if met < exchanges.len() {
         let (line, body, status, _) = exchanges[met];
