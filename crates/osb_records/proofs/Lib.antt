@@ -16,3 +16,6 @@ pub mod WriteLemmas
 pub mod SelectLemmas
 pub mod ReadLemmas
 pub mod ListingLemmas
+pub mod BackLemmas
+pub mod OrderTexts
+pub mod OrderLemmas

@@ -3,3 +3,4 @@ pub mod Tables
 pub mod Stored
 pub mod Steps
 pub mod Commit
+pub mod Queries
