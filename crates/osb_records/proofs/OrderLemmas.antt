@@ -1,7 +1,7 @@
 -- What the queries for one order answer of a life.
 use Rattle.std.proofs.Common.{◌≡◌, ℕ, ◌==◌, pos, List, [], ◌∷◌, map, filter, take, find, Bool, true, false, not, cond, ◌&&◌, bytes_eq, Some, None, Option, option_map, slice_get, Less, refl, sym, ap, ◌∙◌}
 use Rattle.std.specs.List.{list_all}
-use Rattle.std.specs.Ordering.{flip_args}
+use Rattle.std.specs.Ordering.{nat_cmp, is_lt, is_gt, flip_args}
 use Rattle.std.proofs.lemmas.Cmp.{back_total}
 use Rattle.sqlite.specs.declared.types.Value.TheVariants.{Null, Int, Text}
 use Rattle.sqlite.specs.Order.{Row}
@@ -24,7 +24,7 @@ use Rattle.osb_records.specs.Tables.{record_schema}
 use Rattle.osb_records.specs.Stored.{Entry, entry_row, entry_cmp, order_cells, order_told, entries_in, is_of, is_keyed, lives_in}
 use Rattle.osb_records.specs.Steps.{HasTables, stored}
 use Rattle.osb_records.specs.Queries.{first_order}
-use Rattle.osb_records.proofs.TestLemmas.{same_text, same_number, and_true, at_key}
+use Rattle.osb_records.proofs.TestLemmas.{truth_back, same_text, same_number, and_true, number_cmp, at_key}
 use Rattle.osb_records.proofs.SortLemmas.{entry_total, told_back}
 use Rattle.osb_records.proofs.AnswerLemmas.{over, one_answer}
 use Rattle.osb_records.proofs.SelectLemmas.{by_both}
@@ -91,21 +91,27 @@ last_of_those id passes es =
 at_creation : (id : List ℕ) (entry : Entry) → list_all (holds ((Text id ∷ []) ∷ (Null ∷ entry_row entry) ∷ [])) creation_tests ≡ is_of_with id (is_a Create) entry
 at_creation id entry = rw (same_text entry.0 id, same_number (kind_number entry.1.kind) 1, and_true (kind_number entry.1.kind == 1)) refl
 
-below_four : (kind : OrderKind) → is_true (binary (Compare Lt Binary) (Int (pos (kind_number kind))) (Int (pos 4))) ≡ not (is_about_binding kind)
+lower_number : (m n : ℕ) → is_true (binary (Compare Lt Binary) (Int (pos m)) (Int (pos n))) ≡ is_lt (nat_cmp m n)
 unfolding binary
-below_four Create = refl
-below_four Update = refl
-below_four Delete = refl
-below_four Bind = refl
-below_four Unbind = refl
+lower_number m n = truth_back _ ∙ ap is_lt (number_cmp m n)
+
+greater_number : (m n : ℕ) → is_true (binary (Compare Gt Binary) (Int (pos m)) (Int (pos n))) ≡ is_gt (nat_cmp m n)
+unfolding binary
+greater_number m n = truth_back _ ∙ ap is_gt (number_cmp m n)
+
+below_four : (kind : OrderKind) → is_true (binary (Compare Lt Binary) (Int (pos (kind_number kind))) (Int (pos 4))) ≡ not (is_about_binding kind)
+below_four Create = lower_number 1 4
+below_four Update = lower_number 2 4
+below_four Delete = lower_number 3 4
+below_four Bind = lower_number 4 4
+below_four Unbind = lower_number 5 4
 
 above_three : (kind : OrderKind) → is_true (binary (Compare Gt Binary) (Int (pos (kind_number kind))) (Int (pos 3))) ≡ is_about_binding kind
-unfolding binary
-above_three Create = refl
-above_three Update = refl
-above_three Delete = refl
-above_three Bind = refl
-above_three Unbind = refl
+above_three Create = greater_number 1 3
+above_three Update = greater_number 2 3
+above_three Delete = greater_number 3 3
+above_three Bind = greater_number 4 3
+above_three Unbind = greater_number 5 3
 
 at_of_instance : (id : List ℕ) (entry : Entry) → list_all (holds ((Text id ∷ []) ∷ (Null ∷ entry_row entry) ∷ [])) instance_tests ≡ is_of_with id is_of_instance entry
 at_of_instance id entry = rw (same_text entry.0 id, below_four entry.1.kind, and_true (not (is_about_binding entry.1.kind))) refl
