@@ -19,3 +19,4 @@ pub mod ListingLemmas
 pub mod BackLemmas
 pub mod OrderTexts
 pub mod OrderLemmas
+pub mod NameLemmas

@@ -4,6 +4,7 @@
 mod commits;
 mod fault;
 pub mod memory;
+mod names;
 mod queries;
 mod reading;
 mod records;

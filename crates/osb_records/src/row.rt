@@ -3,6 +3,7 @@
 ghost use Rattle.std.specs.Prelude.{◌≡◌, map, IfOk};
 ghost use Rattle.sqlite.specs.Order.{column, bytes};
 ghost use Rattle.osb_records.specs.Stored.{number_in, kind_numbered, state_numbered, entry_told, order_told};
+ghost use Rattle.osb_records.specs.Queries.{first_order};
 
 use crate::fault::StoreFault;
 use osb_orders::{Attributes, Order, OrderKind, OrderState, Outcome};
@@ -102,4 +103,14 @@ pub(crate) fn entries_in(alloc: Global, rows: &[Row]) -> Result<Vec<(Text, Order
         entries.push((text_in(row, 0)?, order_in(row)?))?;
     }
     Ok(entries)
+}
+
+/// The order that the first row shows.
+pub(crate) fn first_in(rows: &[Row]) -> Result<Option<Order>, StoreFault>
+    ensures { IfOk result (λ order. order ≡ first_order rows.now) }
+{
+    match rows.first() {
+        None => Ok(None),
+        Some(row) => Ok(Some(order_in(row)?)),
+    }
 }
