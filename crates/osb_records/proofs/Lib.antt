@@ -20,3 +20,4 @@ pub mod BackLemmas
 pub mod OrderTexts
 pub mod OrderLemmas
 pub mod NameLemmas
+pub mod NamedLemmas
