@@ -1,6 +1,10 @@
 pub mod Rows
 pub mod Tables
+pub mod Columns
+pub mod Instances
+pub mod Bindings
 pub mod Stored
+pub mod Standing
 pub mod Steps
 pub mod Commit
 pub mod Queries

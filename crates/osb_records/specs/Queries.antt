@@ -5,13 +5,15 @@ use Rattle.sqlite.specs.Effect.{Database}
 use Rattle.sqlite.specs.State.{State, HasCleanDisk}
 use Rattle.osb_orders.specs.declared.order.Order.{Order}
 use Rattle.osb_orders.specs.IsLife.{IsLives}
-use Rattle.osb_records.specs.Stored.{order_told, lives_stored}
+use Rattle.osb_records.specs.Stored.{order_told, lives_stored, content_in}
+use Rattle.osb_records.specs.Standing.{IsStanding}
 use Rattle.osb_records.specs.Steps.{HasTables}
 
--- the database has the tables, with well-formed lives
+-- the database has the tables, with well-formed lives and the rows that these have
 pub record AreRecords (db : Database) : Type 0 where
   pub tables : HasTables db
   pub lives : IsLives (lives_stored db.trees)
+  pub standing : IsStanding (content_in db.trees)
 
 -- a clean connection that is open has records
 abbrev pub ShowsRecords : State → Type 0
