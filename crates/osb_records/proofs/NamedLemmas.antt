@@ -77,24 +77,24 @@ all_fail test n (order ∷ later) known high = (fails test n order known.0 high.
 -- it finds the order of the number, if that passes
 find_numbered : (test : Order → Bool) (n from : ℕ) (life : Life) → IsNumberedFrom from life → AllByRecursion (λ (order : Order). test order ≡ true → order.number ≡ n) life → find test life ≡ only test (order_numbered n life)
 find_numbered test n from [] h known = refl
-find_numbered test n from (order ∷ later) h known = go (test order) refl (order.number == n) refl
+find_numbered test n from (order ∷ later) h known = go (test order) refl (order.number == n) refl (find_numbered test n (from + 1) later h.1 known.1)
   where
-    go : (b : Bool) → test order ≡ b → (c : Bool) → (order.number == n) ≡ c → cond b (Some order) (find test later) ≡ only test (cond c (Some order) (order_numbered n later))
-    go true is true same = rw is refl
-    go true is false other = absurd (true≢false (sym (equal_number order.number n (known.0 is)) ∙ other))
-    go false is true same =
+    go : (b : Bool) → test order ≡ b → (c : Bool) → (order.number == n) ≡ c → find test later ≡ only test (order_numbered n later) → cond b (Some order) (find test later) ≡ only test (cond c (Some order) (order_numbered n later))
+    go true is true same more = rw is refl
+    go true is false other more = absurd (true≢false (sym (equal_number order.number n (known.0 is)) ∙ other))
+    go false is true same more =
         let number = same_number order.number n same in
-        let high = all_weaker (λ (next : Order). from + 1 < next.number) (λ (next : Order). n < next.number) (λ next more. omega (arith, more, number, h.0)) later (above (from + 1) later h.1) in
+        let high = all_weaker (λ (next : Order). from + 1 < next.number) (λ (next : Order). n < next.number) (λ next higher. omega (arith, higher, number, h.0)) later (above (from + 1) later h.1) in
         rw is (find_none test later (all_fail test n later known.1 high))
-    go false is false other = find_numbered test n (from + 1) later h.1 known.1
+    go false is false other more = more
 
 find_among : (passes test : Order → Bool) (life : Life) → find test (filter passes life) ≡ find (λ order. passes order && test order) life
 find_among passes test [] = refl
-find_among passes test (order ∷ later) = go (passes order)
+find_among passes test (order ∷ later) = go (passes order) (find_among passes test later)
   where
-    go : (b : Bool) → find test (cond b (order ∷ filter passes later) (filter passes later)) ≡ cond (b && test order) (Some order) (find (λ order. passes order && test order) later)
-    go true = ap (λ found. cond (test order) (Some order) found) (find_among passes test later)
-    go false = find_among passes test later
+    go : (b : Bool) → find test (filter passes later) ≡ find (λ order. passes order && test order) later → find test (cond b (order ∷ filter passes later) (filter passes later)) ≡ cond (b && test order) (Some order) (find (λ order. passes order && test order) later)
+    go true more = ap (λ found. cond (test order) (Some order) found) more
+    go false more = more
 
 both : (passes test : Order → Bool) (found : Option Order) → only (λ order. passes order && test order) found ≡ only passes (only test found)
 both passes test None = refl
