@@ -21,3 +21,5 @@ pub mod OrderTexts
 pub mod OrderLemmas
 pub mod NameLemmas
 pub mod NamedLemmas
+pub mod BindingTexts
+pub mod BindingLemmas
