@@ -16,3 +16,4 @@ pub mod WriteLemmas
 pub mod SelectLemmas
 pub mod ReadLemmas
 pub mod ListingLemmas
+pub mod InstanceLemmas

@@ -3,6 +3,7 @@
 
 mod commits;
 mod fault;
+mod instances;
 pub mod memory;
 mod reading;
 mod records;
