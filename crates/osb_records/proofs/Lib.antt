@@ -17,3 +17,8 @@ pub mod SelectLemmas
 pub mod ReadLemmas
 pub mod ListingLemmas
 pub mod InstanceLemmas
+pub mod BackLemmas
+pub mod OrderTexts
+pub mod OrderLemmas
+pub mod NameLemmas
+pub mod NamedLemmas

@@ -7,3 +7,4 @@ pub mod Stored
 pub mod Standing
 pub mod Steps
 pub mod Commit
+pub mod Queries

@@ -5,6 +5,8 @@ mod commits;
 mod fault;
 mod instances;
 pub mod memory;
+mod names;
+mod queries;
 mod reading;
 mod records;
 mod row;

@@ -2,6 +2,7 @@
 
 ghost use Rattle.std.specs.Prelude.{◌≡◌, ◌==◌, map, IfOk};
 ghost use Rattle.sqlite.specs.Order.{column, bytes};
+ghost use Rattle.osb_records.specs.Queries.{first_order};
 ghost use Rattle.osb_records.specs.Columns.{number_in, attributes_told};
 ghost use Rattle.osb_records.specs.Stored.{kind_numbered, state_numbered, entry_told, order_told};
 ghost use Rattle.osb_records.specs.Instances.{instance_phase_numbered, standing_told, instance_row_told, first_told};
@@ -109,6 +110,16 @@ pub(crate) fn entries_in(alloc: Global, rows: &[Row]) -> Result<Vec<(Text, Order
         entries.push((text_in(row, 0)?, order_in(row)?))?;
     }
     Ok(entries)
+}
+
+/// The order that the first row shows.
+pub(crate) fn first_in(rows: &[Row]) -> Result<Option<Order>, StoreFault>
+    ensures { IfOk result (λ order. order ≡ first_order rows.now) }
+{
+    match rows.first() {
+        None => Ok(None),
+        Some(row) => Ok(Some(order_in(row)?)),
+    }
 }
 
 fn instance_phase_numbered(number: u32) -> Result<InstancePhase, StoreFault>
