@@ -16,6 +16,7 @@ pub mod WriteLemmas
 pub mod SelectLemmas
 pub mod ReadLemmas
 pub mod ListingLemmas
+pub mod InstanceLemmas
 pub mod BackLemmas
 pub mod OrderTexts
 pub mod OrderLemmas

@@ -1,5 +1,5 @@
 -- The rows of the table of instances.
-use Rattle.std.specs.Prelude.{Bool, ◌==◌, if◌then◌else◌, ℕ, pos, List, [], ◌∷◌, Option, None, Some, bytes_eq}
+use Rattle.std.specs.Prelude.{Bool, ◌==◌, if◌then◌else◌, ℕ, pos, List, [], ◌∷◌, Option, None, Some, option_map, slice_get, bytes_eq}
 use Rattle.std.specs.declared.cmp.Ordering.{Ordering}
 use Rattle.std.specs.Ordering.{nat_cmp}
 use Rattle.std.specs.Cmp.Lexicographic.{slice_cmp}
@@ -23,6 +23,10 @@ instance_cmp a b = slice_cmp nat_cmp a.0 b.0
 -- the entry is of the instance
 abbrev pub is_instance : List ℕ → InstanceEntry → Bool
 is_instance id entry = bytes_eq entry.0 id
+
+-- the entry with another row
+abbrev pub with_row : InstanceRow → InstanceEntry → InstanceEntry
+with_row row entry = (entry.0, row)
 
 -- ---- what the columns of an entry hold
 
@@ -101,3 +105,7 @@ instance_cells cells =
     ∷ column cells 9
     ∷ column cells 10
     ∷ []
+
+-- the row that the first cells tell, if there are any
+abbrev pub first_told : List Row → Option InstanceRow
+first_told rows = option_map instance_row_told (slice_get rows 0)

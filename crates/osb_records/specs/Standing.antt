@@ -1,17 +1,22 @@
 -- The rows that keep the current state are those of the lives.
-use Rattle.std.specs.Prelude.{◌≡◌, ℕ, List, map, filter}
+use Rattle.std.specs.Prelude.{◌≡◌, ℕ, List, Option, map, filter}
 use Rattle.std.specs.Option.{option_to_list}
 use Rattle.std.specs.FinMap.{entries}
 use Rattle.osb_orders.specs.Life.{Life}
 use Rattle.osb_orders.specs.Lives.{Lives, life_of}
+use Rattle.osb_standing.specs.declared.row.InstanceRow.{InstanceRow}
 use Rattle.osb_standing.specs.Rows.{row_of, bindings_of}
 use Rattle.osb_records.specs.Instances.{InstanceEntry, is_instance}
 use Rattle.osb_records.specs.Bindings.{BindingEntry, binding_entry, is_bound}
 use Rattle.osb_records.specs.Stored.{Content}
 
--- the instance has the row of this life, or none where it never had an order
+-- the instance has this row, or none
+abbrev pub IsRowOf : List ℕ → Option InstanceRow → List InstanceEntry → Type 0
+IsRowOf id row instances = filter (is_instance id) instances ≡ map (λ (row : InstanceRow). (id, row)) (option_to_list row)
+
+-- it is that of this life, and none where the life has no orders
 abbrev pub InstanceStands : List ℕ → Life → List InstanceEntry → Type 0
-InstanceStands id life instances = filter (is_instance id) instances ≡ map (λ row. (id, row)) (option_to_list (row_of life))
+InstanceStands id life instances = IsRowOf id (row_of life) instances
 
 -- its bindings have the rows of this life
 abbrev pub BindingsStand : List ℕ → Life → List BindingEntry → Type 0

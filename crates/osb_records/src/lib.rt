@@ -4,6 +4,7 @@
 mod bindings;
 mod commits;
 mod fault;
+mod instances;
 pub mod memory;
 mod names;
 mod queries;

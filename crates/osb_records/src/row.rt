@@ -5,7 +5,7 @@ ghost use Rattle.sqlite.specs.Order.{column, bytes};
 ghost use Rattle.osb_records.specs.Queries.{first_order};
 ghost use Rattle.osb_records.specs.Columns.{number_in, attributes_told};
 ghost use Rattle.osb_records.specs.Stored.{kind_numbered, state_numbered, entry_told, order_told};
-ghost use Rattle.osb_records.specs.Instances.{instance_phase_numbered, standing_told, instance_row_told};
+ghost use Rattle.osb_records.specs.Instances.{instance_phase_numbered, standing_told, instance_row_told, first_told};
 ghost use Rattle.osb_records.specs.Bindings.{binding_phase_numbered, binding_now, binding_told};
 
 use crate::fault::StoreFault;
@@ -166,6 +166,16 @@ pub(crate) fn instance_row_in(row: &Row) -> Result<InstanceRow, StoreFault>
         busy: busy_numbered(number_in(row, 2)?)?,
         last_number: number_in(row, 3)?,
     })
+}
+
+/// How the instance of the first row stands.
+pub(crate) fn first_instance_in(rows: &[Row]) -> Result<Option<InstanceRow>, StoreFault>
+    ensures { IfOk result (λ found. found ≡ first_told rows.now) }
+{
+    match rows.first() {
+        None => Ok(None),
+        Some(row) => Ok(Some(instance_row_in(row)?)),
+    }
 }
 
 fn binding_phase_numbered(number: u32) -> Result<BindingPhase, StoreFault>
