@@ -1,5 +1,5 @@
 -- How the tables are made.
-use Rattle.std.proofs.Common.{◌≡◌, ℕ, pos, List, [], codes, false, None, Ok, refl, sym, ap, subst, ◌∙◌, arith}
+use Rattle.std.proofs.Common.{◌≡◌, ℕ, pos, List, [], ◌∷◌, codes, false, None, Ok, refl, sym, ap, subst, ◌∙◌, arith}
 use Rattle.std.specs.Ordering.{nat_cmp}
 use Rattle.std.specs.declared.cmp.Ordering.{Ordering}
 use Rattle.std.proofs.lemmas.Cmp.{nat_cmp_total}
@@ -14,16 +14,19 @@ use Rattle.sqlite.specs.Effect.{Database}
 use Rattle.sqlite.specs.State.{State, Writes, Executes, mode_of}
 use Rattle.sqlite.proofs.Callers.{statement_of, runs_as}
 use Rattle.osb_records.specs.Rows.{Stores}
-use Rattle.osb_records.specs.Tables.{format_table, format_columns, no_schema, format_schema, record_schema}
+use Rattle.osb_records.specs.Tables.{format_table, format_columns, no_schema, format_schema, orders_schema, instances_schema, record_schema}
+use Rattle.osb_records.specs.Instances.{instance_row, instance_cmp, instance_cells}
+use Rattle.osb_records.specs.Bindings.{binding_row, binding_cmp, binding_cells}
+use Rattle.osb_records.specs.Steps.{AreBlank}
 use Rattle.osb_records.specs.Stored.{entry_row, entry_cmp, order_cells, version_row, version_cells}
-use Rattle.osb_records.proofs.Texts.{create_format, create_format_is, create_format_plain, create_orders, create_orders_is, create_orders_plain, orders_made, orders_placed, insert_version, insert_version_terms, insert_version_is}
+use Rattle.osb_records.proofs.Texts.{create_format, create_format_is, create_format_plain, create_orders, create_orders_is, create_orders_plain, orders_made, orders_placed, create_instances, create_instances_is, create_instances_plain, instances_made, instances_placed, create_bindings, create_bindings_is, create_bindings_plain, bindings_made, bindings_placed, insert_version, insert_version_terms, insert_version_is}
 use Rattle.osb_records.proofs.StatementLemmas.{went, same_value, insert_does}
 use Rattle.osb_records.proofs.TableLemmas.{cast_int, insert_stores}
 use Rattle.osb_records.proofs.ChangeLemmas.{Gives}
 
-pub makes_format : (old new : State) (count : ℕ) → old.now.schema ≡ no_schema → Executes create_format [] old new (Ok count)
-    → (new.now.schema ≡ format_schema) × (new.now.trees 0 ≡ [])
-makes_format old new count has h =
+pub makes_format : (old new : State) (count : ℕ) → old.now.schema ≡ no_schema → AreBlank [] old.now.trees → Executes create_format [] old new (Ok count)
+    → (new.now.schema ≡ format_schema) × AreBlank (0 ∷ []) new.now.trees
+makes_format old new count has blank h =
     let w = subst (λ t. Writes old new None CreateTable t [] count) create_format_is.1 (runs_as create_format [] old new no_schema has CreateTable create_format_is.0 create_format_plain count h) in
     let all = went w.changed in
     let first = went all.1 in
@@ -33,41 +36,69 @@ makes_format old new count has h =
     let schema : first.0.schema ≡ format_schema = made.is ∙ ap (λ s. created s made.table) has ∙ ap (created no_schema) same in
     let plain : lacks_sequence first.0.schema ≡ false = ap lacks_sequence schema in
     let now : new.now ≡ first.0 = ap (λ (p : Tally × Database). p.1) (same_value all.2) ∙ same_value (rw plain at first.2) in
-    (ap (λ (d : Database). d.schema) now ∙ schema, ap (λ (d : Database). d.trees 0) now ∙ subst (λ s. first.0.trees (next_tree s) ≡ []) has made.empty)
+    (ap (λ (d : Database). d.schema) now ∙ schema, (ap (λ (d : Database). d.trees 0) now ∙ subst (λ s. first.0.trees (next_tree s) ≡ []) has made.empty, tt))
 
-pub makes_orders : (old new : State) (count : ℕ) → old.now.schema ≡ format_schema → Executes create_orders [] old new (Ok count)
-    → (new.now.schema ≡ record_schema) × ((new.now.trees 1 ≡ []) × (new.now.trees 0 ≡ old.now.trees 0))
-makes_orders old new count has h =
+pub makes_orders : (old new : State) (count : ℕ) → old.now.schema ≡ format_schema → AreBlank (0 ∷ []) old.now.trees → Executes create_orders [] old new (Ok count)
+    → (new.now.schema ≡ orders_schema) × AreBlank (1 ∷ 0 ∷ []) new.now.trees
+makes_orders old new count has blank h =
     let w = subst (λ t. Writes old new None CreateTable t [] count) create_orders_is.1 (runs_as create_orders [] old new format_schema has CreateTable create_orders_is.0 create_orders_plain count h) in
     let all = went w.changed in
     let first = went all.1 in
     let made = first.1 in
     let both : Ok made.table ≡ Ok orders_made = sym made.defined ∙ create_orders_is.2 in
     let same : made.table ≡ orders_made = same_value both in
-    let schema : first.0.schema ≡ record_schema = made.is ∙ ap (λ s. created s made.table) has ∙ ap (created format_schema) same ∙ orders_placed in
+    let schema : first.0.schema ≡ orders_schema = made.is ∙ ap (λ s. created s made.table) has ∙ ap (created format_schema) same ∙ orders_placed in
     let plain : lacks_sequence first.0.schema ≡ false = ap lacks_sequence schema in
     let now : new.now ≡ first.0 = ap (λ (p : Tally × Database). p.1) (same_value all.2) ∙ same_value (rw plain at first.2) in
-    let others = subst (λ (s : Schema). KeepsRows s.tables old.now.trees first.0.trees) has made.others in (
-      ap (λ (d : Database). d.schema) now ∙ schema,
-      (
-        ap (λ (d : Database). d.trees 1) now ∙ subst (λ s. first.0.trees (next_tree s) ≡ []) has made.empty,
-        ap (λ (d : Database). d.trees 0) now ∙ others.0,
-      ),
-    )
+    let others = subst (λ (s : Schema). KeepsRows s.tables old.now.trees first.0.trees) has made.others in
+    (ap (λ (d : Database). d.schema) now ∙ schema, (ap (λ (d : Database). d.trees 1) now ∙ subst (λ s. first.0.trees (next_tree s) ≡ []) has made.empty, (ap (λ (d : Database). d.trees 0) now ∙ others.0 ∙ blank.0, tt)))
+
+pub makes_instances : (old new : State) (count : ℕ) → old.now.schema ≡ orders_schema → AreBlank (1 ∷ 0 ∷ []) old.now.trees → Executes create_instances [] old new (Ok count)
+    → (new.now.schema ≡ instances_schema) × AreBlank (3 ∷ 1 ∷ 0 ∷ []) new.now.trees
+makes_instances old new count has blank h =
+    let w = subst (λ t. Writes old new None CreateTable t [] count) create_instances_is.1 (runs_as create_instances [] old new orders_schema has CreateTable create_instances_is.0 create_instances_plain count h) in
+    let all = went w.changed in
+    let first = went all.1 in
+    let made = first.1 in
+    let both : Ok made.table ≡ Ok instances_made = sym made.defined ∙ create_instances_is.2 in
+    let same : made.table ≡ instances_made = same_value both in
+    let schema : first.0.schema ≡ instances_schema = made.is ∙ ap (λ s. created s made.table) has ∙ ap (created orders_schema) same ∙ instances_placed in
+    let plain : lacks_sequence first.0.schema ≡ false = ap lacks_sequence schema in
+    let now : new.now ≡ first.0 = ap (λ (p : Tally × Database). p.1) (same_value all.2) ∙ same_value (rw plain at first.2) in
+    let others = subst (λ (s : Schema). KeepsRows s.tables old.now.trees first.0.trees) has made.others in
+    (ap (λ (d : Database). d.schema) now ∙ schema, (ap (λ (d : Database). d.trees 3) now ∙ subst (λ s. first.0.trees (next_tree s) ≡ []) has made.empty, (ap (λ (d : Database). d.trees 1) now ∙ others.1.0 ∙ blank.0, (ap (λ (d : Database). d.trees 0) now ∙ others.0 ∙ blank.1.0, tt))))
+
+pub makes_bindings : (old new : State) (count : ℕ) → old.now.schema ≡ instances_schema → AreBlank (3 ∷ 1 ∷ 0 ∷ []) old.now.trees → Executes create_bindings [] old new (Ok count)
+    → (new.now.schema ≡ record_schema) × AreBlank (5 ∷ 3 ∷ 1 ∷ 0 ∷ []) new.now.trees
+makes_bindings old new count has blank h =
+    let w = subst (λ t. Writes old new None CreateTable t [] count) create_bindings_is.1 (runs_as create_bindings [] old new instances_schema has CreateTable create_bindings_is.0 create_bindings_plain count h) in
+    let all = went w.changed in
+    let first = went all.1 in
+    let made = first.1 in
+    let both : Ok made.table ≡ Ok bindings_made = sym made.defined ∙ create_bindings_is.2 in
+    let same : made.table ≡ bindings_made = same_value both in
+    let schema : first.0.schema ≡ record_schema = made.is ∙ ap (λ s. created s made.table) has ∙ ap (created instances_schema) same ∙ bindings_placed in
+    let plain : lacks_sequence first.0.schema ≡ false = ap lacks_sequence schema in
+    let now : new.now ≡ first.0 = ap (λ (p : Tally × Database). p.1) (same_value all.2) ∙ same_value (rw plain at first.2) in
+    let others = subst (λ (s : Schema). KeepsRows s.tables old.now.trees first.0.trees) has made.others in
+    (ap (λ (d : Database). d.schema) now ∙ schema, (ap (λ (d : Database). d.trees 5) now ∙ subst (λ s. first.0.trees (next_tree s) ≡ []) has made.empty, (ap (λ (d : Database). d.trees 3) now ∙ others.1.1.0 ∙ blank.0, (ap (λ (d : Database). d.trees 1) now ∙ others.1.0 ∙ blank.1.0, (ap (λ (d : Database). d.trees 0) now ∙ others.0 ∙ blank.1.1.0, tt)))))
 
 -- a table without rows
 none_stored : {E : Type 0} (cells : Row → Row) (shown : E → Row) (cmp : E → E → Ordering) (rows : List Row) → rows ≡ [] → Stores cells shown cmp rows []
 none_stored cells shown cmp rows is = subst (λ r. Stores cells shown cmp r []) (sym is) (record { held = record { apart = tt; keyed = tt; same = IsPermutation-refl [] }; rising = tt })
 
-pub adds_version : (old new : State) (count : ℕ) → old.now.schema ≡ record_schema → old.now.trees 0 ≡ [] → old.now.trees 1 ≡ [] → Executes insert_version [] old new (Ok count) → Gives new []
-adds_version old new count has no_version no_order h =
+pub adds_version : (old new : State) (count : ℕ) → old.now.schema ≡ record_schema → AreBlank (5 ∷ 3 ∷ 1 ∷ 0 ∷ []) old.now.trees → Executes insert_version [] old new (Ok count) → Gives new [] [] []
+adds_version old new count has blank h =
     let w = runs_as insert_version [] old new record_schema has _ insert_version_is.0 insert_version_is.1 count h in
     let did = insert_does old.step_limit (mode_of old) [] old.now new.now w.tally (statement_of insert_version (understood record_schema insert_version)) record_schema 0 (codes "format") 0 format_columns [] [] has refl (λ _ _. refl)
-    insert_version_terms 2 (version_row 1) refl w.changed in (
+    insert_version_terms 2 (version_row 1) refl w.changed in
+    let others = did.1.tables in (
       did.0,
       record {
-        format = insert_stores record_schema _ old.now.trees new.now.trees (codes "format") 0 format_columns [] [] nat_cmp nat_cmp_total version_cells version_row 1 [] (λ _. refl) (rw (cast_int (pos 1)) refl) tt did.1 (none_stored version_cells version_row nat_cmp _ no_version);
-        orders = none_stored order_cells entry_row entry_cmp _ (did.1.tables.1.0 (λ e. absurd (omega (arith, e))) ∙ no_order);
+        format = insert_stores record_schema _ old.now.trees new.now.trees (codes "format") 0 format_columns [] [] nat_cmp nat_cmp_total version_cells version_row 1 [] (λ _. refl) (rw (cast_int (pos 1)) refl) tt did.1 (none_stored version_cells version_row nat_cmp _ blank.1.1.1.0);
+        orders = none_stored order_cells entry_row entry_cmp _ (others.1.0 (λ e. absurd (omega (arith, e))) ∙ blank.1.1.0);
+        instances = none_stored instance_cells instance_row instance_cmp _ (others.1.1.0 (λ e. absurd (omega (arith, e))) ∙ blank.1.0);
+        bindings = none_stored binding_cells binding_row binding_cmp _ (others.1.1.1.0 (λ e. absurd (omega (arith, e))) ∙ blank.0);
       },
       w.sound,
     )

@@ -16,3 +16,11 @@ pub mod WriteLemmas
 pub mod SelectLemmas
 pub mod ReadLemmas
 pub mod ListingLemmas
+pub mod InstanceLemmas
+pub mod BackLemmas
+pub mod OrderTexts
+pub mod OrderLemmas
+pub mod NameLemmas
+pub mod NamedLemmas
+pub mod BindingTexts
+pub mod BindingLemmas

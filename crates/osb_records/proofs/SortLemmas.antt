@@ -1,5 +1,5 @@
 -- The entries of trees are those that they hold.
-use Rattle.std.proofs.Common.{◌≡◌, zero, suc, add-one, List, [], ◌∷◌, map, false, Ordering, Less, is_eq, is_lt, refl, sym, ap, subst, ◌∙◌, arith, IsPermutation, IsSorted}
+use Rattle.std.proofs.Common.{◌≡◌, ◌==◌, Bool, true, Option, None, Some, zero, suc, add-one, List, [], ◌∷◌, map, false, Ordering, Less, Equal, Greater, is_eq, is_lt, refl, sym, ap, subst, ◌∙◌, arith, IsPermutation, IsSorted}
 use Rattle.std.specs.Ordering.{ordering_reverse}
 use Rattle.std.specs.Cmp.{IsTotalOrder}
 use Rattle.std.proofs.lemmas.Cmp.{nat_list_cmp_total, nat_cmp_total, on_total, then_total}
@@ -14,9 +14,19 @@ use Rattle.osb_orders.specs.declared.order.OrderKind.{OrderKind}
 use Rattle.osb_orders.specs.declared.order.OrderKind.TheVariants.{Create, Update, Delete, Bind, Unbind}
 use Rattle.osb_orders.specs.declared.order.OrderState.{OrderState}
 use Rattle.osb_orders.specs.declared.order.OrderState.TheVariants.{Running, Succeeded, Failed}
+use Rattle.osb_orders.specs.declared.order.Attributes.{Attributes}
+use Rattle.osb_orders.specs.declared.view.InstancePhase.{InstancePhase}
+use Rattle.osb_orders.specs.declared.view.InstancePhase.TheVariants as instance
+use Rattle.osb_orders.specs.declared.view.InstancePhase.TheVariants.{Creating, Ready, Updating, Deleting}
+use Rattle.osb_orders.specs.declared.view.Standing.{Standing}
+use Rattle.osb_orders.specs.declared.view.BindingPhase.{BindingPhase}
+use Rattle.osb_orders.specs.declared.view.BindingPhase.TheVariants as binding
+use Rattle.osb_orders.specs.declared.view.BindingPhase.TheVariants.{Binding, Bound, Unbinding}
 use Rattle.osb_orders.specs.Orders.{kind_number, state_number}
 use Rattle.osb_records.specs.Rows.{Stores}
-use Rattle.osb_records.specs.Stored.{Entry, Holds, entry_row, entry_cmp, entry_told, order_cells, kind_numbered, state_numbered, entries_in}
+use Rattle.osb_records.specs.Instances.{InstanceEntry, instance_cmp, instance_row, instance_told, instance_cells, instance_phase_number, instance_phase_numbered, standing_number, standing_told, attributes_shown, busy_number}
+use Rattle.osb_records.specs.Bindings.{BindingEntry, binding_cmp, binding_row, binding_told, binding_cells, binding_phase_number, binding_phase_numbered}
+use Rattle.osb_records.specs.Stored.{Entry, Holds, HoldsEntries, entry_row, entry_cmp, entry_told, order_cells, kind_numbered, state_numbered, entries_in, instances_in, bindings_in}
 use Rattle.osb_records.proofs.RowLemmas.{ascending_permuted, untied_back}
 
 pub entry_total : IsTotalOrder entry_cmp
@@ -38,6 +48,48 @@ state_back Failed = refl
 pub told_back : (entry : Entry) → entry_told (entry_row entry) ≡ entry
 told_back entry = rw (kind_back entry.1.kind, state_back entry.1.outcome.state) refl
 
+pub instance_total : IsTotalOrder instance_cmp
+instance_total = on_total (λ (entry : InstanceEntry). entry.0) nat_list_cmp_total
+
+pub binding_total : IsTotalOrder binding_cmp
+binding_total = then_total (on_total (λ (entry : BindingEntry). entry.instance) nat_list_cmp_total) (on_total (λ (entry : BindingEntry). entry.binding) nat_list_cmp_total)
+
+pub instance_phase_back : (phase : InstancePhase) → instance_phase_numbered (instance_phase_number phase) ≡ phase
+instance_phase_back Creating = refl
+instance_phase_back Ready = refl
+instance_phase_back instance.Failed = refl
+instance_phase_back Updating = refl
+instance_phase_back Deleting = refl
+
+some_standing : (phase : InstancePhase) (attributes : Attributes) → standing_told (instance_phase_number phase) attributes ≡ Some (record { phase = phase; attributes = attributes })
+some_standing Creating attributes = refl
+some_standing Ready attributes = refl
+some_standing instance.Failed attributes = refl
+some_standing Updating attributes = refl
+some_standing Deleting attributes = refl
+
+standing_back : (standing : Option Standing) → standing_told (standing_number standing) (attributes_shown standing) ≡ standing
+standing_back None = refl
+standing_back (Some standing) = some_standing standing.phase standing.attributes
+
+busy_back : (busy : Bool) → (busy_number busy == 1) ≡ busy
+busy_back true = refl
+busy_back false = refl
+
+-- a row tells the instance that it shows
+pub instance_back : (entry : InstanceEntry) → instance_told (instance_row entry) ≡ entry
+instance_back entry = rw (standing_back entry.1.standing, busy_back entry.1.busy) refl
+
+pub binding_phase_back : (phase : BindingPhase) → binding_phase_numbered (binding_phase_number phase) ≡ phase
+binding_phase_back Binding = refl
+binding_phase_back Bound = refl
+binding_phase_back binding.Failed = refl
+binding_phase_back Unbinding = refl
+
+-- a row tells the binding that it shows
+pub binding_back : (entry : BindingEntry) → binding_told (binding_row entry) ≡ entry
+binding_back entry = rw (binding_phase_back entry.phase) refl
+
 module _ {E : Type 0} (cmp : E → E → Ordering) (total : IsTotalOrder cmp) where
   sorted : (es : List E) → IsAscending (λ a b. cmp a b ≡ Less) es → IsSorted cmp es
   sorted [] up k d low high = absurd (omega (arith, high))
@@ -52,8 +104,15 @@ module _ {E : Type 0} (cmp : E → E → Ordering) (total : IsTotalOrder cmp) wh
       let apart = ascending_weaker _ (λ a b. is_eq (cmp a b) ≡ false) (λ a b less. ap is_eq less) es h.rising in
       sym (sorted_is-sort_by cmp total xs es (ascending_permuted (λ a b. is_eq (cmp a b) ≡ false) (untied_back cmp total) es xs (IsPermutation-sym _ _ same) apart) same (sorted es h.rising))
 
-pub entries_are : (db : Trees) (entries : List Entry) → Holds entries db → entries_in db ≡ entries
-entries_are db entries h = sort_is entry_cmp entry_total order_cells entry_row entry_told told_back (db 1) entries h.orders
+pub entries_are : (db : Trees) (entries : List Entry) → Stores order_cells entry_row entry_cmp (db 1) entries → entries_in db ≡ entries
+entries_are db entries h = sort_is entry_cmp entry_total order_cells entry_row entry_told told_back (db 1) entries h
 
-pub held_again : (db : Trees) (entries : List Entry) → Holds entries db → Holds (entries_in db) db
-held_again db entries h = subst (λ es. Holds es db) (sym (entries_are db entries h)) h
+pub instances_are : (db : Trees) (entries : List InstanceEntry) → Stores instance_cells instance_row instance_cmp (db 3) entries → instances_in db ≡ entries
+instances_are db entries h = sort_is instance_cmp instance_total instance_cells instance_row instance_told instance_back (db 3) entries h
+
+pub bindings_are : (db : Trees) (entries : List BindingEntry) → Stores binding_cells binding_row binding_cmp (db 5) entries → bindings_in db ≡ entries
+bindings_are db entries h = sort_is binding_cmp binding_total binding_cells binding_row binding_told binding_back (db 5) entries h
+
+module _ (db : Trees) (entries : List Entry) (instances : List InstanceEntry) (bindings : List BindingEntry) (h : Holds entries instances bindings db) where
+  pub held_again : HoldsEntries db
+  held_again = rw (entries_are db entries h.orders, instances_are db instances h.instances, bindings_are db bindings h.bindings) h

@@ -10,9 +10,11 @@ use Rattle.sqlite.specs.State.{State, HasCleanDisk, Executes, ExecutesInside, Su
 use Rattle.osb_orders.specs.Lives.{Lives}
 use Rattle.osb_orders.specs.IsLife.{IsLives}
 use Rattle.osb_records.specs.Tables.{record_schema}
-use Rattle.osb_records.specs.Stored.{Entry, lives_in}
-use Rattle.osb_records.specs.Steps.{HasTables, ShowsSchema, HoldsLives, IsReady, Steps, Makes, stored}
-use Rattle.osb_records.proofs.SortLemmas.{entries_are, held_again}
+use Rattle.osb_records.specs.Instances.{InstanceEntry}
+use Rattle.osb_records.specs.Bindings.{BindingEntry}
+use Rattle.osb_records.specs.Stored.{Entry, Content, lives_in}
+use Rattle.osb_records.specs.Steps.{HasTables, ShowsSchema, ShowsBlank, AreBlank, HoldsLives, IsReady, Steps, Makes, stored}
+use Rattle.osb_records.proofs.SortLemmas.{entries_are, instances_are, bindings_are, held_again}
 use Rattle.osb_records.proofs.ChangeLemmas.{Gives}
 
 abbrev pub IsOver : State → Result ℕ Error → Error → Type 0
@@ -30,11 +32,12 @@ clean_before old new P s clean = omega (arith, s.clean)
 
 module _ (text : List ℕ) (params : Row) (old new : State) (result : Result ℕ Error) (why : Error) (over : IsOver old result why) (survives : Survives old new (λ _. ⊥)) (clean : HasCleanDisk new) where
   -- a statement whose meaning is known takes one step
-  pub steps_by : (lives : Lives) (entries : List Entry) → ShowsSchema record_schema old
-      → ((count : ℕ) → HasCleanDisk old → IsTrue old.is_open → old.now.schema ≡ record_schema → Executes text params old new (Ok count) → Gives new entries × (lives_in entries ≡ lives))
-      → (IsTrue old.in_transaction → ExecutesInside 0 text params old new result) → OnOk result (Steps old new lives)
-  steps_by lives entries has does h =
-      elim result as (λ r. IsOver old r why → (IsTrue old.in_transaction → ExecutesInside 0 text params old new r) → OnOk r (Steps old new lives)) [
+  pub steps_by : (lives : Lives) (entries : List Entry) (instances : List InstanceEntry) (bindings : List BindingEntry) → ShowsSchema record_schema old
+      → ((count : ℕ) → HasCleanDisk old → IsTrue old.is_open → old.now.schema ≡ record_schema → Executes text params old new (Ok count) → Gives new entries instances bindings × (lives_in entries ≡ lives))
+      → (IsTrue old.in_transaction → ExecutesInside 0 text params old new result) → OnOk result (Steps old new (record { lives = lives; instances = instances; bindings = bindings }))
+  steps_by lives entries instances bindings has does h =
+      let next : Content = record { lives = lives; instances = instances; bindings = bindings } in
+      elim result as (λ r. IsOver old r why → (IsTrue old.in_transaction → ExecutesInside 0 text params old new r) → OnOk r (Steps old new next)) [
         | Err e ↦ λ _ _. tt
         | Ok count ↦ λ ended run.
             let inside = was_inside old count why ended in
@@ -47,29 +50,33 @@ module _ (text : List ℕ) (params : Row) (old new : State) (result : Result ℕ
               inside = ran.1.mode;
               was_open = ran.1.was_open;
               is_open = ran.1.is_open;
-              tables = record { schema = gives.0; holds = held_again new.now.trees entries gives.1 };
-              lives_are = ap lives_in (entries_are new.now.trees entries gives.1) ∙ did.1;
+              tables = record { schema = gives.0; holds = held_again new.now.trees entries instances bindings gives.1 };
+              lives_are = ap lives_in (entries_are new.now.trees entries gives.1.orders) ∙ did.1;
+              instances_are = instances_are new.now.trees instances gives.1.instances;
+              bindings_are = bindings_are new.now.trees bindings gives.1.bindings;
               sound = gives.2;
               committed = ran.1.committed_is;
             }
       ] over h
 
-  -- a statement that makes a table
-  pub makes_by : (before after : Schema) (Also : Type 0) → ShowsSchema before old → ((count : ℕ) → old.now.schema ≡ before → Executes text params old new (Ok count) → (new.now.schema ≡ after) × Also)
-      → (IsTrue old.in_transaction → ExecutesInside 0 text params old new result) → OnOk result (Makes old new after × Also)
-  makes_by before after Also has does h =
-      elim result as (λ r. IsOver old r why → (IsTrue old.in_transaction → ExecutesInside 0 text params old new r) → OnOk r (Makes old new after × Also)) [
+  -- a statement that makes a table beside those that have no rows
+  pub makes_by : (before after : Schema) (had has_now : List ℕ) → ShowsSchema before old → ShowsBlank had old
+      → ((count : ℕ) → old.now.schema ≡ before → AreBlank had old.now.trees → Executes text params old new (Ok count) → (new.now.schema ≡ after) × AreBlank has_now new.now.trees)
+      → (IsTrue old.in_transaction → ExecutesInside 0 text params old new result) → OnOk result (Makes old new after has_now)
+  makes_by before after had has_now has blank does h =
+      elim result as (λ r. IsOver old r why → (IsTrue old.in_transaction → ExecutesInside 0 text params old new r) → OnOk r (Makes old new after has_now)) [
         | Err e ↦ λ _ _. tt
         | Ok count ↦ λ ended run.
             let inside = was_inside old count why ended in
             let ran = run inside in
-            let did = does count (has (clean_before old new _ survives clean) ran.1.was_open) ran.0 in
-            (record { was_inside = inside; inside = ran.1.mode; was_open = ran.1.was_open; is_open = ran.1.is_open; schema_is = did.0; committed = ran.1.committed_is }, did.1)
+            let earlier = clean_before old new _ survives clean in
+            let did = does count (has earlier ran.1.was_open) (blank earlier ran.1.was_open) ran.0 in
+            record { was_inside = inside; inside = ran.1.mode; was_open = ran.1.was_open; is_open = ran.1.is_open; schema_is = did.0; blank = did.1; committed = ran.1.committed_is }
       ] over h
 
 -- what a commit may leave, where its transaction took these steps
-pub committed_lives : (old new : State) (lives : Lives) (db : Trees) → Steps old new lives → db ≡ new.now.trees → HoldsLives lives db
-committed_lives old new lives db steps is = subst (HoldsLives lives) (sym is) (record {
+pub committed_lives : (old new : State) (next : Content) (db : Trees) → Steps old new next → db ≡ new.now.trees → HoldsLives next.lives db
+committed_lives old new next db steps is = subst (HoldsLives next.lives) (sym is) (record {
   sound = subst (λ s. IsDatabase (record { schema = s; trees = new.now.trees })) steps.tables.schema steps.sound;
   holds = steps.tables.holds;
   lives_are = steps.lives_are;

@@ -19,7 +19,7 @@ use Rattle.osb_orders.specs.Changed.{with_outcome}
 use Rattle.osb_records.specs.Stored.{Entry, entry_row, entry_cmp, is_of, is_keyed}
 use Rattle.osb_records.proofs.Texts.{is_at}
 
-truth_back : (b : Bool) → is_true (from_truth (Some b)) ≡ b
+pub truth_back : (b : Bool) → is_true (from_truth (Some b)) ≡ b
 truth_back true = refl
 truth_back false = refl
 

@@ -15,7 +15,7 @@ use Rattle.sqlite_value.specs.Keys.{ascending}
 use Rattle.sqlite_tied.specs.Compute.{everything}
 use Rattle.sqlite.specs.Listing.{understood, reads_listing}
 use Rattle.sqlite.proofs.Callers.{IsPlain, command_of, statement_of}
-use Rattle.osb_records.specs.Tables.{format_table, no_schema, format_schema, record_schema, plain_table, order_columns}
+use Rattle.osb_records.specs.Tables.{format_table, no_schema, format_schema, orders_schema, instances_schema, record_schema, plain_table, order_columns, instance_columns, binding_columns}
 use Rattle.osb_records.proofs.AnswerLemmas.{over}
 use Rattle.sqlite.specs.Change.{created}
 use Rattle.sqlite.specs.Table.{Table}
@@ -56,9 +56,47 @@ pub create_orders_plain : IsPlain (understood format_schema create_orders)
 unfolding understood everything
 create_orders_plain = (refl, refl)
 
-pub orders_placed : created format_schema orders_made ≡ record_schema
+pub orders_placed : created format_schema orders_made ≡ orders_schema
 unfolding everything
 orders_placed = refl
+
+-- the table of instances as its text has it
+abbrev pub instances_made : Table
+instances_made = plain_table (codes "instances") 0 instance_columns (1 ∷ []) ((1 ∷ []) ∷ [])
+
+abbrev pub create_instances : List ℕ
+create_instances = codes "CREATE TABLE instances (instance_id TEXT NOT NULL, phase INTEGER NOT NULL, busy INTEGER NOT NULL, last_seq INTEGER NOT NULL, service_id TEXT NOT NULL, plan_id TEXT NOT NULL, organization TEXT NOT NULL, space TEXT NOT NULL, params TEXT NOT NULL, maint TEXT NOT NULL, PRIMARY KEY (instance_id)) STRICT"
+
+pub create_instances_is : (command_of (understood orders_schema create_instances) ≡ CreateTable) × (statement_of create_instances (understood orders_schema create_instances) ≡ create_instances) × (table_defined_by create_instances ≡ Ok instances_made)
+unfolding understood everything
+create_instances_is = (refl, refl, refl)
+
+pub create_instances_plain : IsPlain (understood orders_schema create_instances)
+unfolding understood everything
+create_instances_plain = (refl, refl)
+
+pub instances_placed : created orders_schema instances_made ≡ instances_schema
+unfolding everything
+instances_placed = refl
+
+-- the table of bindings as its text has it
+abbrev pub bindings_made : Table
+bindings_made = plain_table (codes "bindings") 0 binding_columns (1 ∷ 2 ∷ []) ((1 ∷ 2 ∷ []) ∷ [])
+
+abbrev pub create_bindings : List ℕ
+create_bindings = codes "CREATE TABLE bindings (instance_id TEXT NOT NULL, binding_id TEXT NOT NULL, phase INTEGER NOT NULL, service_id TEXT NOT NULL, plan_id TEXT NOT NULL, app_guid TEXT NOT NULL, bind_resource TEXT NOT NULL, params TEXT NOT NULL, credentials TEXT NOT NULL, PRIMARY KEY (instance_id, binding_id)) STRICT"
+
+pub create_bindings_is : (command_of (understood instances_schema create_bindings) ≡ CreateTable) × (statement_of create_bindings (understood instances_schema create_bindings) ≡ create_bindings) × (table_defined_by create_bindings ≡ Ok bindings_made)
+unfolding understood everything
+create_bindings_is = (refl, refl, refl)
+
+pub create_bindings_plain : IsPlain (understood instances_schema create_bindings)
+unfolding understood everything
+create_bindings_plain = (refl, refl)
+
+pub bindings_placed : created instances_schema bindings_made ≡ record_schema
+unfolding everything
+bindings_placed = refl
 
 abbrev pub insert_version : List ℕ
 insert_version = codes "INSERT INTO format (version) VALUES (1)"
@@ -96,6 +134,30 @@ pub finish_order_is : (command_of (understood record_schema finish_order) ≡ Up
 unfolding understood everything
 finish_order_is = (refl, (refl, refl))
 
+abbrev pub insert_instance : List ℕ
+insert_instance = codes "INSERT INTO instances (instance_id, phase, busy, last_seq, service_id, plan_id, organization, space, params, maint) VALUES (?1, ?2, ?3, ?4, ?5, ?6, ?7, ?8, ?9, ?10)"
+
+abbrev pub insert_instance_terms : List Term
+insert_instance_terms = lit Null ∷ col 0 0 ∷ col 0 1 ∷ col 0 2 ∷ col 0 3 ∷ col 0 4 ∷ col 0 5 ∷ col 0 6 ∷ col 0 7 ∷ col 0 8 ∷ col 0 9 ∷ []
+
+pub insert_instance_is : (command_of (understood record_schema insert_instance) ≡ Insert 2 (Values insert_instance_terms 11)) × IsPlain (understood record_schema insert_instance)
+unfolding understood everything
+insert_instance_is = (refl, (refl, refl))
+
+abbrev pub update_instance : List ℕ
+update_instance = codes "UPDATE instances SET phase = ?2, busy = ?3, last_seq = ?4, service_id = ?5, plan_id = ?6, organization = ?7, space = ?8, params = ?9, maint = ?10 WHERE instance_id = ?1"
+
+-- the id stays, and the other columns are new
+abbrev pub updated_cells : List Term
+updated_cells = col 1 1 ∷ col 0 1 ∷ col 0 2 ∷ col 0 3 ∷ col 0 4 ∷ col 0 5 ∷ col 0 6 ∷ col 0 7 ∷ col 0 8 ∷ col 0 9 ∷ []
+
+abbrev pub update_instance_query : Query
+update_instance_query = over 3 (is_at 1 0 ∷ []) (col 1 0 ∷ col 1 0 ∷ updated_cells) [] every
+
+pub update_instance_is : (command_of (understood record_schema update_instance) ≡ Update 2 (record { lets = []; body = update_instance_query })) × IsPlain (understood record_schema update_instance)
+unfolding understood everything
+update_instance_is = (refl, (refl, refl))
+
 -- ---- queries
 
 abbrev pub all_cells : List Term
@@ -129,3 +191,22 @@ running_query = over 1 running_tests all_cells by_key (col 0 1)
 pub select_running_is : (command_of (understood record_schema select_running) ≡ Select (record { lets = []; body = running_query }) all_names) × (reads_listing record_schema select_running ≡ false) × IsPlain (understood record_schema select_running)
 unfolding understood everything
 select_running_is = (refl, refl, (refl, refl))
+
+abbrev pub instance_cells_read : List Term
+instance_cells_read = col 1 1 ∷ col 1 2 ∷ col 1 3 ∷ col 1 4 ∷ col 1 5 ∷ col 1 6 ∷ col 1 7 ∷ col 1 8 ∷ col 1 9 ∷ col 1 10 ∷ []
+
+abbrev pub instance_names : List (List ℕ)
+instance_names = codes "instance_id" ∷ codes "phase" ∷ codes "busy" ∷ codes "last_seq" ∷ codes "service_id" ∷ codes "plan_id" ∷ codes "organization" ∷ codes "space" ∷ codes "params" ∷ codes "maint" ∷ []
+
+abbrev pub select_instance : List ℕ
+select_instance = codes "SELECT instance_id, phase, busy, last_seq, service_id, plan_id, organization, space, params, maint FROM instances WHERE instance_id = ?1 ORDER BY instance_id"
+
+abbrev pub by_instance : List (Term × Key)
+by_instance = (col 1 1, ascending Binary) ∷ []
+
+abbrev pub instance_query : Query
+instance_query = over 3 (is_at 1 0 ∷ []) instance_cells_read by_instance every
+
+pub select_instance_is : (command_of (understood record_schema select_instance) ≡ Select (record { lets = []; body = instance_query }) instance_names) × (reads_listing record_schema select_instance ≡ false) × IsPlain (understood record_schema select_instance)
+unfolding understood everything
+select_instance_is = (refl, refl, (refl, refl))

@@ -19,7 +19,9 @@ use Rattle.osb_orders.specs.Lives.{life_of}
 use Rattle.osb_orders.specs.Changed.{lives_changed}
 use Rattle.osb_orders.specs.IsLife.{IsLives, IsInstance, ends_running}
 use Rattle.osb_orders.specs.Allowed.{IsFinishable}
-use Rattle.osb_records.specs.Stored.{Entry, entry_row, entry_cmp, is_keyed, entries_in, lives_in}
+use Rattle.osb_records.specs.Instances.{InstanceEntry}
+use Rattle.osb_records.specs.Bindings.{BindingEntry}
+use Rattle.osb_records.specs.Stored.{Entry, entry_row, entry_cmp, is_keyed, entries_in, instances_in, bindings_in, lives_in}
 use Rattle.osb_records.specs.Steps.{HasTables, IsReady, stored}
 use Rattle.osb_records.proofs.Texts.{insert_order, finish_order}
 use Rattle.osb_records.proofs.TestLemmas.{entry_ended}
@@ -46,17 +48,23 @@ module _ (old new : State) (count : ℕ) (tables : HasTables old.now) (id : List
   abbrev entries : List Entry
   entries = entries_in old.now.trees
 
+  abbrev instances : List InstanceEntry
+  instances = instances_in old.now.trees
+
+  abbrev bindings : List BindingEntry
+  bindings = bindings_in old.now.trees
+
   pub appends : (order : Order) → IsLives (lives_changed (Append order) id (stored old)) → Executes insert_order (entry_row (id, order)) old new (Ok count)
-      → Gives new (insert_sorted entry_cmp (id, order) entries) × (lives_in (insert_sorted entry_cmp (id, order) entries) ≡ lives_changed (Append order) id (stored old))
+      → Gives new (insert_sorted entry_cmp (id, order) entries) instances bindings × (lives_in (insert_sorted entry_cmp (id, order) entries) ≡ lives_changed (Append order) id (stored old))
   appends order whole h =
       let above = entries_below id order entries (subst (AllByRecursion (λ (other : Order). other.number < order.number)) (life_of_lives id entries) (append_above (stored old) id order whole)) in
-      (adds_order old new count tables.schema entries tables.holds (id, order) (key_new id order entries above) h, append_lives id order entries tables.holds.orders.rising above)
+      (adds_order old new count tables.schema entries instances bindings tables.holds (id, order) (key_new id order entries above) h, append_lives id order entries tables.holds.orders.rising above)
 
   pub finishes : (number : ℕ) (outcome : Outcome) → IsLives (stored old) → IsFinishable (life_of (stored old) id) number outcome
       → Executes finish_order (Text id ∷ Int (pos number) ∷ Int (pos (state_number outcome.state)) ∷ Text outcome.description ∷ Text outcome.credentials ∷ []) old new (Ok count)
-      → Gives new (update_where (is_keyed id number) (entry_ended outcome) entries) × (lives_in (update_where (is_keyed id number) (entry_ended outcome) entries) ≡ lives_changed (Finish number outcome) id (stored old))
+      → Gives new (update_where (is_keyed id number) (entry_ended outcome) entries) instances bindings × (lives_in (update_where (is_keyed id number) (entry_ended outcome) entries) ≡ lives_changed (Finish number outcome) id (stored old))
   finishes number outcome whole may h =
-      (ends_order old new count tables.schema entries tables.holds id number outcome h, end_lives id number outcome entries (numbered (stored old) id whole) may.last (runs_not_empty _ may.runs))
+      (ends_order old new count tables.schema entries instances bindings tables.holds id number outcome h, end_lives id number outcome entries (numbered (stored old) id whole) may.last (runs_not_empty _ may.runs))
 
 -- the parameters that show an entry
 pub entry_params : (entry : Entry) {a b c d e f g h i j k l m : Value}

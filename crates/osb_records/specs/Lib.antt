@@ -1,5 +1,11 @@
 pub mod Rows
 pub mod Tables
+pub mod Columns
+pub mod Instances
+pub mod Bindings
 pub mod Stored
+pub mod Standing
 pub mod Steps
 pub mod Commit
+pub mod Queries
+pub mod BindingRows

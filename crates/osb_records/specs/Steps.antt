@@ -1,5 +1,7 @@
 -- What a connection shows of the orders, and what calls do to it.
-use Rattle.std.specs.Prelude.{◌≡◌, false, IsTrue}
+use Rattle.std.specs.Prelude.{◌≡◌, false, IsTrue, ℕ, List, []}
+use Rattle.std.specs.List.{AllByRecursion}
+use Rattle.std.specs.FinMap.{empty}
 use Rattle.sqlite.specs.Tree.{Trees}
 use Rattle.sqlite.specs.Schema.{Schema}
 use Rattle.sqlite.specs.Effect.{Database, IsDatabase}
@@ -7,16 +9,24 @@ use Rattle.sqlite.specs.State.{State, HasCleanDisk}
 use Rattle.osb_orders.specs.Lives.{Lives}
 use Rattle.osb_orders.specs.IsLife.{IsLives}
 use Rattle.osb_records.specs.Tables.{record_schema}
-use Rattle.osb_records.specs.Stored.{Holds, entries_in, lives_stored}
+use Rattle.osb_records.specs.Stored.{HoldsEntries, Content, content_in, lives_stored}
 
 -- the lives that a connection shows
 abbrev pub stored : State → Lives
 stored s = lives_stored s.now.trees
 
+-- with the rows of instances and bindings
+abbrev pub content : State → Content
+content s = content_in s.now.trees
+
+-- that of new tables
+abbrev pub no_content : Content
+no_content = record { lives = empty; instances = []; bindings = [] }
+
 -- the database has the tables, and they hold entries
 pub record HasTables (db : Database) : Type 0 where
   pub schema : db.schema ≡ record_schema
-  pub holds : Holds (entries_in db.trees) db.trees
+  pub holds : HoldsEntries db.trees
 
 -- a clean connection that is open has the tables
 abbrev pub ShowsTables : State → Type 0
@@ -26,10 +36,18 @@ ShowsTables s = HasCleanDisk s → IsTrue s.is_open → HasTables s.now
 abbrev pub ShowsSchema : Schema → State → Type 0
 ShowsSchema schema s = HasCleanDisk s → IsTrue s.is_open → s.now.schema ≡ schema
 
+-- these trees have no rows
+abbrev pub AreBlank : List ℕ → Trees → Type 0
+AreBlank places db = AllByRecursion (λ tree. db tree ≡ []) places
+
+-- a clean connection that is open shows no rows in these trees
+abbrev pub ShowsBlank : List ℕ → State → Type 0
+ShowsBlank places s = HasCleanDisk s → IsTrue s.is_open → AreBlank places s.now.trees
+
 -- the trees are a database of the tables, and these lives stand there
 pub record HoldsLives (lives : Lives) (db : Trees) : Type 0 where
   pub sound : IsDatabase (record { schema = record_schema; trees = db })
-  pub holds : Holds (entries_in db) db
+  pub holds : HoldsEntries db
   pub lives_are : lives_stored db ≡ lives
 
 -- No transaction is open, and everything is committed.
@@ -44,24 +62,27 @@ pub record IsReady (s : State) : Type 0 where
   pub lives : HasCleanDisk s → IsTrue s.is_open → IsLives (stored s)
   pub committed : HasCleanDisk s → IsTrue s.is_open → s.now ≡ s.committed
 
--- Inside a transaction the lives have become these. Nothing is committed.
-pub record Steps (old new : State) (lives : Lives) : Type 0 where
+-- Inside a transaction the content has become this one. Nothing is committed.
+pub record Steps (old new : State) (next : Content) : Type 0 where
   pub was_inside : IsTrue old.in_transaction
   pub inside : IsTrue new.in_transaction
   pub was_open : IsTrue old.is_open
   pub is_open : IsTrue new.is_open
   pub tables : HasTables new.now
-  pub lives_are : stored new ≡ lives
+  pub lives_are : stored new ≡ next.lives
+  pub instances_are : (content new).instances ≡ next.instances
+  pub bindings_are : (content new).bindings ≡ next.bindings
   pub sound : IsDatabase new.now
   pub committed : new.committed ≡ old.committed
 
--- Inside a transaction the schema has become this one. Nothing is committed.
-pub record Makes (old new : State) (schema : Schema) : Type 0 where
+-- Inside a transaction the schema has become this one, and these trees have no rows. Nothing is committed.
+pub record Makes (old new : State) (schema : Schema) (places : List ℕ) : Type 0 where
   pub was_inside : IsTrue old.in_transaction
   pub inside : IsTrue new.in_transaction
   pub was_open : IsTrue old.is_open
   pub is_open : IsTrue new.is_open
   pub schema_is : new.now.schema ≡ schema
+  pub blank : AreBlank places new.now.trees
   pub committed : new.committed ≡ old.committed
 
 -- a crash leaves these lives and nothing else

@@ -4,7 +4,6 @@ use Rattle.std.specs.declared.cmp.Ordering.{Ordering}
 use Rattle.std.specs.Ordering.{nat_cmp, ordering_then}
 use Rattle.std.specs.Cmp.Lexicographic.{slice_cmp}
 use Rattle.std.specs.FinMap.{empty, insert}
-use Rattle.sqlite.specs.declared.types.Value.{Value}
 use Rattle.sqlite.specs.declared.types.Value.TheVariants.{Int, Text as Words}
 use Rattle.sqlite.specs.Order.{Row, column, bytes}
 use Rattle.sqlite.specs.Tree.{Trees}
@@ -17,6 +16,9 @@ use Rattle.osb_orders.specs.declared.order.Order.{Order}
 use Rattle.osb_orders.specs.Orders.{kind_number, state_number}
 use Rattle.osb_orders.specs.Lives.{Lives, life_of}
 use Rattle.osb_records.specs.Rows.{Stores}
+use Rattle.osb_records.specs.Columns.{number_in, attributes_told}
+use Rattle.osb_records.specs.Instances.{InstanceEntry, instance_row, instance_told, instance_cells, instance_cmp}
+use Rattle.osb_records.specs.Bindings.{BindingEntry, binding_row, binding_told, binding_cells, binding_cmp}
 
 -- an order with the id of its instance
 abbrev pub Entry : Type 0
@@ -46,10 +48,6 @@ entry_row entry =
     ∷ Words entry.1.outcome.credentials
     ∷ []
 
-abbrev pub number_in : Value → ℕ
-number_in (Int (pos n)) = n
-number_in _ = 0
-
 abbrev pub kind_numbered : ℕ → OrderKind
 kind_numbered number =
     if number == 1 then Create
@@ -67,14 +65,7 @@ order_told cells = record {
   number = number_in (column cells 1);
   kind = kind_numbered (number_in (column cells 2));
   binding = bytes (column cells 3);
-  attributes = record {
-    service = bytes (column cells 4);
-    plan = bytes (column cells 5);
-    place = bytes (column cells 6);
-    spot = bytes (column cells 7);
-    parameters = bytes (column cells 8);
-    maintenance = bytes (column cells 9);
-  };
+  attributes = attributes_told cells;
   outcome = record {
     state = state_numbered (number_in (column cells 10));
     description = bytes (column cells 11);
@@ -113,13 +104,25 @@ version_cells cells = column cells 1 ∷ []
 -- ---- trees
 
 -- the tables hold format version 1 and these entries
-pub record Holds (entries : List Entry) (db : Trees) : Type 0 where
+pub record Holds (entries : List Entry) (instance_entries : List InstanceEntry) (binding_entries : List BindingEntry) (db : Trees) : Type 0 where
   pub format : Stores version_cells version_row nat_cmp (db 0) (1 ∷ [])
   pub orders : Stores order_cells entry_row entry_cmp (db 1) entries
+  pub instances : Stores instance_cells instance_row instance_cmp (db 3) instance_entries
+  pub bindings : Stores binding_cells binding_row binding_cmp (db 5) binding_entries
 
 -- the entries in the order of their keys, whatever the order of the rows
 abbrev pub entries_in : Trees → List Entry
 entries_in db = sort_by entry_cmp (map entry_told (map order_cells (db 1)))
+
+abbrev pub instances_in : Trees → List InstanceEntry
+instances_in db = sort_by instance_cmp (map instance_told (map instance_cells (db 3)))
+
+abbrev pub bindings_in : Trees → List BindingEntry
+bindings_in db = sort_by binding_cmp (map binding_told (map binding_cells (db 5)))
+
+-- the tables hold entries
+abbrev pub HoldsEntries : Trees → Type 0
+HoldsEntries db = Holds (entries_in db) (instances_in db) (bindings_in db) db
 
 -- ---- lives
 
@@ -130,6 +133,25 @@ lives_in (entry ∷ entries) = insert (lives_in entries) entry.0 (entry.1 ∷ li
 
 abbrev pub lives_stored : Trees → Lives
 lives_stored db = lives_in (entries_in db)
+
+-- the lives, and the rows of instances and bindings beside them
+pub record Content : Type 0 where
+  pub lives : Lives
+  pub instances : List InstanceEntry
+  pub bindings : List BindingEntry
+
+-- one of its parts is this
+abbrev pub with_lives : Lives → Content → Content
+with_lives lives content = record content { lives = lives }
+
+abbrev pub with_instances : List InstanceEntry → Content → Content
+with_instances instances content = record content { instances = instances }
+
+abbrev pub with_bindings : List BindingEntry → Content → Content
+with_bindings bindings content = record content { bindings = bindings }
+
+abbrev pub content_in : Trees → Content
+content_in db = record { lives = lives_stored db; instances = instances_in db; bindings = bindings_in db }
 
 -- the entry is of the instance
 abbrev pub is_of : List ℕ → Entry → Bool

@@ -52,6 +52,33 @@ order_columns =
     ∷ text_column (codes "credentials")
     ∷ []
 
+abbrev pub instance_columns : List Column
+instance_columns =
+    text_column (codes "instance_id")
+    ∷ number_column (codes "phase")
+    ∷ number_column (codes "busy")
+    ∷ number_column (codes "last_seq")
+    ∷ text_column (codes "service_id")
+    ∷ text_column (codes "plan_id")
+    ∷ text_column (codes "organization")
+    ∷ text_column (codes "space")
+    ∷ text_column (codes "params")
+    ∷ text_column (codes "maint")
+    ∷ []
+
+abbrev pub binding_columns : List Column
+binding_columns =
+    text_column (codes "instance_id")
+    ∷ text_column (codes "binding_id")
+    ∷ number_column (codes "phase")
+    ∷ text_column (codes "service_id")
+    ∷ text_column (codes "plan_id")
+    ∷ text_column (codes "app_guid")
+    ∷ text_column (codes "bind_resource")
+    ∷ text_column (codes "params")
+    ∷ text_column (codes "credentials")
+    ∷ []
+
 abbrev pub format_table : Table
 format_table = plain_table (codes "format") 0 format_columns [] []
 
@@ -59,11 +86,25 @@ format_table = plain_table (codes "format") 0 format_columns [] []
 abbrev pub orders_table : Table
 orders_table = plain_table (codes "orders") 1 order_columns (1 ∷ 2 ∷ []) ((1 ∷ 2 ∷ []) ∷ [])
 
+-- one row for each instance
+abbrev pub instances_table : Table
+instances_table = plain_table (codes "instances") 3 instance_columns (1 ∷ []) ((1 ∷ []) ∷ [])
+
+-- its key is the instance and the binding
+abbrev pub bindings_table : Table
+bindings_table = plain_table (codes "bindings") 5 binding_columns (1 ∷ 2 ∷ []) ((1 ∷ 2 ∷ []) ∷ [])
+
 abbrev pub no_schema : Schema
 no_schema = record { tables = []; indexes = []; views = [] }
 
 abbrev pub format_schema : Schema
 format_schema = created no_schema format_table
 
+abbrev pub orders_schema : Schema
+orders_schema = created format_schema orders_table
+
+abbrev pub instances_schema : Schema
+instances_schema = created orders_schema instances_table
+
 abbrev pub record_schema : Schema
-record_schema = created format_schema orders_table
+record_schema = created instances_schema bindings_table

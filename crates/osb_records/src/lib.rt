@@ -1,9 +1,13 @@
 //! The orders of all instances in a SQL database.
 #![tactic(auto)]
 
+mod bindings;
 mod commits;
 mod fault;
+mod instances;
 pub mod memory;
+mod names;
+mod queries;
 mod reading;
 mod records;
 mod row;

@@ -1,11 +1,19 @@
-//! Rows as orders.
+//! Rows as orders, and as what stands of instances and bindings.
 
-ghost use Rattle.std.specs.Prelude.{◌≡◌, map, IfOk};
+ghost use Rattle.std.specs.Prelude.{◌≡◌, ◌==◌, map, IfOk};
 ghost use Rattle.sqlite.specs.Order.{column, bytes};
-ghost use Rattle.osb_records.specs.Stored.{number_in, kind_numbered, state_numbered, entry_told, order_told};
+ghost use Rattle.osb_records.specs.Queries.{first_order};
+ghost use Rattle.osb_records.specs.Columns.{number_in, attributes_told};
+ghost use Rattle.osb_records.specs.Stored.{kind_numbered, state_numbered, entry_told, order_told};
+ghost use Rattle.osb_records.specs.Instances.{instance_phase_numbered, standing_told, instance_row_told, first_told};
+ghost use Rattle.osb_records.specs.Bindings.{binding_phase_numbered, binding_now, binding_told};
 
 use crate::fault::StoreFault;
-use osb_orders::{Attributes, Order, OrderKind, OrderState, Outcome};
+use osb_orders::{
+    Attributes, BindingNow, BindingPhase, InstancePhase, Order, OrderKind, OrderState, Outcome,
+    Standing,
+};
+use osb_standing::InstanceRow;
 use osb_text::Text;
 use sqlite::Row;
 use std::alloc::Global;
@@ -48,7 +56,7 @@ fn state_numbered(number: u32) -> Result<OrderState, StoreFault>
 }
 
 fn attributes_in(row: &Row) -> Result<Attributes, StoreFault>
-    ensures { IfOk result (λ attributes. attributes ≡ (order_told row.now).attributes) }
+    ensures { IfOk result (λ attributes. attributes ≡ attributes_told row.now) }
 {
     Ok(Attributes {
         service: text_in(row, 4)?,
@@ -102,4 +110,107 @@ pub(crate) fn entries_in(alloc: Global, rows: &[Row]) -> Result<Vec<(Text, Order
         entries.push((text_in(row, 0)?, order_in(row)?))?;
     }
     Ok(entries)
+}
+
+/// The order that the first row shows.
+pub(crate) fn first_in(rows: &[Row]) -> Result<Option<Order>, StoreFault>
+    ensures { IfOk result (λ order. order ≡ first_order rows.now) }
+{
+    match rows.first() {
+        None => Ok(None),
+        Some(row) => Ok(Some(order_in(row)?)),
+    }
+}
+
+fn instance_phase_numbered(number: u32) -> Result<InstancePhase, StoreFault>
+    ensures { IfOk result (λ phase. phase ≡ instance_phase_numbered number) }
+{
+    match number {
+        1 => Ok(InstancePhase::Creating),
+        2 => Ok(InstancePhase::Ready),
+        3 => Ok(InstancePhase::Failed),
+        4 => Ok(InstancePhase::Updating),
+        5 => Ok(InstancePhase::Deleting),
+        _ => Err(StoreFault::Refused),
+    }
+}
+
+fn standing_told(number: u32, attributes: Attributes) -> Result<Option<Standing>, StoreFault>
+    ensures { IfOk result (λ standing. standing ≡ standing_told number attributes) }
+{
+    if number == 0 {
+        return Ok(None);
+    }
+    Ok(Some(Standing {
+        phase: instance_phase_numbered(number)?,
+        attributes,
+    }))
+}
+
+fn busy_numbered(number: u32) -> Result<bool, StoreFault>
+    ensures { IfOk result (λ busy. busy ≡ (number == 1)) }
+{
+    match number {
+        0 => Ok(false),
+        1 => Ok(true),
+        _ => Err(StoreFault::Refused),
+    }
+}
+
+/// How the instance of the row stands.
+pub(crate) fn instance_row_in(row: &Row) -> Result<InstanceRow, StoreFault>
+    ensures { IfOk result (λ found. found ≡ instance_row_told row.now) }
+{
+    Ok(InstanceRow {
+        standing: standing_told(number_in(row, 1)?, attributes_in(row)?)?,
+        busy: busy_numbered(number_in(row, 2)?)?,
+        last_number: number_in(row, 3)?,
+    })
+}
+
+/// How the instance of the first row stands.
+pub(crate) fn first_instance_in(rows: &[Row]) -> Result<Option<InstanceRow>, StoreFault>
+    ensures { IfOk result (λ found. found ≡ first_told rows.now) }
+{
+    match rows.first() {
+        None => Ok(None),
+        Some(row) => Ok(Some(instance_row_in(row)?)),
+    }
+}
+
+fn binding_phase_numbered(number: u32) -> Result<BindingPhase, StoreFault>
+    ensures { IfOk result (λ phase. phase ≡ binding_phase_numbered number) }
+{
+    match number {
+        1 => Ok(BindingPhase::Binding),
+        2 => Ok(BindingPhase::Bound),
+        3 => Ok(BindingPhase::Failed),
+        4 => Ok(BindingPhase::Unbinding),
+        _ => Err(StoreFault::Refused),
+    }
+}
+
+/// The attributes of a binding, which has no maintenance version.
+fn binding_attributes_in(alloc: Global, row: &Row) -> Result<Attributes, StoreFault>
+    ensures { IfOk result (λ attributes. attributes ≡ (binding_now (binding_told row.now)).attributes) }
+{
+    Ok(Attributes {
+        service: text_in(row, 3)?,
+        plan: text_in(row, 4)?,
+        place: text_in(row, 5)?,
+        spot: text_in(row, 6)?,
+        parameters: text_in(row, 7)?,
+        maintenance: Text::new(alloc),
+    })
+}
+
+/// How the binding of the row stands.
+pub(crate) fn binding_in(alloc: Global, row: &Row) -> Result<BindingNow, StoreFault>
+    ensures { IfOk result (λ binding. binding ≡ binding_now (binding_told row.now)) }
+{
+    Ok(BindingNow {
+        phase: binding_phase_numbered(number_in(row, 2)?)?,
+        attributes: binding_attributes_in(alloc, row)?,
+        credentials: text_in(row, 8)?,
+    })
 }

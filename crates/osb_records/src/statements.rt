@@ -8,7 +8,8 @@ ghost use Rattle.osb_orders.specs.Lives.{life_of};
 ghost use Rattle.osb_orders.specs.Changed.{lives_changed};
 ghost use Rattle.osb_orders.specs.IsLife.{IsLives};
 ghost use Rattle.osb_orders.specs.Allowed.{IsFinishable};
-ghost use Rattle.osb_records.specs.Steps.{ShowsTables, Steps, stored};
+ghost use Rattle.osb_records.specs.Stored.{with_lives};
+ghost use Rattle.osb_records.specs.Steps.{ShowsTables, Steps, content, stored};
 
 use osb_orders::{Order, Outcome};
 use sqlite::{Alter, Error, Transaction, params};
@@ -22,7 +23,7 @@ pub(crate) fn insert_order<S: Alter>(
     requires tables { ShowsTables (state S.Store tx.old.conn.now) }
     requires whole { HasCleanDisk (state S.Store tx.old.conn.now) → IsTrue (state S.Store tx.old.conn.now).is_open → IsLives (lives_changed (Append order.now) instance.now (stored (state S.Store tx.old.conn.now))) }
     ensures same_reference { tx.new.conn.ghost_name ≡ tx.old.conn.ghost_name }
-    ensures ok { HasCleanDisk (state S.Store tx.new.conn.now) → OnOk result (Steps (state S.Store tx.old.conn.now) (state S.Store tx.new.conn.now) (lives_changed (Append order.now) instance.now (stored (state S.Store tx.old.conn.now)))) }
+    ensures ok { HasCleanDisk (state S.Store tx.new.conn.now) → OnOk result (Steps (state S.Store tx.old.conn.now) (state S.Store tx.new.conn.now) (with_lives (lives_changed (Append order.now) instance.now (stored (state S.Store tx.old.conn.now))) (content (state S.Store tx.old.conn.now)))) }
     ensures kept { HasCleanDisk (state S.Store tx.new.conn.now) → IsTrue (state S.Store tx.old.conn.now).in_transaction → KeepsCommit (state S.Store tx.old.conn.now) (state S.Store tx.new.conn.now) }
     ensures survives { Survives (state S.Store tx.old.conn.now) (state S.Store tx.new.conn.now) (λ _. ⊥) }
 {
@@ -57,7 +58,7 @@ pub(crate) fn finish_order<S: Alter>(
     requires lives { HasCleanDisk (state S.Store tx.old.conn.now) → IsTrue (state S.Store tx.old.conn.now).is_open → IsLives (stored (state S.Store tx.old.conn.now)) }
     requires last { HasCleanDisk (state S.Store tx.old.conn.now) → IsTrue (state S.Store tx.old.conn.now).is_open → IsFinishable (life_of (stored (state S.Store tx.old.conn.now)) instance.now) number outcome.now }
     ensures same_reference { tx.new.conn.ghost_name ≡ tx.old.conn.ghost_name }
-    ensures ok { HasCleanDisk (state S.Store tx.new.conn.now) → OnOk result (Steps (state S.Store tx.old.conn.now) (state S.Store tx.new.conn.now) (lives_changed (Finish number outcome.now) instance.now (stored (state S.Store tx.old.conn.now)))) }
+    ensures ok { HasCleanDisk (state S.Store tx.new.conn.now) → OnOk result (Steps (state S.Store tx.old.conn.now) (state S.Store tx.new.conn.now) (with_lives (lives_changed (Finish number outcome.now) instance.now (stored (state S.Store tx.old.conn.now))) (content (state S.Store tx.old.conn.now)))) }
     ensures kept { HasCleanDisk (state S.Store tx.new.conn.now) → IsTrue (state S.Store tx.old.conn.now).in_transaction → KeepsCommit (state S.Store tx.old.conn.now) (state S.Store tx.new.conn.now) }
     ensures survives { Survives (state S.Store tx.old.conn.now) (state S.Store tx.new.conn.now) (λ _. ⊥) }
 {

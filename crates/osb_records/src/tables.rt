@@ -1,18 +1,18 @@
 //! Making the tables.
 
-ghost use Rattle.std.specs.Prelude.{◌≡◌, [], IsTrue, OnOk, OnErr};
+ghost use Rattle.std.specs.Prelude.{◌≡◌, [], ◌∷◌, IsTrue, OnOk, OnErr};
 ghost use Rattle.std.specs.FinMap.{empty};
 ghost use Rattle.sqlite.specs.Held.{state};
 ghost use Rattle.sqlite.specs.State.{HasCleanDisk, KeepsCommit, Survives};
-ghost use Rattle.osb_records.specs.Tables.{no_schema, format_schema, record_schema};
-ghost use Rattle.osb_records.specs.Steps.{ShowsSchema, HoldsLives, IsSettled, IsReady, Steps, Makes, LeavesOnly, stored};
+ghost use Rattle.osb_records.specs.Tables.{no_schema, format_schema, orders_schema, instances_schema, record_schema};
+ghost use Rattle.osb_records.specs.Steps.{ShowsSchema, ShowsBlank, HoldsLives, IsSettled, IsReady, Steps, Makes, LeavesOnly, stored, no_content};
 
 use sqlite::{Alter, Connection, Error, Transaction};
 
 fn create_format<S: Alter>(tx: &mut Transaction<'_, S>) -> Result<usize, Error>
     requires { ShowsSchema no_schema (state S.Store tx.old.conn.now) }
     ensures same_reference { tx.new.conn.ghost_name ≡ tx.old.conn.ghost_name }
-    ensures ok { HasCleanDisk (state S.Store tx.new.conn.now) → OnOk result (Makes (state S.Store tx.old.conn.now) (state S.Store tx.new.conn.now) format_schema × ((state S.Store tx.new.conn.now).now.trees 0 ≡ [])) }
+    ensures ok { HasCleanDisk (state S.Store tx.new.conn.now) → OnOk result (Makes (state S.Store tx.old.conn.now) (state S.Store tx.new.conn.now) format_schema (0 ∷ [])) }
     ensures kept { HasCleanDisk (state S.Store tx.new.conn.now) → IsTrue (state S.Store tx.old.conn.now).in_transaction → KeepsCommit (state S.Store tx.old.conn.now) (state S.Store tx.new.conn.now) }
     ensures survives { Survives (state S.Store tx.old.conn.now) (state S.Store tx.new.conn.now) (λ _. ⊥) }
 {
@@ -21,9 +21,10 @@ fn create_format<S: Alter>(tx: &mut Transaction<'_, S>) -> Result<usize, Error>
 
 /// Makes the table of orders beside that of the format.
 fn create_orders<S: Alter>(tx: &mut Transaction<'_, S>) -> Result<usize, Error>
-    requires { ShowsSchema format_schema (state S.Store tx.old.conn.now) }
+    requires schema { ShowsSchema format_schema (state S.Store tx.old.conn.now) }
+    requires blank { ShowsBlank (0 ∷ []) (state S.Store tx.old.conn.now) }
     ensures same_reference { tx.new.conn.ghost_name ≡ tx.old.conn.ghost_name }
-    ensures ok { HasCleanDisk (state S.Store tx.new.conn.now) → OnOk result (Makes (state S.Store tx.old.conn.now) (state S.Store tx.new.conn.now) record_schema × (((state S.Store tx.new.conn.now).now.trees 1 ≡ []) × ((state S.Store tx.new.conn.now).now.trees 0 ≡ (state S.Store tx.old.conn.now).now.trees 0))) }
+    ensures ok { HasCleanDisk (state S.Store tx.new.conn.now) → OnOk result (Makes (state S.Store tx.old.conn.now) (state S.Store tx.new.conn.now) orders_schema (1 ∷ 0 ∷ [])) }
     ensures kept { HasCleanDisk (state S.Store tx.new.conn.now) → IsTrue (state S.Store tx.old.conn.now).in_transaction → KeepsCommit (state S.Store tx.old.conn.now) (state S.Store tx.new.conn.now) }
     ensures survives { Survives (state S.Store tx.old.conn.now) (state S.Store tx.new.conn.now) (λ _. ⊥) }
 {
@@ -33,13 +34,68 @@ fn create_orders<S: Alter>(tx: &mut Transaction<'_, S>) -> Result<usize, Error>
     )
 }
 
+/// Makes the table of the instances' current state.
+fn create_instances<S: Alter>(tx: &mut Transaction<'_, S>) -> Result<usize, Error>
+    requires schema { ShowsSchema orders_schema (state S.Store tx.old.conn.now) }
+    requires blank { ShowsBlank (1 ∷ 0 ∷ []) (state S.Store tx.old.conn.now) }
+    ensures same_reference { tx.new.conn.ghost_name ≡ tx.old.conn.ghost_name }
+    ensures ok { HasCleanDisk (state S.Store tx.new.conn.now) → OnOk result (Makes (state S.Store tx.old.conn.now) (state S.Store tx.new.conn.now) instances_schema (3 ∷ 1 ∷ 0 ∷ [])) }
+    ensures kept { HasCleanDisk (state S.Store tx.new.conn.now) → IsTrue (state S.Store tx.old.conn.now).in_transaction → KeepsCommit (state S.Store tx.old.conn.now) (state S.Store tx.new.conn.now) }
+    ensures survives { Survives (state S.Store tx.old.conn.now) (state S.Store tx.new.conn.now) (λ _. ⊥) }
+{
+    tx.execute(
+        "CREATE TABLE instances (instance_id TEXT NOT NULL, phase INTEGER NOT NULL, busy INTEGER NOT NULL, last_seq INTEGER NOT NULL, service_id TEXT NOT NULL, plan_id TEXT NOT NULL, organization TEXT NOT NULL, space TEXT NOT NULL, params TEXT NOT NULL, maint TEXT NOT NULL, PRIMARY KEY (instance_id)) STRICT",
+        &[],
+    )
+}
+
+/// Makes the table of the bindings' current state.
+fn create_bindings<S: Alter>(tx: &mut Transaction<'_, S>) -> Result<usize, Error>
+    requires schema { ShowsSchema instances_schema (state S.Store tx.old.conn.now) }
+    requires blank { ShowsBlank (3 ∷ 1 ∷ 0 ∷ []) (state S.Store tx.old.conn.now) }
+    ensures same_reference { tx.new.conn.ghost_name ≡ tx.old.conn.ghost_name }
+    ensures ok { HasCleanDisk (state S.Store tx.new.conn.now) → OnOk result (Makes (state S.Store tx.old.conn.now) (state S.Store tx.new.conn.now) record_schema (5 ∷ 3 ∷ 1 ∷ 0 ∷ [])) }
+    ensures kept { HasCleanDisk (state S.Store tx.new.conn.now) → IsTrue (state S.Store tx.old.conn.now).in_transaction → KeepsCommit (state S.Store tx.old.conn.now) (state S.Store tx.new.conn.now) }
+    ensures survives { Survives (state S.Store tx.old.conn.now) (state S.Store tx.new.conn.now) (λ _. ⊥) }
+{
+    tx.execute(
+        "CREATE TABLE bindings (instance_id TEXT NOT NULL, binding_id TEXT NOT NULL, phase INTEGER NOT NULL, service_id TEXT NOT NULL, plan_id TEXT NOT NULL, app_guid TEXT NOT NULL, bind_resource TEXT NOT NULL, params TEXT NOT NULL, credentials TEXT NOT NULL, PRIMARY KEY (instance_id, binding_id)) STRICT",
+        &[],
+    )
+}
+
+/// Makes the tables of the current state.
+fn create_standing<S: Alter>(tx: &mut Transaction<'_, S>) -> Result<usize, Error>
+    requires schema { ShowsSchema orders_schema (state S.Store tx.old.conn.now) }
+    requires blank { ShowsBlank (1 ∷ 0 ∷ []) (state S.Store tx.old.conn.now) }
+    ensures same_reference { tx.new.conn.ghost_name ≡ tx.old.conn.ghost_name }
+    ensures ok { HasCleanDisk (state S.Store tx.new.conn.now) → OnOk result (Makes (state S.Store tx.old.conn.now) (state S.Store tx.new.conn.now) record_schema (5 ∷ 3 ∷ 1 ∷ 0 ∷ [])) }
+    ensures kept { HasCleanDisk (state S.Store tx.new.conn.now) → IsTrue (state S.Store tx.old.conn.now).in_transaction → KeepsCommit (state S.Store tx.old.conn.now) (state S.Store tx.new.conn.now) }
+    ensures survives { Survives (state S.Store tx.old.conn.now) (state S.Store tx.new.conn.now) (λ _. ⊥) }
+{
+    create_instances(tx)?;
+    create_bindings(tx)
+}
+
+/// Makes the four tables.
+fn create_tables<S: Alter>(tx: &mut Transaction<'_, S>) -> Result<usize, Error>
+    requires { ShowsSchema no_schema (state S.Store tx.old.conn.now) }
+    ensures same_reference { tx.new.conn.ghost_name ≡ tx.old.conn.ghost_name }
+    ensures ok { HasCleanDisk (state S.Store tx.new.conn.now) → OnOk result (Makes (state S.Store tx.old.conn.now) (state S.Store tx.new.conn.now) record_schema (5 ∷ 3 ∷ 1 ∷ 0 ∷ [])) }
+    ensures kept { HasCleanDisk (state S.Store tx.new.conn.now) → IsTrue (state S.Store tx.old.conn.now).in_transaction → KeepsCommit (state S.Store tx.old.conn.now) (state S.Store tx.new.conn.now) }
+    ensures survives { Survives (state S.Store tx.old.conn.now) (state S.Store tx.new.conn.now) (λ _. ⊥) }
+{
+    create_format(tx)?;
+    create_orders(tx)?;
+    create_standing(tx)
+}
+
 /// Writes the version of the format, which makes tables without rows those of no lives.
 fn insert_version<S: Alter>(tx: &mut Transaction<'_, S>) -> Result<usize, Error>
     requires schema { ShowsSchema record_schema (state S.Store tx.old.conn.now) }
-    requires no_version { HasCleanDisk (state S.Store tx.old.conn.now) → IsTrue (state S.Store tx.old.conn.now).is_open → (state S.Store tx.old.conn.now).now.trees 0 ≡ [] }
-    requires no_order { HasCleanDisk (state S.Store tx.old.conn.now) → IsTrue (state S.Store tx.old.conn.now).is_open → (state S.Store tx.old.conn.now).now.trees 1 ≡ [] }
+    requires blank { ShowsBlank (5 ∷ 3 ∷ 1 ∷ 0 ∷ []) (state S.Store tx.old.conn.now) }
     ensures same_reference { tx.new.conn.ghost_name ≡ tx.old.conn.ghost_name }
-    ensures ok { HasCleanDisk (state S.Store tx.new.conn.now) → OnOk result (Steps (state S.Store tx.old.conn.now) (state S.Store tx.new.conn.now) empty) }
+    ensures ok { HasCleanDisk (state S.Store tx.new.conn.now) → OnOk result (Steps (state S.Store tx.old.conn.now) (state S.Store tx.new.conn.now) no_content) }
     ensures kept { HasCleanDisk (state S.Store tx.new.conn.now) → IsTrue (state S.Store tx.old.conn.now).in_transaction → KeepsCommit (state S.Store tx.old.conn.now) (state S.Store tx.new.conn.now) }
     ensures survives { Survives (state S.Store tx.old.conn.now) (state S.Store tx.new.conn.now) (λ _. ⊥) }
 {
@@ -59,8 +115,7 @@ pub(crate) fn make_tables<S: Alter>(conn: &mut Connection<S>) -> Result<(), Erro
     ensures durable { HasCleanDisk (state S.Store conn.new) → OnOk result (LeavesOnly (state S.Store conn.new) empty) }
 {
     let mut tx = conn.transaction();
-    create_format(&mut tx)?;
-    create_orders(&mut tx)?;
+    create_tables(&mut tx)?;
     insert_version(&mut tx)?;
     tx.commit()
 }

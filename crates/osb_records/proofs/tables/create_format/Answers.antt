@@ -1,4 +1,4 @@
-use Rattle.std.proofs.Common.{[], ◌≡◌}
+use Rattle.std.proofs.Common.{[], ◌∷◌}
 use Rattle.sqlite.specs.Held.{state}
 use Rattle.osb_records.specs.Tables.{no_schema, format_schema}
 use Rattle.osb_records.proofs.Texts.{create_format}
@@ -11,4 +11,4 @@ returns-clause-ok g c clean =
     let old = state g.S.Store c.args.tx.now.conn.now in
     let new = state g.S.Store c.execute.new.self.conn.now in
     makes_by create_format [] old new c.execute.result _ (λ over. (c.execute.ensures.ended over).0) c.execute.ensures.survives clean
-    no_schema format_schema (new.now.trees 0 ≡ []) c.requires (makes_format old new) (c.execute.ensures.runs clean)
+    no_schema format_schema ([]) (0 ∷ []) c.requires (λ _ _. tt) (makes_format old new) (c.execute.ensures.runs clean)

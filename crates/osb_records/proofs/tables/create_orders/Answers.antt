@@ -1,6 +1,6 @@
-use Rattle.std.proofs.Common.{[], ◌≡◌}
+use Rattle.std.proofs.Common.{[], ◌∷◌}
 use Rattle.sqlite.specs.Held.{state}
-use Rattle.osb_records.specs.Tables.{format_schema, record_schema}
+use Rattle.osb_records.specs.Tables.{format_schema, orders_schema}
 use Rattle.osb_records.proofs.Texts.{create_orders}
 use Rattle.osb_records.proofs.CreateLemmas.{makes_orders}
 use Rattle.osb_records.proofs.StepLemmas.{makes_by}
@@ -11,4 +11,4 @@ returns-clause-ok g c clean =
     let old = state g.S.Store c.args.tx.now.conn.now in
     let new = state g.S.Store c.execute.new.self.conn.now in
     makes_by create_orders [] old new c.execute.result _ (λ over. (c.execute.ensures.ended over).0) c.execute.ensures.survives clean
-    format_schema record_schema ((new.now.trees 1 ≡ []) × (new.now.trees 0 ≡ old.now.trees 0)) c.requires (makes_orders old new) (c.execute.ensures.runs clean)
+    format_schema orders_schema (0 ∷ []) (1 ∷ 0 ∷ []) c.requires.schema c.requires.blank (makes_orders old new) (c.execute.ensures.runs clean)

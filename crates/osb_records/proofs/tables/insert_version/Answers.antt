@@ -11,4 +11,4 @@ returns-clause-ok g c clean =
     let old = state g.S.Store c.args.tx.now.conn.now in
     let new = state g.S.Store c.execute.new.self.conn.now in
     steps_by insert_version [] old new c.execute.result _ (λ over. (c.execute.ensures.ended over).0) c.execute.ensures.survives clean
-    empty [] c.requires.schema (λ count before live has h. (adds_version old new count has (c.requires.no_version before live) (c.requires.no_order before live) h, refl)) (c.execute.ensures.runs clean)
+    empty [] [] [] c.requires.schema (λ count before live has h. (adds_version old new count has (c.requires.blank before live) h, refl)) (c.execute.ensures.runs clean)

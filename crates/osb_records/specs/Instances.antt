@@ -1,0 +1,111 @@
+-- The rows of the table of instances.
+use Rattle.std.specs.Prelude.{Bool, ◌==◌, if◌then◌else◌, ℕ, pos, List, [], ◌∷◌, Option, None, Some, option_map, slice_get, bytes_eq}
+use Rattle.std.specs.declared.cmp.Ordering.{Ordering}
+use Rattle.std.specs.Ordering.{nat_cmp}
+use Rattle.std.specs.Cmp.Lexicographic.{slice_cmp}
+use Rattle.sqlite.specs.declared.types.Value.TheVariants.{Int, Text as Words}
+use Rattle.sqlite.specs.Order.{Row, column, bytes}
+use Rattle.osb_orders.specs.declared.order.Attributes.{Attributes}
+use Rattle.osb_orders.specs.declared.view.InstancePhase.{InstancePhase}
+use Rattle.osb_orders.specs.declared.view.InstancePhase.TheVariants.{Creating, Ready, Failed, Updating, Deleting}
+use Rattle.osb_orders.specs.declared.view.Standing.{Standing}
+use Rattle.osb_standing.specs.declared.row.InstanceRow.{InstanceRow}
+use Rattle.osb_records.specs.Columns.{number_in, attributes_told}
+
+-- the row of an instance with its id
+abbrev pub InstanceEntry : Type 0
+InstanceEntry = List ℕ × InstanceRow
+
+-- by the ids' bytes
+abbrev pub instance_cmp : InstanceEntry → InstanceEntry → Ordering
+instance_cmp a b = slice_cmp nat_cmp a.0 b.0
+
+-- the entry is of the instance
+abbrev pub is_instance : List ℕ → InstanceEntry → Bool
+is_instance id entry = bytes_eq entry.0 id
+
+-- the entry with another row
+abbrev pub with_row : InstanceRow → InstanceEntry → InstanceEntry
+with_row row entry = (entry.0, row)
+
+-- ---- what the columns of an entry hold
+
+abbrev pub instance_phase_number : InstancePhase → ℕ
+instance_phase_number Creating = 1
+instance_phase_number Ready = 2
+instance_phase_number Failed = 3
+instance_phase_number Updating = 4
+instance_phase_number Deleting = 5
+
+-- 0 where the instance is absent
+abbrev pub standing_number : Option Standing → ℕ
+standing_number None = 0
+standing_number (Some standing) = instance_phase_number standing.phase
+
+abbrev pub no_attributes : Attributes
+no_attributes = record { service = []; plan = []; place = []; spot = []; parameters = []; maintenance = [] }
+
+-- empty texts where the instance is absent
+abbrev pub attributes_shown : Option Standing → Attributes
+attributes_shown None = no_attributes
+attributes_shown (Some standing) = standing.attributes
+
+abbrev pub busy_number : Bool → ℕ
+busy_number busy = if busy then 1 else 0
+
+abbrev pub instance_row : InstanceEntry → Row
+instance_row entry =
+    Words entry.0
+    ∷ Int (pos (standing_number entry.1.standing))
+    ∷ Int (pos (busy_number entry.1.busy))
+    ∷ Int (pos entry.1.last_number)
+    ∷ Words (attributes_shown entry.1.standing).service
+    ∷ Words (attributes_shown entry.1.standing).plan
+    ∷ Words (attributes_shown entry.1.standing).place
+    ∷ Words (attributes_shown entry.1.standing).spot
+    ∷ Words (attributes_shown entry.1.standing).parameters
+    ∷ Words (attributes_shown entry.1.standing).maintenance
+    ∷ []
+
+-- ---- the entry that columns hold
+
+abbrev pub instance_phase_numbered : ℕ → InstancePhase
+instance_phase_numbered number =
+    if number == 1 then Creating
+    else if number == 2 then Ready
+    else if number == 3 then Failed
+    else if number == 4 then Updating
+    else Deleting
+
+abbrev pub standing_told : ℕ → Attributes → Option Standing
+standing_told number attributes = if number == 0 then None else Some (record { phase = instance_phase_numbered number; attributes = attributes })
+
+abbrev pub instance_row_told : Row → InstanceRow
+instance_row_told cells = record {
+  standing = standing_told (number_in (column cells 1)) (attributes_told cells);
+  busy = number_in (column cells 2) == 1;
+  last_number = number_in (column cells 3);
+}
+
+-- with the id of the instance
+abbrev pub instance_told : Row → InstanceEntry
+instance_told cells = (bytes (column cells 0), instance_row_told cells)
+
+-- the columns of a stored row, which has its rowid first
+abbrev pub instance_cells : Row → Row
+instance_cells cells =
+    column cells 1
+    ∷ column cells 2
+    ∷ column cells 3
+    ∷ column cells 4
+    ∷ column cells 5
+    ∷ column cells 6
+    ∷ column cells 7
+    ∷ column cells 8
+    ∷ column cells 9
+    ∷ column cells 10
+    ∷ []
+
+-- the row that the first cells tell, if there are any
+abbrev pub first_told : List Row → Option InstanceRow
+first_told rows = option_map instance_row_told (slice_get rows 0)

@@ -1,0 +1,29 @@
+-- What a connection shows to queries, and what the rows of an answer tell.
+use Rattle.std.specs.Prelude.{IsTrue, Bool, List, Option, None, Some, option_map, slice_get, if◌then◌else◌}
+use Rattle.sqlite.specs.Order.{Row}
+use Rattle.sqlite.specs.Effect.{Database}
+use Rattle.sqlite.specs.State.{State, HasCleanDisk}
+use Rattle.osb_orders.specs.declared.order.Order.{Order}
+use Rattle.osb_orders.specs.IsLife.{IsLives}
+use Rattle.osb_records.specs.Stored.{order_told, lives_stored, content_in}
+use Rattle.osb_records.specs.Standing.{IsStanding}
+use Rattle.osb_records.specs.Steps.{HasTables}
+
+-- the database has the tables, with well-formed lives and the rows that these have
+pub record AreRecords (db : Database) : Type 0 where
+  pub tables : HasTables db
+  pub lives : IsLives (lives_stored db.trees)
+  pub standing : IsStanding (content_in db.trees)
+
+-- a clean connection that is open has records
+abbrev pub ShowsRecords : State → Type 0
+ShowsRecords s = HasCleanDisk s → IsTrue s.is_open → AreRecords s.now
+
+-- the order that the first row tells, if there is a row
+abbrev pub first_order : List Row → Option Order
+first_order rows = option_map order_told (slice_get rows 0)
+
+-- the item, if it passes
+abbrev pub only : {A : Type 0} → (A → Bool) → Option A → Option A
+only passes None = None
+only passes (Some item) = if passes item then Some item else None
