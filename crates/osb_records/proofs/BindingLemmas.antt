@@ -31,7 +31,7 @@ use Rattle.osb_records.proofs.AnswerLemmas.{one_answer}
 use Rattle.osb_records.proofs.SortLemmas.{binding_total, binding_back}
 use Rattle.osb_records.proofs.SelectLemmas.{then_equal}
 use Rattle.osb_records.proofs.StatementLemmas.{insert_does, update_does, delete_does}
-use Rattle.osb_records.proofs.StoresLemmas.{at_most_one}
+use Rattle.osb_records.proofs.StoresLemmas.{one_hit}
 use Rattle.osb_records.proofs.TableLemmas.{cast_int, insert_stores, update_stores, delete_stores}
 use Rattle.osb_records.proofs.TestLemmas.{same_text, and_true, same_bytes, bytes_itself, bytes_back, text_itself}
 use Rattle.osb_records.proofs.ChangeLemmas.{Gives}
@@ -231,7 +231,7 @@ module _ (old new : State) (tables : HasTables old.now) (id : List ℕ) where
       one_row id binding known rows
       (one_answer 5 at_binding binding_cells_read by_ids every (overlay old.now.trees []) params binding_cells binding_row binding_cmp binding_total (is_binding id binding)
         (λ _. refl) (λ _. refl) (at_ids id binding []) (λ a b less. by_both_ids a b ∙ less) known rows tables.holds.bindings (read.answer Null))
-      (at_most_one binding_cmp binding_total (is_binding id binding) (one_binding id binding) known tables.holds.bindings.rising)
+      (one_hit binding_cmp binding_total (is_binding id binding) (one_binding id binding) known tables.holds.bindings.rising)
 
   pub shows_bound : (rows : List Row) → Shown select_bound (Text id ∷ []) old new rows → (length rows == 0) ≡ not (list_any (is_bound id) known)
   shows_bound rows h =

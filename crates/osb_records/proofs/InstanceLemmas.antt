@@ -32,7 +32,7 @@ use Rattle.osb_records.proofs.AnswerLemmas.{one_answer}
 use Rattle.osb_records.proofs.SortLemmas.{instance_total, instance_back}
 use Rattle.osb_records.proofs.SelectLemmas.{then_equal}
 use Rattle.osb_records.proofs.StatementLemmas.{insert_does, update_does}
-use Rattle.osb_records.proofs.StoresLemmas.{at_most_one}
+use Rattle.osb_records.proofs.StoresLemmas.{one_hit}
 use Rattle.osb_records.proofs.TableLemmas.{cast_int, insert_stores, update_stores}
 use Rattle.osb_records.proofs.TestLemmas.{same_text, and_true, same_bytes, bytes_itself, bytes_back, text_itself}
 use Rattle.osb_records.proofs.ChangeLemmas.{Gives}
@@ -155,7 +155,7 @@ shows_instance old new tables id rows h =
     one_row id instances rows
     (one_answer 3 (is_at 1 0 ∷ []) instance_cells_read by_instance every (overlay old.now.trees []) params instance_cells instance_row instance_cmp instance_total (is_instance id)
     (λ _. refl) (λ _. refl) (at_id id []) (λ a b less. by_id a b ∙ less) instances rows tables.holds.instances (read.answer Null))
-    (at_most_one instance_cmp instance_total (is_instance id) (one_id id) instances tables.holds.instances.rising)
+    (one_hit instance_cmp instance_total (is_instance id) (one_id id) instances tables.holds.instances.rising)
 
 -- the parameters that show a row
 pub row_params : (entry : InstanceEntry) {phase busy : ℕ} {service plan organization space parameters maintenance : List ℕ}
