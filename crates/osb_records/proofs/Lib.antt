@@ -22,3 +22,4 @@ pub mod OrderTexts
 pub mod OrderLemmas
 pub mod NameLemmas
 pub mod NamedLemmas
+pub mod PutLemmas
