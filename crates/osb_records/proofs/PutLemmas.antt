@@ -2,6 +2,7 @@
 use Rattle.std.proofs.Common.{◌≡◌, ℕ, List, [], ◌∷◌, ◌++◌, map, filter, bytes_eq, Bool, true, false, cond, true≢false, Option, Some, None, Less, IsTrue, refl, sym, ap, subst, ◌∙◌}
 use Rattle.std.specs.Prelude.{unwrap_or}
 use Rattle.std.specs.List.{AllByRecursion}
+use Rattle.std.specs.Option.{option_to_list}
 use Rattle.std.specs.Ordering.{nat_cmp}
 use Rattle.std.specs.Cmp.Lexicographic.{slice_cmp, nat_list_cmp_total}
 use Rattle.std.specs.FinMap.{get, insert, get-insert}
@@ -18,7 +19,8 @@ use Rattle.osb_standing.specs.declared.row.InstanceRow.{InstanceRow}
 use Rattle.osb_standing.specs.Rows.{row_of}
 use Rattle.osb_standing.specs.Written.{IsWritten}
 use Rattle.osb_records.specs.Instances.{InstanceEntry, instance_cmp, is_instance, with_row}
-use Rattle.osb_records.specs.Stored.{Content, with_instances}
+use Rattle.sqlite.specs.Tree.{Trees}
+use Rattle.osb_records.specs.Stored.{Content, with_instances, instances_in, lives_stored}
 use Rattle.osb_records.specs.Standing.{IsRowOf, InstancesStand, Puts}
 use Rattle.osb_records.specs.Steps.{HasTables, Steps, PutsInstance, content}
 use Rattle.osb_records.proofs.TestLemmas.{same_bytes, bytes_itself, bytes_back}
@@ -114,3 +116,24 @@ instances_stand lives id change order row before after written follows puts stoo
     go false is =
         let life = life_changed lives id other change order written false is in
         subst (λ (l : Life). IsRowOf other (row_of l) after) (sym life) (puts.others other is ∙ stood other)
+
+-- one row is found
+abbrev first_row : List InstanceEntry → Option InstanceRow
+first_row [] = None
+first_row (entry ∷ entries) = Some entry.1
+
+one_found : (id : List ℕ) (a b : Option InstanceRow) (instances : List InstanceEntry) → IsRowOf id a instances → IsRowOf id b instances → a ≡ b
+one_found id a b instances p q = sym (back a) ∙ ap first_row (sym p ∙ q) ∙ back b
+  where
+    back : (found : Option InstanceRow) → first_row (map (λ (row : InstanceRow). (id, row)) (option_to_list found)) ≡ found
+    back None = refl
+    back (Some row) = refl
+
+-- the row that was put is that of the changed life
+pub written_stands : (id : List ℕ) (order : Order) (row : InstanceRow) (found : Option InstanceRow) (first read last : Trees) (after : List InstanceEntry) → read ≡ first → last ≡ read → IsRowOf id found (instances_in first)
+    → ((change : Change) → IsWritten (life_of (lives_stored read) id) change order → found ≡ row_of (life_of (lives_stored read) id) → row_of (changed change (life_of (lives_stored read) id)) ≡ Some row)
+    → Puts id row (instances_in last) after → (change : Change) → IsWritten (life_of (lives_stored first) id) change order → InstancesStand (lives_stored first) (instances_in first) → InstancesStand (lives_changed change id (lives_stored first)) after
+written_stands id order row found first read last after is-read is-last shows follows puts change written stood =
+    let told = one_found id found (row_of (life_of (lives_stored first) id)) (instances_in first) shows (stood id) in
+    let next = subst (λ trees. (change : Change) → IsWritten (life_of (lives_stored trees) id) change order → found ≡ row_of (life_of (lives_stored trees) id) → row_of (changed change (life_of (lives_stored trees) id)) ≡ Some row) is-read follows in
+    instances_stand (lives_stored first) id change order row (instances_in first) after written (next change written told) (subst (λ trees. Puts id row (instances_in trees) after) (is-last ∙ is-read) puts) stood
