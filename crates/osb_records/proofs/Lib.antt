@@ -24,3 +24,5 @@ pub mod NameLemmas
 pub mod NamedLemmas
 pub mod BindingTexts
 pub mod BindingLemmas
+pub mod PutLemmas
+pub mod EditLemmas

@@ -33,7 +33,7 @@ opened (order ∷ orders) = Some (order ∷ orders)
 abbrev pub life_in : List ℕ → List Entry → Life
 life_in id entries = map (λ (entry : Entry). entry.1) (filter (is_of id) entries)
 
-key_is : (a b : List ℕ) → eq_by_cmp (slice_cmp nat_cmp) a b ≡ bytes_eq b a
+pub key_is : (a b : List ℕ) → eq_by_cmp (slice_cmp nat_cmp) a b ≡ bytes_eq b a
 key_is a b = is_eq-slice_cmp a b ∙ go (bytes_eq b a) refl
   where
     go : (x : Bool) → bytes_eq b a ≡ x → bytes_eq a b ≡ x

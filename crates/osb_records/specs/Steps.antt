@@ -9,7 +9,9 @@ use Rattle.sqlite.specs.State.{State, HasCleanDisk}
 use Rattle.osb_orders.specs.Lives.{Lives}
 use Rattle.osb_orders.specs.IsLife.{IsLives}
 use Rattle.osb_records.specs.Tables.{record_schema}
-use Rattle.osb_records.specs.Stored.{HoldsEntries, Content, content_in, lives_stored}
+use Rattle.osb_standing.specs.declared.row.InstanceRow.{InstanceRow}
+use Rattle.osb_records.specs.Stored.{HoldsEntries, Content, content_in, lives_stored, with_instances}
+use Rattle.osb_records.specs.Standing.{Puts}
 
 -- the lives that a connection shows
 abbrev pub stored : State → Lives
@@ -74,6 +76,11 @@ pub record Steps (old new : State) (next : Content) : Type 0 where
   pub bindings_are : (content new).bindings ≡ next.bindings
   pub sound : IsDatabase new.now
   pub committed : new.committed ≡ old.committed
+
+-- Inside a transaction the instance got this row. Nothing is committed.
+pub record PutsInstance (old new : State) (id : List ℕ) (row : InstanceRow) : Type 0 where
+  pub steps : Steps old new (with_instances (content new).instances (content old))
+  pub puts : Puts id row (content old).instances (content new).instances
 
 -- Inside a transaction the schema has become this one, and these trees have no rows. Nothing is committed.
 pub record Makes (old new : State) (schema : Schema) (places : List ℕ) : Type 0 where
