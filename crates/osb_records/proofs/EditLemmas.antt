@@ -10,6 +10,7 @@ use Rattle.std.specs.FinMap.Entries.{find, put, by_order, below_all, is_sorted, 
 use Rattle.sqlite_trees.specs.Tree.{IsAscending}
 use Rattle.sqlite_keyed.specs.Lists.{insert_sorted, update_where, delete_where}
 use Rattle.sqlite_keyed.proofs.ListLemmas.{filter-map, filter_same, filter-filter, all_weaker}
+use Rattle.sqlite.specs.Effect.{Database}
 use Rattle.sqlite.specs.State.{State, IsUnchanged}
 use Rattle.osb_orders.specs.declared.order.OrderKind.{OrderKind}
 use Rattle.osb_orders.specs.declared.order.OrderKind.TheVariants.{Create, Update, Delete, Bind, Unbind}
@@ -27,10 +28,10 @@ use Rattle.osb_standing.specs.declared.row.BindingEdit.TheVariants.{Keep, Put, R
 use Rattle.osb_standing.specs.Rows.{Bindings, bindings_of}
 use Rattle.osb_standing.specs.Binding.{edit_of, edit_over, edited}
 use Rattle.osb_standing.specs.Written.{IsWritten}
-use Rattle.osb_standing.proofs.RowLemmas.{bindings_are}
+use Rattle.osb_standing.proofs.RowLemmas.{bindings_are, bindings_stand}
 use Rattle.osb_records.specs.Bindings.{BindingEntry, binding_entry, binding_now, binding_cmp, is_bound, is_binding}
 use Rattle.osb_records.specs.BindingRows.{binding_found, with_binding, binding_put, bindings_edited, PutsBindings, FollowsOrder}
-use Rattle.osb_records.specs.Stored.{with_bindings}
+use Rattle.osb_records.specs.Stored.{with_bindings, lives_stored, instances_in, bindings_in}
 use Rattle.osb_records.specs.Standing.{BindingsStand}
 use Rattle.osb_records.specs.Steps.{HasTables, Steps, content}
 use Rattle.osb_records.proofs.TestLemmas.{same_bytes, bytes_itself, bytes_back, text_itself}
@@ -116,7 +117,7 @@ bound_key id binding entry hit = go (is_bound id entry) refl hit
 -- ---- finding a row
 
 -- the binding without a maintenance version
-bare : BindingNow → BindingNow
+abbrev bare : BindingNow → BindingNow
 bare row = record row { attributes = without_maintenance row.attributes }
 
 found_in : (id binding : List ℕ) (es : Kept) → option_map binding_now (slice_get (filter (is_binding id binding) (map (binding_entry id) es)) 0) ≡ option_map bare (find by_bytes binding es)
@@ -282,3 +283,75 @@ module _ (id : List ℕ) (life : Life) (bindings : List BindingEntry) (rising : 
   puts_edited (Put row) binding = put_row binding row (binding_found id binding bindings) (found_row id binding life bindings stands)
   puts_edited Remove binding = removed binding
   puts_edited Clear binding = cleared
+
+-- ---- the functions
+
+pub no_entries : (entries : List BindingEntry) → is_some (option_map binding_now (slice_get entries 0)) ≡ false → entries ≡ []
+no_entries [] none = refl
+no_entries (entry ∷ entries) none = absurd (true≢false none)
+
+pub unchanged_itself : (s : State) → IsTrue s.is_open → IsUnchanged s s
+unchanged_itself s live = (record { was_open = live; is_open = live; now_is = refl; committed_is = refl; mode = refl }, record { changes = refl; last_rowid = refl }, refl)
+
+not_about : (kind : OrderKind) (state : OrderState) (order : Order) (old : Option BindingNow) → is_about_binding kind ≡ false → edit_over kind state order old ≡ edit_over kind state order None
+not_about Create state order old other = refl
+not_about Update state order old other = refl
+not_about Delete Running order old other = refl
+not_about Delete Succeeded order old other = refl
+not_about Delete Failed order old other = refl
+not_about Bind state order old other = absurd (true≢false other)
+not_about Unbind state order old other = absurd (true≢false other)
+
+never_put : (kind : OrderKind) (state : OrderState) (order : Order) (row : BindingNow) → is_about_binding kind ≡ false → edit_over kind state order None ≡ Put row → ⊥
+never_put Create state order row other is = cc
+never_put Update state order row other is = cc
+never_put Delete Running order row other is = cc
+never_put Delete Succeeded order row other is = cc
+never_put Delete Failed order row other is = cc
+never_put Bind state order row other is = absurd (true≢false other)
+never_put Unbind state order row other is = absurd (true≢false other)
+
+-- an order that isn't about a binding puts none
+pub puts_none : (order : Order) (edit : BindingEdit) (row : BindingNow) → is_about_binding order.kind ≡ false → edit ≡ edit_of order None → edit ≡ Put row → ⊥
+puts_none order edit row other is put = never_put order.kind order.outcome.state order row other (sym is ∙ put)
+
+-- what is known of an edit
+abbrev pub IsEditOf : List ℕ → Order → BindingEdit → List BindingEntry → Type 0
+IsEditOf id order edit bindings = (life : Life) (change : Change) → IsWritten life change order → BindingsStand id life bindings → bindings_of (changed change life) ≡ edited edit order.binding (bindings_of life)
+
+pub edit_without : (id : List ℕ) (order : Order) (edit : BindingEdit) (bindings : List BindingEntry) → is_about_binding order.kind ≡ false → edit ≡ edit_of order None → IsEditOf id order edit bindings
+edit_without id order edit bindings other is life change w stands =
+    let old = get (bindings_of life) order.binding in
+    let same : edit_of order old ≡ edit = not_about order.kind order.outcome.state order old other ∙ sym is in
+    bindings_stand life change {old = old} {E = Unit {0}} w refl (Ok (edit_of order old)) refl ∙ ap (λ e. edited e order.binding (bindings_of life)) same
+
+module _ (old mid new : State) (id : List ℕ) (order : Order) (edit : BindingEdit) (same : IsUnchanged old mid) (steps : Steps mid new (with_bindings (bindings_edited edit id order.binding (content mid).bindings) (content mid))) (tables : HasTables mid.now)
+    (is_edit : IsEditOf id order edit (content mid).bindings) where
+  now : mid.now ≡ old.now
+  now = same.0.now_is
+
+  rows_follow : (life : Life) (change : Change) → IsWritten life change order → BindingsStand id life (content old).bindings → PutsBindings id (bindings_of (changed change life)) (content old).bindings (content new).bindings
+  rows_follow life change w stands =
+      let here = subst (λ (db : Database). BindingsStand id life (bindings_in db.trees)) (sym now) stands in
+      let puts = puts_edited id life (content mid).bindings tables.holds.bindings.rising here edit order.binding in
+      let after = subst (PutsBindings id (edited edit order.binding (bindings_of life)) (content mid).bindings) (sym steps.bindings_are) puts in
+      let rows = subst (λ (rows : Bindings). PutsBindings id rows (content mid).bindings (content new).bindings) (sym (is_edit life change w here)) after in
+      subst (λ (db : Database). PutsBindings id (bindings_of (changed change life)) (bindings_in db.trees) (content new).bindings) now rows
+
+  -- after a query that changed nothing and the statement of the edit
+  pub follows_by : FollowsOrder old new id order
+  follows_by = record {
+    steps = record {
+      was_inside = sym same.0.mode ∙ steps.was_inside;
+      inside = steps.inside;
+      was_open = same.0.was_open;
+      is_open = steps.is_open;
+      tables = steps.tables;
+      lives_are = steps.lives_are ∙ ap (λ (db : Database). lives_stored db.trees) now;
+      instances_are = steps.instances_are ∙ ap (λ (db : Database). instances_in db.trees) now;
+      bindings_are = refl;
+      sound = steps.sound;
+      committed = steps.committed ∙ same.0.committed_is;
+    };
+    puts = rows_follow;
+  }
