@@ -23,3 +23,4 @@ pub mod OrderLemmas
 pub mod NameLemmas
 pub mod NamedLemmas
 pub mod PutLemmas
+pub mod CommitLemmas
