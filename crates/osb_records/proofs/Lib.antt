@@ -26,3 +26,4 @@ pub mod BindingTexts
 pub mod BindingLemmas
 pub mod PutLemmas
 pub mod EditLemmas
+pub mod CommitLemmas

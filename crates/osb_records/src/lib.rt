@@ -13,6 +13,7 @@ mod records;
 mod row;
 mod statements;
 mod tables;
+mod writing;
 
 pub use fault::StoreFault;
 pub use records::{Records, open_memory};

@@ -27,6 +27,7 @@ use std::marker::Model;
 #[derive(Drop)]
 pub struct Records<S: Alter> {
     conn: Connection<S>,
+    alloc: Global,
 }
 
 impl<S: Alter> Model for Records<S> {
@@ -48,7 +49,7 @@ pub fn open_memory(alloc: Global) -> Result<Records<MemStore>, StoreFault>
 {
     let mut conn = Connection::open_in_memory(alloc)?;
     make_tables(&mut conn)?;
-    Ok(Records { conn })
+    Ok(Records { conn, alloc })
 }
 
 impl<S: Alter> Records<S> {
@@ -93,9 +94,9 @@ impl<S: Alter> Records<S> {
     {
         match change {
             Change::Nothing => Ok(()),
-            Change::Append(order) => Ok(append(&mut self.conn, instance, order)?),
+            Change::Append(order) => append(&mut self.conn, self.alloc, instance, order),
             Change::Finish(number, outcome) => {
-                Ok(finish(&mut self.conn, instance, *number, outcome)?)
+                finish(&mut self.conn, self.alloc, instance, *number, outcome)
             }
         }
     }
