@@ -1,0 +1,262 @@
+//! What an ask needs to know, read inside a transaction.
+
+ghost use Rattle.std.specs.Prelude.{◌≡◌, [], filter, Some, IsTrue, IfOk, OnOk, option_copied, option_and_then};
+ghost use Rattle.std.specs.FinMap.{get};
+ghost use Rattle.sqlite.specs.Held.{state};
+ghost use Rattle.sqlite.specs.State.{HasCleanDisk, IsUnchanged, KeepsCommit, Survives};
+ghost use Rattle.osb_orders.specs.Lists.{last_of};
+ghost use Rattle.osb_orders.specs.Orders.{is_of_instance, is_of_binding};
+ghost use Rattle.osb_orders.specs.Lives.{life_of};
+ghost use Rattle.osb_orders.specs.Named.{binding_in, subject, named_by, named_in};
+ghost use Rattle.osb_standing.specs.Rows.{row_of, bindings_of};
+ghost use Rattle.osb_standing.specs.Laws.{count_in, has_rows};
+ghost use Rattle.osb_standing.specs.Read.{IsReadOf};
+ghost use Rattle.osb_records.specs.Steps.{stored};
+ghost use Rattle.osb_records.specs.Queries.{ShowsRecords, only};
+
+use crate::bindings::{is_bound, read_binding};
+use crate::fault::StoreFault;
+use crate::instances::read_instance;
+use crate::queries::{last_of_binding, last_of_instance, order_named, order_numbered};
+use osb_asks::Ask;
+use osb_orders::{BindingNow, Order};
+use osb_standing::{InstanceRow, Read};
+use osb_text::Text;
+use sqlite::{Alter, Transaction};
+use std::alloc::Global;
+
+/// The row of the instance.
+#[tactic(auto, using(crate::proofs::NamedLemmas::shows_again))]
+fn read_row<S: Alter>(
+    tx: &mut Transaction<'_, S>,
+    instance: &str,
+) -> Result<Option<InstanceRow>, StoreFault>
+    requires { ShowsRecords (state S.Store tx.old.conn.now) }
+    ensures same_reference { tx.new.conn.ghost_name ≡ tx.old.conn.ghost_name }
+    ensures ok { HasCleanDisk (state S.Store tx.new.conn.now) → IfOk result (λ row. row ≡ row_of (life_of (stored (state S.Store tx.old.conn.now)) instance.now)) }
+    ensures same { HasCleanDisk (state S.Store tx.new.conn.now) → OnOk result (IsUnchanged (state S.Store tx.old.conn.now) (state S.Store tx.new.conn.now)) }
+    ensures shows { OnOk result (ShowsRecords (state S.Store tx.new.conn.now)) }
+    ensures kept { HasCleanDisk (state S.Store tx.new.conn.now) → IsTrue (state S.Store tx.old.conn.now).in_transaction → KeepsCommit (state S.Store tx.old.conn.now) (state S.Store tx.new.conn.now) }
+    ensures survives { Survives (state S.Store tx.old.conn.now) (state S.Store tx.new.conn.now) (λ _. ⊥) }
+{
+    read_instance(tx, instance)
+}
+
+fn last_number(row: Option<&InstanceRow>) -> u32
+    ensures { result ≡ count_in (option_copied row.entry) }
+{
+    match row {
+        Some(row) => row.last_number,
+        None => 0,
+    }
+}
+
+/// The last order of the instance, by its row.
+#[tactic(auto, using(crate::proofs::NamedLemmas::shows_again))]
+fn read_last<S: Alter>(
+    tx: &mut Transaction<'_, S>,
+    instance: &str,
+    row: Option<&InstanceRow>,
+) -> Result<Option<Order>, StoreFault>
+    requires { ShowsRecords (state S.Store tx.old.conn.now) }
+    ensures same_reference { tx.new.conn.ghost_name ≡ tx.old.conn.ghost_name }
+    ensures ok { HasCleanDisk (state S.Store tx.new.conn.now) → IfOk result (λ order. option_copied row.entry ≡ row_of (life_of (stored (state S.Store tx.old.conn.now)) instance.now) → order ≡ last_of (life_of (stored (state S.Store tx.old.conn.now)) instance.now)) }
+    ensures same { HasCleanDisk (state S.Store tx.new.conn.now) → OnOk result (IsUnchanged (state S.Store tx.old.conn.now) (state S.Store tx.new.conn.now)) }
+    ensures shows { OnOk result (ShowsRecords (state S.Store tx.new.conn.now)) }
+    ensures kept { HasCleanDisk (state S.Store tx.new.conn.now) → IsTrue (state S.Store tx.old.conn.now).in_transaction → KeepsCommit (state S.Store tx.old.conn.now) (state S.Store tx.new.conn.now) }
+    ensures survives { Survives (state S.Store tx.old.conn.now) (state S.Store tx.new.conn.now) (λ _. ⊥) }
+{
+    order_numbered(tx, instance, last_number(row))
+}
+
+/// The row of the instance and its last order.
+#[tactic(auto, using(crate::proofs::NamedLemmas::shows_again))]
+fn read_standing<S: Alter>(
+    tx: &mut Transaction<'_, S>,
+    instance: &str,
+) -> Result<(Option<InstanceRow>, Option<Order>), StoreFault>
+    requires { ShowsRecords (state S.Store tx.old.conn.now) }
+    ensures same_reference { tx.new.conn.ghost_name ≡ tx.old.conn.ghost_name }
+    ensures ok { HasCleanDisk (state S.Store tx.new.conn.now) → IfOk result (λ found. (found.0 ≡ row_of (life_of (stored (state S.Store tx.old.conn.now)) instance.now)) × (found.1 ≡ last_of (life_of (stored (state S.Store tx.old.conn.now)) instance.now))) }
+    ensures same { HasCleanDisk (state S.Store tx.new.conn.now) → OnOk result (IsUnchanged (state S.Store tx.old.conn.now) (state S.Store tx.new.conn.now)) }
+    ensures shows { OnOk result (ShowsRecords (state S.Store tx.new.conn.now)) }
+    ensures kept { HasCleanDisk (state S.Store tx.new.conn.now) → IsTrue (state S.Store tx.old.conn.now).in_transaction → KeepsCommit (state S.Store tx.old.conn.now) (state S.Store tx.new.conn.now) }
+    ensures survives { Survives (state S.Store tx.old.conn.now) (state S.Store tx.new.conn.now) (λ _. ⊥) }
+{
+    let row = read_row(tx, instance)?;
+    let last = read_last(tx, instance, row.as_ref())?;
+    Ok((row, last))
+}
+
+/// Whether a binding of the instance remains.
+#[tactic(auto, using(crate::proofs::NamedLemmas::shows_again))]
+fn read_bound<S: Alter>(
+    tx: &mut Transaction<'_, S>,
+    instance: &str,
+) -> Result<bool, StoreFault>
+    requires { ShowsRecords (state S.Store tx.old.conn.now) }
+    ensures same_reference { tx.new.conn.ghost_name ≡ tx.old.conn.ghost_name }
+    ensures ok { HasCleanDisk (state S.Store tx.new.conn.now) → IfOk result (λ bound. bound ≡ has_rows (bindings_of (life_of (stored (state S.Store tx.old.conn.now)) instance.now))) }
+    ensures same { HasCleanDisk (state S.Store tx.new.conn.now) → OnOk result (IsUnchanged (state S.Store tx.old.conn.now) (state S.Store tx.new.conn.now)) }
+    ensures shows { OnOk result (ShowsRecords (state S.Store tx.new.conn.now)) }
+    ensures kept { HasCleanDisk (state S.Store tx.new.conn.now) → IsTrue (state S.Store tx.old.conn.now).in_transaction → KeepsCommit (state S.Store tx.old.conn.now) (state S.Store tx.new.conn.now) }
+    ensures survives { Survives (state S.Store tx.old.conn.now) (state S.Store tx.new.conn.now) (λ _. ⊥) }
+{
+    is_bound(tx, instance)
+}
+
+/// The row of the binding that the ask names.
+#[tactic(auto, using(crate::proofs::NamedLemmas::shows_again))]
+fn read_binding_for<S: Alter>(
+    tx: &mut Transaction<'_, S>,
+    alloc: Global,
+    instance: &str,
+    ask: &Ask,
+) -> Result<Option<BindingNow>, StoreFault>
+    requires { ShowsRecords (state S.Store tx.old.conn.now) }
+    ensures same_reference { tx.new.conn.ghost_name ≡ tx.old.conn.ghost_name }
+    ensures ok { HasCleanDisk (state S.Store tx.new.conn.now) → IsTrue (state S.Store tx.old.conn.now).is_open → IfOk result (λ row. row ≡ option_and_then (λ id. get (bindings_of (life_of (stored (state S.Store tx.old.conn.now)) instance.now)) id) (binding_in ask.now)) }
+    ensures same { HasCleanDisk (state S.Store tx.new.conn.now) → IsTrue (state S.Store tx.old.conn.now).is_open → OnOk result (IsUnchanged (state S.Store tx.old.conn.now) (state S.Store tx.new.conn.now)) }
+    ensures shows { OnOk result (ShowsRecords (state S.Store tx.new.conn.now)) }
+    ensures kept { HasCleanDisk (state S.Store tx.new.conn.now) → IsTrue (state S.Store tx.old.conn.now).in_transaction → KeepsCommit (state S.Store tx.old.conn.now) (state S.Store tx.new.conn.now) }
+    ensures survives { Survives (state S.Store tx.old.conn.now) (state S.Store tx.new.conn.now) (λ _. ⊥) }
+{
+    match ask.binding() {
+        Some(binding) => read_binding(tx, alloc, instance, binding.as_str()),
+        None => Ok(None),
+    }
+}
+
+fn only_of_instance(found: Option<Order>) -> Option<Order>
+    ensures { result ≡ only is_of_instance found }
+{
+    match found {
+        Some(order) if order.is_of_instance() => Some(order),
+        _ => None,
+    }
+}
+
+fn only_of_binding(found: Option<Order>, binding: &str) -> Option<Order>
+    ensures { result ≡ only (is_of_binding binding.now) found }
+{
+    match found {
+        Some(order) if order.is_of_binding(binding) => Some(order),
+        _ => None,
+    }
+}
+
+/// The order of that name among those of the instance.
+#[tactic(auto, using(crate::proofs::NamedLemmas::shows_again))]
+fn named_of_instance<S: Alter>(
+    tx: &mut Transaction<'_, S>,
+    alloc: Global,
+    instance: &str,
+    operation: Option<&Text>,
+) -> Result<Option<Order>, StoreFault>
+    requires { ShowsRecords (state S.Store tx.old.conn.now) }
+    ensures same_reference { tx.new.conn.ghost_name ≡ tx.old.conn.ghost_name }
+    ensures ok { HasCleanDisk (state S.Store tx.new.conn.now) → IsTrue (state S.Store tx.old.conn.now).is_open → IfOk result (λ order. order ≡ named_by (option_copied operation.entry) (filter is_of_instance (life_of (stored (state S.Store tx.old.conn.now)) instance.now))) }
+    ensures same { HasCleanDisk (state S.Store tx.new.conn.now) → IsTrue (state S.Store tx.old.conn.now).is_open → OnOk result (IsUnchanged (state S.Store tx.old.conn.now) (state S.Store tx.new.conn.now)) }
+    ensures shows { OnOk result (ShowsRecords (state S.Store tx.new.conn.now)) }
+    ensures kept { HasCleanDisk (state S.Store tx.new.conn.now) → IsTrue (state S.Store tx.old.conn.now).in_transaction → KeepsCommit (state S.Store tx.old.conn.now) (state S.Store tx.new.conn.now) }
+    ensures survives { Survives (state S.Store tx.old.conn.now) (state S.Store tx.new.conn.now) (λ _. ⊥) }
+{
+    let Some(name) = operation else {
+        return Ok(None);
+    };
+    let found = order_named(tx, alloc, instance, name.as_str())?;
+    Ok(only_of_instance(found))
+}
+
+/// The order of that name among those of the binding.
+#[tactic(auto, using(crate::proofs::NamedLemmas::shows_again))]
+fn named_of_binding<S: Alter>(
+    tx: &mut Transaction<'_, S>,
+    alloc: Global,
+    instance: &str,
+    binding: &str,
+    operation: Option<&Text>,
+) -> Result<Option<Order>, StoreFault>
+    requires { ShowsRecords (state S.Store tx.old.conn.now) }
+    ensures same_reference { tx.new.conn.ghost_name ≡ tx.old.conn.ghost_name }
+    ensures ok { HasCleanDisk (state S.Store tx.new.conn.now) → IsTrue (state S.Store tx.old.conn.now).is_open → IfOk result (λ order. order ≡ named_by (option_copied operation.entry) (filter (is_of_binding binding.now) (life_of (stored (state S.Store tx.old.conn.now)) instance.now))) }
+    ensures same { HasCleanDisk (state S.Store tx.new.conn.now) → IsTrue (state S.Store tx.old.conn.now).is_open → OnOk result (IsUnchanged (state S.Store tx.old.conn.now) (state S.Store tx.new.conn.now)) }
+    ensures shows { OnOk result (ShowsRecords (state S.Store tx.new.conn.now)) }
+    ensures kept { HasCleanDisk (state S.Store tx.new.conn.now) → IsTrue (state S.Store tx.old.conn.now).in_transaction → KeepsCommit (state S.Store tx.old.conn.now) (state S.Store tx.new.conn.now) }
+    ensures survives { Survives (state S.Store tx.old.conn.now) (state S.Store tx.new.conn.now) (λ _. ⊥) }
+{
+    let Some(name) = operation else {
+        return Ok(None);
+    };
+    let found = order_named(tx, alloc, instance, name.as_str())?;
+    Ok(only_of_binding(found, binding))
+}
+
+/// The order that the ask names.
+#[tactic(auto, using(crate::proofs::NamedLemmas::shows_again))]
+fn read_named<S: Alter>(
+    tx: &mut Transaction<'_, S>,
+    alloc: Global,
+    instance: &str,
+    ask: &Ask,
+) -> Result<Option<Order>, StoreFault>
+    requires { ShowsRecords (state S.Store tx.old.conn.now) }
+    ensures same_reference { tx.new.conn.ghost_name ≡ tx.old.conn.ghost_name }
+    ensures ok { HasCleanDisk (state S.Store tx.new.conn.now) → IsTrue (state S.Store tx.old.conn.now).is_open → IfOk result (λ order. order ≡ named_in ask.now (life_of (stored (state S.Store tx.old.conn.now)) instance.now)) }
+    ensures same { HasCleanDisk (state S.Store tx.new.conn.now) → IsTrue (state S.Store tx.old.conn.now).is_open → OnOk result (IsUnchanged (state S.Store tx.old.conn.now) (state S.Store tx.new.conn.now)) }
+    ensures shows { OnOk result (ShowsRecords (state S.Store tx.new.conn.now)) }
+    ensures kept { HasCleanDisk (state S.Store tx.new.conn.now) → IsTrue (state S.Store tx.old.conn.now).in_transaction → KeepsCommit (state S.Store tx.old.conn.now) (state S.Store tx.new.conn.now) }
+    ensures survives { Survives (state S.Store tx.old.conn.now) (state S.Store tx.new.conn.now) (λ _. ⊥) }
+{
+    match ask {
+        Ask::InstanceOp(poll) => named_of_instance(tx, alloc, instance, poll.operation.as_ref()),
+        Ask::BindingOp(poll) => named_of_binding(
+            tx,
+            alloc,
+            instance,
+            poll.binding.as_str(),
+            poll.operation.as_ref(),
+        ),
+        Ask::Report(report) => order_numbered(tx, instance, report.number),
+        Ask::Catalog
+        | Ask::Provision(_)
+        | Ask::Fetch(_)
+        | Ask::Update(_)
+        | Ask::Deprovision(_)
+        | Ask::Bind(_)
+        | Ask::FetchBinding(_)
+        | Ask::Unbind(_)
+        | Ask::Orders(_) => Ok(None),
+    }
+}
+
+/// The last of the orders that a poll is about.
+#[tactic(auto, using(crate::proofs::NamedLemmas::shows_again))]
+fn read_subject<S: Alter>(
+    tx: &mut Transaction<'_, S>,
+    instance: &str,
+    ask: &Ask,
+) -> Result<Option<Order>, StoreFault>
+    requires { ShowsRecords (state S.Store tx.old.conn.now) }
+    ensures same_reference { tx.new.conn.ghost_name ≡ tx.old.conn.ghost_name }
+    ensures ok { HasCleanDisk (state S.Store tx.new.conn.now) → IsTrue (state S.Store tx.old.conn.now).is_open → IfOk result (λ order. order ≡ last_of (subject ask.now (life_of (stored (state S.Store tx.old.conn.now)) instance.now))) }
+    ensures same { HasCleanDisk (state S.Store tx.new.conn.now) → IsTrue (state S.Store tx.old.conn.now).is_open → OnOk result (IsUnchanged (state S.Store tx.old.conn.now) (state S.Store tx.new.conn.now)) }
+    ensures shows { OnOk result (ShowsRecords (state S.Store tx.new.conn.now)) }
+    ensures kept { HasCleanDisk (state S.Store tx.new.conn.now) → IsTrue (state S.Store tx.old.conn.now).in_transaction → KeepsCommit (state S.Store tx.old.conn.now) (state S.Store tx.new.conn.now) }
+    ensures survives { Survives (state S.Store tx.old.conn.now) (state S.Store tx.new.conn.now) (λ _. ⊥) }
+{
+    match ask {
+        Ask::InstanceOp(_) => last_of_instance(tx, instance),
+        Ask::BindingOp(poll) => last_of_binding(tx, instance, poll.binding.as_str()),
+        Ask::Catalog
+        | Ask::Provision(_)
+        | Ask::Fetch(_)
+        | Ask::Update(_)
+        | Ask::Deprovision(_)
+        | Ask::Bind(_)
+        | Ask::FetchBinding(_)
+        | Ask::Unbind(_)
+        | Ask::Orders(_)
+        | Ask::Report(_) => Ok(None),
+    }
+}
