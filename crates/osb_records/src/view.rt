@@ -260,3 +260,105 @@ fn read_subject<S: Alter>(
         | Ask::Report(_) => Ok(None),
     }
 }
+
+/// The row of the binding that the ask names, and whether one remains.
+fn read_bindings<S: Alter>(
+    tx: &mut Transaction<'_, S>,
+    alloc: Global,
+    instance: &str,
+    ask: &Ask,
+) -> Result<(Option<BindingNow>, bool), StoreFault>
+    requires { ShowsRecords (state S.Store tx.old.conn.now) }
+    ensures same_reference { tx.new.conn.ghost_name ≡ tx.old.conn.ghost_name }
+    ensures ok { HasCleanDisk (state S.Store tx.new.conn.now) → IfOk result (λ found. (found.0 ≡ option_and_then (λ id. get (bindings_of (life_of (stored (state S.Store tx.old.conn.now)) instance.now)) id) (binding_in ask.now)) × (found.1 ≡ has_rows (bindings_of (life_of (stored (state S.Store tx.old.conn.now)) instance.now)))) }
+    ensures same { HasCleanDisk (state S.Store tx.new.conn.now) → OnOk result (IsUnchanged (state S.Store tx.old.conn.now) (state S.Store tx.new.conn.now)) }
+    ensures shows { OnOk result (ShowsRecords (state S.Store tx.new.conn.now)) }
+    ensures kept { HasCleanDisk (state S.Store tx.new.conn.now) → IsTrue (state S.Store tx.old.conn.now).in_transaction → KeepsCommit (state S.Store tx.old.conn.now) (state S.Store tx.new.conn.now) }
+    ensures survives { Survives (state S.Store tx.old.conn.now) (state S.Store tx.new.conn.now) (λ _. ⊥) }
+{
+    let bound = read_bound(tx, instance)?;
+    let binding = read_binding_for(tx, alloc, instance, ask)?;
+    Ok((binding, bound))
+}
+
+/// The order that the ask names, and the last of those that a poll is about.
+fn read_polled<S: Alter>(
+    tx: &mut Transaction<'_, S>,
+    alloc: Global,
+    instance: &str,
+    ask: &Ask,
+) -> Result<(Option<Order>, Option<Order>), StoreFault>
+    requires { ShowsRecords (state S.Store tx.old.conn.now) }
+    ensures same_reference { tx.new.conn.ghost_name ≡ tx.old.conn.ghost_name }
+    ensures ok { HasCleanDisk (state S.Store tx.new.conn.now) → IsTrue (state S.Store tx.old.conn.now).is_open → IfOk result (λ found. (found.0 ≡ named_in ask.now (life_of (stored (state S.Store tx.old.conn.now)) instance.now)) × (found.1 ≡ last_of (subject ask.now (life_of (stored (state S.Store tx.old.conn.now)) instance.now)))) }
+    ensures same { HasCleanDisk (state S.Store tx.new.conn.now) → IsTrue (state S.Store tx.old.conn.now).is_open → OnOk result (IsUnchanged (state S.Store tx.old.conn.now) (state S.Store tx.new.conn.now)) }
+    ensures shows { OnOk result (ShowsRecords (state S.Store tx.new.conn.now)) }
+    ensures kept { HasCleanDisk (state S.Store tx.new.conn.now) → IsTrue (state S.Store tx.old.conn.now).in_transaction → KeepsCommit (state S.Store tx.old.conn.now) (state S.Store tx.new.conn.now) }
+    ensures survives { Survives (state S.Store tx.old.conn.now) (state S.Store tx.new.conn.now) (λ _. ⊥) }
+{
+    let named = read_named(tx, alloc, instance, ask)?;
+    let subject_last = read_subject(tx, instance, ask)?;
+    Ok((named, subject_last))
+}
+
+/// What is read for the ask beside the row of its instance and the last order.
+#[derive(Drop)]
+struct Asked {
+    binding: Option<BindingNow>,
+    bound: bool,
+    named: Option<Order>,
+    subject_last: Option<Order>,
+}
+
+/// What the ask names.
+fn read_asked<S: Alter>(
+    tx: &mut Transaction<'_, S>,
+    alloc: Global,
+    instance: &str,
+    ask: &Ask,
+) -> Result<Asked, StoreFault>
+    requires { ShowsRecords (state S.Store tx.old.conn.now) }
+    ensures same_reference { tx.new.conn.ghost_name ≡ tx.old.conn.ghost_name }
+    ensures ok { HasCleanDisk (state S.Store tx.new.conn.now) → IfOk result (λ asked. ((asked.binding ≡ option_and_then (λ id. get (bindings_of (life_of (stored (state S.Store tx.old.conn.now)) instance.now)) id) (binding_in ask.now)) × (asked.bound ≡ has_rows (bindings_of (life_of (stored (state S.Store tx.old.conn.now)) instance.now)))) × ((asked.named ≡ named_in ask.now (life_of (stored (state S.Store tx.old.conn.now)) instance.now)) × (asked.subject_last ≡ last_of (subject ask.now (life_of (stored (state S.Store tx.old.conn.now)) instance.now))))) }
+    ensures same { HasCleanDisk (state S.Store tx.new.conn.now) → OnOk result (IsUnchanged (state S.Store tx.old.conn.now) (state S.Store tx.new.conn.now)) }
+    ensures shows { OnOk result (ShowsRecords (state S.Store tx.new.conn.now)) }
+    ensures kept { HasCleanDisk (state S.Store tx.new.conn.now) → IsTrue (state S.Store tx.old.conn.now).in_transaction → KeepsCommit (state S.Store tx.old.conn.now) (state S.Store tx.new.conn.now) }
+    ensures survives { Survives (state S.Store tx.old.conn.now) (state S.Store tx.new.conn.now) (λ _. ⊥) }
+{
+    let (binding, bound) = read_bindings(tx, alloc, instance, ask)?;
+    let (named, subject_last) = read_polled(tx, alloc, instance, ask)?;
+    Ok(Asked {
+        binding,
+        bound,
+        named,
+        subject_last,
+    })
+}
+
+/// What is read for an ask that names the instance.
+pub(crate) fn read_for<S: Alter>(
+    tx: &mut Transaction<'_, S>,
+    alloc: Global,
+    instance: &str,
+    ask: &Ask,
+) -> Result<Read, StoreFault>
+    requires { ShowsRecords (state S.Store tx.old.conn.now) }
+    ensures same_reference { tx.new.conn.ghost_name ≡ tx.old.conn.ghost_name }
+    ensures ok { HasCleanDisk (state S.Store tx.new.conn.now) → IfOk result (λ read. IsReadOf (life_of (stored (state S.Store tx.old.conn.now)) instance.now) [] ask.now read) }
+    ensures same { HasCleanDisk (state S.Store tx.new.conn.now) → OnOk result (IsUnchanged (state S.Store tx.old.conn.now) (state S.Store tx.new.conn.now)) }
+    ensures shows { OnOk result (ShowsRecords (state S.Store tx.new.conn.now)) }
+    ensures kept { HasCleanDisk (state S.Store tx.new.conn.now) → IsTrue (state S.Store tx.old.conn.now).in_transaction → KeepsCommit (state S.Store tx.old.conn.now) (state S.Store tx.new.conn.now) }
+    ensures survives { Survives (state S.Store tx.old.conn.now) (state S.Store tx.new.conn.now) (λ _. ⊥) }
+{
+    let (row, last) = read_standing(tx, instance)?;
+    let asked = read_asked(tx, alloc, instance, ask)?;
+    Ok(Read {
+        row,
+        last,
+        binding: asked.binding,
+        named: asked.named,
+        subject_last: asked.subject_last,
+        bound: asked.bound,
+        listing: Vec::new(alloc),
+    })
+}
