@@ -22,5 +22,8 @@ pub mod OrderTexts
 pub mod OrderLemmas
 pub mod NameLemmas
 pub mod NamedLemmas
+pub mod BindingTexts
+pub mod BindingLemmas
 pub mod PutLemmas
+pub mod EditLemmas
 pub mod CommitLemmas

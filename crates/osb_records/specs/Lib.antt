@@ -8,3 +8,4 @@ pub mod Standing
 pub mod Steps
 pub mod Commit
 pub mod Queries
+pub mod BindingRows

@@ -1,6 +1,7 @@
 //! The orders of all instances in a SQL database.
 #![tactic(auto)]
 
+mod bindings;
 mod commits;
 mod fault;
 mod instances;

@@ -1,0 +1,23 @@
+use Rattle.std.proofs.Common.{refl}
+use Rattle.sqlite.specs.Held.{state}
+use Rattle.sqlite_keyed.specs.Lists.{update_where}
+use Rattle.osb_records.specs.Bindings.{binding_entry, binding_row, is_binding}
+use Rattle.osb_records.specs.BindingRows.{with_binding}
+use Rattle.osb_records.specs.Stored.{entries_in, instances_in, bindings_in}
+use Rattle.osb_records.specs.Steps.{stored}
+use Rattle.osb_records.proofs.BindingTexts.{update_binding}
+use Rattle.osb_records.proofs.StepLemmas.{steps_by}
+use Rattle.osb_records.proofs.BindingLemmas.{updates_binding}
+use Rattle.osb_records.proofs.bindings.update_binding.Goals as goal
+
+pub returns-clause-ok : goal.returns-clause-ok
+returns-clause-ok g c clean =
+    let old = state g.S.Store c.args.tx.now.conn.now in
+    let new = state g.S.Store c.execute_with.new.tx.conn.now in
+    let id = c.args.instance.now in
+    let binding = c.args.binding.now in
+    let row = c.args.row.now in
+    steps_by update_binding (binding_row (binding_entry id (binding, row))) old new c.execute_with.result _ c.execute_with.ensures.ended c.execute_with.ensures.survives clean
+    (stored old) (entries_in old.now.trees) (instances_in old.now.trees) (update_where (is_binding id binding) (with_binding row) (bindings_in old.now.trees)) (λ before live. (c.requires before live).schema)
+    (λ count before live has h. (updates_binding old new count (c.requires before live) id binding row h, refl))
+    (c.execute_with.ensures.runs clean)
