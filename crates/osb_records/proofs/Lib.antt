@@ -28,3 +28,4 @@ pub mod PutLemmas
 pub mod EditLemmas
 pub mod CommitLemmas
 pub mod ViewLemmas
+pub mod AskLemmas

@@ -1,29 +1,36 @@
 //! What an ask needs to know, read inside a transaction.
 
-ghost use Rattle.std.specs.Prelude.{◌≡◌, [], filter, Some, IsTrue, IfOk, OnOk, option_copied, option_and_then};
+ghost use Rattle.std.specs.Prelude.{◌≡◌, [], filter, Some, None, unwrap_or, IsTrue, IfOk, OnOk, option_copied, option_and_then};
 ghost use Rattle.std.specs.FinMap.{get};
 ghost use Rattle.sqlite.specs.Held.{state};
 ghost use Rattle.sqlite.specs.State.{HasCleanDisk, IsUnchanged, KeepsCommit, Survives};
 ghost use Rattle.osb_orders.specs.Lists.{last_of};
 ghost use Rattle.osb_orders.specs.Orders.{is_of_instance, is_of_binding};
 ghost use Rattle.osb_orders.specs.Lives.{life_of};
-ghost use Rattle.osb_orders.specs.Named.{binding_in, subject, named_by, named_in};
+ghost use Rattle.osb_asks.specs.declared.ask.Ask.TheVariants as asks;
+ghost use Rattle.osb_orders.specs.Facts.{facts, view_of};
+ghost use Rattle.osb_orders.specs.Named.{instance_in, binding_in, subject, named_by, named_in};
 ghost use Rattle.osb_standing.specs.Rows.{row_of, bindings_of};
 ghost use Rattle.osb_standing.specs.Laws.{count_in, has_rows};
 ghost use Rattle.osb_standing.specs.Read.{IsReadOf};
-ghost use Rattle.osb_records.specs.Steps.{stored};
-ghost use Rattle.osb_records.specs.Queries.{ShowsRecords, only};
+ghost use Rattle.osb_records.specs.Steps.{IsReady, stored};
+ghost use Rattle.osb_records.specs.Queries.{ShowsRecords, only, listed_facts};
 
 use crate::bindings::{is_bound, read_binding};
 use crate::fault::StoreFault;
 use crate::instances::read_instance;
 use crate::queries::{last_of_binding, last_of_instance, order_named, order_numbered};
-use osb_asks::Ask;
-use osb_orders::{BindingNow, Order};
-use osb_standing::{InstanceRow, Read};
+use crate::reading::read_running;
+use crate::row::entries_in;
+use osb_asks::{Ask, Orders};
+use osb_orders::{BindingNow, Order, View};
+use osb_standing::{InstanceRow, Read, view_by};
 use osb_text::Text;
-use sqlite::{Alter, Transaction};
+use sqlite::{Alter, Connection, Transaction};
 use std::alloc::Global;
+
+/// How many running orders an ask lists.
+const LISTED: u32 = 100;
 
 /// The row of the instance.
 #[tactic(auto, using(crate::proofs::NamedLemmas::shows_again))]
@@ -361,4 +368,93 @@ pub(crate) fn read_for<S: Alter>(
         bound: asked.bound,
         listing: Vec::new(alloc),
     })
+}
+
+/// The view for an ask that names the instance.
+#[tactic(auto, using(crate::proofs::AskLemmas::ready_shows))]
+pub(crate) fn view_of_instance<S: Alter>(
+    conn: &mut Connection<S>,
+    alloc: Global,
+    instance: &str,
+    ask: &Ask,
+) -> Result<View, StoreFault>
+    requires { IsReady (state S.Store conn.old) }
+    ensures ready { IsReady (state S.Store conn.new) }
+    ensures ok { HasCleanDisk (state S.Store conn.new) → instance_in ask.now ≡ Some instance.now → IfOk result (λ view. facts view ≡ view_of (stored (state S.Store conn.old)) ask.now) }
+    ensures same { HasCleanDisk (state S.Store conn.new) → IsTrue (state S.Store conn.new).is_open → (state S.Store conn.new).now ≡ (state S.Store conn.old).now }
+    ensures crash { Survives (state S.Store conn.old) (state S.Store conn.new) (λ _. ⊥) }
+{
+    let mut tx = conn.transaction();
+    let read = read_for(&mut tx, alloc, instance, ask)?;
+    tx.rollback();
+    Ok(view_by(read))
+}
+
+fn view_of_listing(listing: Vec<(Text, Order)>) -> View
+    ensures { facts result ≡ listed_facts listing.items }
+{
+    View {
+        standing: None,
+        last: None,
+        binding: None,
+        named: None,
+        subject_last: None,
+        count: 0,
+        bound: false,
+        listing,
+    }
+}
+
+/// The id after which the listing begins.
+fn listed_after(orders: &Orders) -> &str
+    ensures { result.now ≡ unwrap_or orders.now.after [] }
+{
+    match &orders.after {
+        Some(after) => after.as_str(),
+        None => "",
+    }
+}
+
+fn view_of_running<S: Alter>(
+    conn: &mut Connection<S>,
+    alloc: Global,
+    orders: &Orders,
+) -> Result<View, StoreFault>
+    requires { IsReady (state S.Store conn.old) }
+    ensures ready { IsReady (state S.Store conn.new) }
+    ensures ok { HasCleanDisk (state S.Store conn.new) → IfOk result (λ view. facts view ≡ view_of (stored (state S.Store conn.old)) (asks.Orders orders.now)) }
+    ensures same { HasCleanDisk (state S.Store conn.new) → IsTrue (state S.Store conn.new).is_open → (state S.Store conn.new).now ≡ (state S.Store conn.old).now }
+    ensures crash { Survives (state S.Store conn.old) (state S.Store conn.new) (λ _. ⊥) }
+{
+    let rows = read_running(conn, listed_after(orders), LISTED)?;
+    let listing = entries_in(alloc, &rows)?;
+    Ok(view_of_listing(listing))
+}
+
+/// The view for an ask that names no instance.
+pub(crate) fn view_without_instance<S: Alter>(
+    conn: &mut Connection<S>,
+    alloc: Global,
+    ask: &Ask,
+) -> Result<View, StoreFault>
+    requires { IsReady (state S.Store conn.old) }
+    ensures ready { IsReady (state S.Store conn.new) }
+    ensures ok { HasCleanDisk (state S.Store conn.new) → instance_in ask.now ≡ None → IfOk result (λ view. facts view ≡ view_of (stored (state S.Store conn.old)) ask.now) }
+    ensures same { HasCleanDisk (state S.Store conn.new) → IsTrue (state S.Store conn.new).is_open → (state S.Store conn.new).now ≡ (state S.Store conn.old).now }
+    ensures crash { Survives (state S.Store conn.old) (state S.Store conn.new) (λ _. ⊥) }
+{
+    match ask {
+        Ask::Orders(orders) => view_of_running(conn, alloc, orders),
+        Ask::Catalog
+        | Ask::Provision(_)
+        | Ask::Fetch(_)
+        | Ask::Update(_)
+        | Ask::Deprovision(_)
+        | Ask::InstanceOp(_)
+        | Ask::Bind(_)
+        | Ask::FetchBinding(_)
+        | Ask::Unbind(_)
+        | Ask::BindingOp(_)
+        | Ask::Report(_) => Ok(view_of_listing(Vec::new(alloc))),
+    }
 }
