@@ -1,5 +1,5 @@
 -- What the statements do to the rows of bindings, and what the queries answer.
-use Rattle.std.proofs.Common.{◌≡◌, ◌⊎◌, inl, inr, ℕ, ◌==◌, pos, List, [], ◌∷◌, length, map, filter, take, codes, bytes_eq, Bool, true, false, not, cond, ◌&&◌, ◌||◌, Some, None, Option, Ok, Ordering, Less, Equal, Greater, nat_cmp, refl, sym, ap, subst, ◌∙◌, arith}
+use Rattle.std.proofs.Common.{◌≡◌, ℕ, ◌==◌, pos, List, [], ◌∷◌, length, map, filter, take, codes, bytes_eq, Bool, true, false, not, cond, ◌&&◌, ◌||◌, Some, None, Option, option_map, slice_get, Ok, Ordering, Less, Equal, Greater, nat_cmp, refl, sym, ap, subst, ◌∙◌, arith}
 use Rattle.std.specs.List.{AllByRecursion, list_all, list_any}
 use Rattle.std.specs.Ordering.{is_eq, ordering_then}
 use Rattle.std.specs.Cmp.Lexicographic.{slice_cmp}
@@ -24,14 +24,13 @@ use Rattle.osb_records.specs.Rows.{Stores}
 use Rattle.osb_records.specs.Tables.{binding_columns, record_schema}
 use Rattle.osb_records.specs.Instances.{InstanceEntry, instance_cells, instance_row, instance_cmp}
 use Rattle.osb_records.specs.Bindings.{BindingEntry, binding_entry, binding_now, binding_cells, binding_row, binding_cmp, binding_told, binding_phase_number, is_bound, is_binding}
-use Rattle.osb_records.specs.BindingRows.{IsBindingOf, first_binding, with_binding}
+use Rattle.osb_records.specs.BindingRows.{binding_found, first_binding, with_binding}
 use Rattle.osb_records.specs.Stored.{Entry, entry_row, entry_cmp, order_cells, version_row, version_cells, entries_in, instances_in, bindings_in}
 use Rattle.osb_records.specs.Steps.{HasTables}
 use Rattle.osb_records.proofs.AnswerLemmas.{one_answer}
 use Rattle.osb_records.proofs.SortLemmas.{binding_total, binding_back}
 use Rattle.osb_records.proofs.SelectLemmas.{then_equal}
 use Rattle.osb_records.proofs.StatementLemmas.{insert_does, update_does, delete_does}
-use Rattle.osb_records.proofs.StoresLemmas.{one_hit}
 use Rattle.osb_records.proofs.TableLemmas.{cast_int, insert_stores, update_stores, delete_stores}
 use Rattle.osb_records.proofs.TestLemmas.{same_text, and_true, same_bytes, bytes_itself, bytes_back, text_itself}
 use Rattle.osb_records.proofs.ChangeLemmas.{Gives}
@@ -190,26 +189,9 @@ module _ (old new : State) (count : ℕ) (tables : HasTables old.now) (id : List
 
 -- ---- the queries
 
-hit_is : (p : BindingEntry → Bool) (entry : BindingEntry) (entries : List BindingEntry) → filter p entries ≡ entry ∷ [] → p entry ≡ true
-hit_is p entry [] only = absurd (cc)
-hit_is p entry (first ∷ entries) only = go (p first) refl only (hit_is p entry entries)
-  where
-    go : (b : Bool) → p first ≡ b → cond b (first ∷ filter p entries) (filter p entries) ≡ entry ∷ [] → (filter p entries ≡ entry ∷ [] → p entry ≡ true) → p entry ≡ true
-    go true is only more = let same : first ≡ entry = cc in subst (λ e. p e ≡ true) same is
-    go false is only more = more only
-
-binding_is : (id binding : List ℕ) (entry : BindingEntry) → entry.instance ≡ id → entry.binding ≡ binding → entry ≡ binding_entry id (binding, binding_now entry)
-binding_is id binding entry is-id is-binding = rw (sym is-id, sym is-binding) refl
-
-binding_told_back : (id binding : List ℕ) (entry : BindingEntry) → is_binding id binding entry ≡ true → entry ∷ [] ≡ binding_entry id (binding, binding_now (binding_told (binding_row entry))) ∷ []
-binding_told_back id binding entry hit =
-    let of_entry = ids_of id binding entry hit in
-    ap (λ (e : BindingEntry). e ∷ []) (binding_is id binding entry of_entry.0 of_entry.1) ∙ ap (λ (e : BindingEntry). binding_entry id (binding, binding_now e) ∷ []) (sym (binding_back entry))
-
-one_row : (id binding : List ℕ) (bindings : List BindingEntry) (rows : List Row) → rows ≡ map binding_row (filter (is_binding id binding) bindings)
-    → (filter (is_binding id binding) bindings ≡ []) ⊎ ((entry : BindingEntry) × (filter (is_binding id binding) bindings ≡ entry ∷ [])) → IsBindingOf id binding (first_binding rows) bindings
-one_row id binding bindings rows is (inl none) = rw (is, none) refl
-one_row id binding bindings rows is (inr found) = rw (is, found.1) (binding_told_back id binding found.0 (hit_is (is_binding id binding) found.0 bindings found.1))
+found_told : (entries : List BindingEntry) → first_binding (map binding_row entries) ≡ option_map binding_now (slice_get entries 0)
+found_told [] = refl
+found_told (entry ∷ entries) = ap (λ (e : BindingEntry). Some (binding_now e)) (binding_back entry)
 
 any_first : (id : List ℕ) (bindings : List BindingEntry) → (length (take 1 (map binding_row (filter (is_bound id) bindings))) == 0) ≡ not (list_any (is_bound id) bindings)
 any_first id [] = refl
@@ -224,14 +206,13 @@ module _ (old new : State) (tables : HasTables old.now) (id : List ℕ) where
   abbrev known : List BindingEntry
   known = bindings_in old.now.trees
 
-  pub shows_binding : (binding : List ℕ) (rows : List Row) → Shown select_binding (Text id ∷ Text binding ∷ []) old new rows → IsBindingOf id binding (first_binding rows) known
+  pub shows_binding : (binding : List ℕ) (rows : List Row) → Shown select_binding (Text id ∷ Text binding ∷ []) old new rows → first_binding rows ≡ binding_found id binding known
   shows_binding binding rows h =
       let params = Text id ∷ Text binding ∷ [] in
       let read = reads_as select_binding params old new record_schema tables.schema _ select_binding_is.0 select_binding_is.2 select_binding_is.1 rows h in
-      one_row id binding known rows
-      (one_answer 5 at_binding binding_cells_read by_ids every (overlay old.now.trees []) params binding_cells binding_row binding_cmp binding_total (is_binding id binding)
+      ap first_binding (one_answer 5 at_binding binding_cells_read by_ids every (overlay old.now.trees []) params binding_cells binding_row binding_cmp binding_total (is_binding id binding)
         (λ _. refl) (λ _. refl) (at_ids id binding []) (λ a b less. by_both_ids a b ∙ less) known rows tables.holds.bindings (read.answer Null))
-      (one_hit binding_cmp binding_total (is_binding id binding) (one_binding id binding) known tables.holds.bindings.rising)
+      ∙ found_told (filter (is_binding id binding) known)
 
   pub shows_bound : (rows : List Row) → Shown select_bound (Text id ∷ []) old new rows → (length rows == 0) ≡ not (list_any (is_bound id) known)
   shows_bound rows h =

@@ -24,3 +24,8 @@ pub mod NameLemmas
 pub mod NamedLemmas
 pub mod BindingTexts
 pub mod BindingLemmas
+pub mod PutLemmas
+pub mod EditLemmas
+pub mod CommitLemmas
+pub mod ViewLemmas
+pub mod AskLemmas

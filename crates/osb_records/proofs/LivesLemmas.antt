@@ -33,7 +33,7 @@ opened (order ∷ orders) = Some (order ∷ orders)
 abbrev pub life_in : List ℕ → List Entry → Life
 life_in id entries = map (λ (entry : Entry). entry.1) (filter (is_of id) entries)
 
-key_is : (a b : List ℕ) → eq_by_cmp (slice_cmp nat_cmp) a b ≡ bytes_eq b a
+pub key_is : (a b : List ℕ) → eq_by_cmp (slice_cmp nat_cmp) a b ≡ bytes_eq b a
 key_is a b = is_eq-slice_cmp a b ∙ go (bytes_eq b a) refl
   where
     go : (x : Bool) → bytes_eq b a ≡ x → bytes_eq a b ≡ x
@@ -67,7 +67,7 @@ abbrev pub IsNumberedFrom : ℕ → Life → Type 0
 IsNumberedFrom n [] = Unit {0}
 IsNumberedFrom n (order ∷ orders) = (order.number ≡ n + 1) × IsNumberedFrom (n + 1) orders
 
-length_one_more : (before : Life) (order : Order) → length (before ++ order ∷ []) ≡ length before + 1
+pub length_one_more : (before : Life) (order : Order) → length (before ++ order ∷ []) ≡ length before + 1
 length_one_more [] order = refl
 length_one_more (first ∷ before) order = omega (arith, length_one_more before order)
 
@@ -225,10 +225,10 @@ append_lives id order entries up above = same_lives _ _ (λ q. get_lives q _ ∙
 
 -- ---- an entry ended
 
-same_number_is : (m n : ℕ) → m ≡ n → (m == n) ≡ true
+pub same_number_is : (m n : ℕ) → m ≡ n → (m == n) ≡ true
 same_number_is m n h = grind (arith, nat_tests)
 
-other_number : (m n : ℕ) → m < n → (m == n) ≡ false
+pub other_number : (m n : ℕ) → m < n → (m == n) ≡ false
 other_number m n h = grind (arith, nat_tests)
 
 -- in a numbered life the last order has the number of its length

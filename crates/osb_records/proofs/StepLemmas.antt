@@ -12,8 +12,9 @@ use Rattle.osb_orders.specs.IsLife.{IsLives}
 use Rattle.osb_records.specs.Tables.{record_schema}
 use Rattle.osb_records.specs.Instances.{InstanceEntry}
 use Rattle.osb_records.specs.Bindings.{BindingEntry}
-use Rattle.osb_records.specs.Stored.{Entry, Content, lives_in}
-use Rattle.osb_records.specs.Steps.{HasTables, ShowsSchema, ShowsBlank, AreBlank, HoldsLives, IsReady, Steps, Makes, stored}
+use Rattle.osb_records.specs.Stored.{Entry, Content, content_in, lives_in}
+use Rattle.osb_records.specs.Standing.{IsStanding}
+use Rattle.osb_records.specs.Steps.{HasTables, ShowsSchema, ShowsBlank, AreBlank, HoldsLives, IsReady, Steps, Writes, Makes, stored, content}
 use Rattle.osb_records.proofs.SortLemmas.{entries_are, instances_are, bindings_are, held_again}
 use Rattle.osb_records.proofs.ChangeLemmas.{Gives}
 
@@ -75,24 +76,28 @@ module _ (text : List ℕ) (params : Row) (old new : State) (result : Result ℕ
       ] over h
 
 -- what a commit may leave, where its transaction took these steps
-pub committed_lives : (old new : State) (next : Content) (db : Trees) → Steps old new next → db ≡ new.now.trees → HoldsLives next.lives db
-committed_lives old new next db steps is = subst (HoldsLives next.lives) (sym is) (record {
+pub committed_lives : (old new : State) (lives : Lives) (db : Trees) → Writes old new lives → db ≡ new.now.trees → HoldsLives lives db
+committed_lives old new lives db steps is = subst (HoldsLives lives) (sym is) (record {
   sound = subst (λ s. IsDatabase (record { schema = s; trees = new.now.trees })) steps.tables.schema steps.sound;
   holds = steps.tables.holds;
   lives_are = steps.lives_are;
+  standing = steps.standing;
 })
 
 pub tables_along : (a b : Database) → b ≡ a → HasTables a → HasTables b
 tables_along a b is tables = subst HasTables (sym is) tables
 
+pub standing_along : (a b : Database) → b ≡ a → IsStanding (content_in a.trees) → IsStanding (content_in b.trees)
+standing_along a b is standing = subst (λ (d : Database). IsStanding (content_in d.trees)) (sym is) standing
+
 abbrev pub IsKept : State → Type 0
-IsKept new = HasTables new.now × IsLives (stored new) × (new.now ≡ new.committed)
+IsKept new = HasTables new.now × IsLives (stored new) × IsStanding (content new) × (new.now ≡ new.committed)
 
 -- the two ways that a commit ends
 pub ready_of : (new : State) (r : Result (Unit {0}) Error) → new.in_transaction ≡ false → (HasCleanDisk new → IsTrue new.is_open → OnOk r (IsKept new)) → (HasCleanDisk new → IsTrue new.is_open → OnErr r (IsKept new)) → IsReady new
-ready_of new (Ok _) ended ok err = record { autocommit = ended; tables = λ clean live. (ok clean live).0; lives = λ clean live. (ok clean live).1; committed = λ clean live. (ok clean live).2 }
-ready_of new (Err _) ended ok err = record { autocommit = ended; tables = λ clean live. (err clean live).0; lives = λ clean live. (err clean live).1; committed = λ clean live. (err clean live).2 }
+ready_of new (Ok _) ended ok err = record { autocommit = ended; tables = λ clean live. (ok clean live).0; lives = λ clean live. (ok clean live).1; standing = λ clean live. (ok clean live).2; committed = λ clean live. (ok clean live).3 }
+ready_of new (Err _) ended ok err = record { autocommit = ended; tables = λ clean live. (err clean live).0; lives = λ clean live. (err clean live).1; standing = λ clean live. (err clean live).2; committed = λ clean live. (err clean live).3 }
 
 -- after a rollback
 pub ready_back : (new : State) → new.in_transaction ≡ false → (HasCleanDisk new → IsTrue new.is_open → IsKept new) → IsReady new
-ready_back new ended undone = record { autocommit = ended; tables = λ clean live. (undone clean live).0; lives = λ clean live. (undone clean live).1; committed = λ clean live. (undone clean live).2 }
+ready_back new ended undone = record { autocommit = ended; tables = λ clean live. (undone clean live).0; lives = λ clean live. (undone clean live).1; standing = λ clean live. (undone clean live).2; committed = λ clean live. (undone clean live).3 }

@@ -1,8 +1,9 @@
 -- What the statements do to the lives.
-use Rattle.std.proofs.Common.{◌≡◌, ◌≢◌, ℕ, pos, List, [], ◌∷◌, true, false, true≢false, Ok, Err, Result, OnOk, IsTrue, ◌<◌, refl, sym, subst}
+use Rattle.std.proofs.Common.{◌≡◌, ◌≢◌, ℕ, pos, List, [], ◌∷◌, map, true, false, true≢false, Ok, Err, Result, OnOk, IsTrue, ◌<◌, refl, sym, ap, subst}
 use Rattle.std.specs.List.{AllByRecursion}
 use Rattle.std.specs.FinMap.{empty, get-empty}
-use Rattle.std.specs.Prelude.{IfSome}
+use Rattle.std.specs.Prelude.{IfSome, unwrap_or}
+use Rattle.std.specs.Option.{option_to_list}
 use Rattle.std.specs.Ordering.{nat_cmp}
 use Rattle.std.specs.Cmp.Lexicographic.{slice_cmp}
 use Rattle.sqlite.specs.declared.types.Value.{Value}
@@ -22,7 +23,10 @@ use Rattle.osb_orders.specs.Allowed.{IsFinishable}
 use Rattle.osb_records.specs.Instances.{InstanceEntry}
 use Rattle.osb_records.specs.Bindings.{BindingEntry}
 use Rattle.osb_records.specs.Stored.{Entry, entry_row, entry_cmp, is_keyed, entries_in, instances_in, bindings_in, lives_in}
-use Rattle.osb_records.specs.Steps.{HasTables, IsReady, stored}
+use Rattle.osb_standing.specs.declared.row.InstanceRow.{InstanceRow}
+use Rattle.osb_standing.specs.Rows.{row_of}
+use Rattle.osb_records.specs.Standing.{IsStanding}
+use Rattle.osb_records.specs.Steps.{HasTables, IsReady, Steps, Writes, no_content, stored, content}
 use Rattle.osb_records.proofs.Texts.{insert_order, finish_order}
 use Rattle.osb_records.proofs.TestLemmas.{entry_ended}
 use Rattle.osb_records.proofs.ChangeLemmas.{Gives, adds_order, ends_order}
@@ -31,13 +35,34 @@ use Rattle.osb_records.proofs.LivesLemmas.{life_of_lives, numbered, append_above
 pub no_lives : IsLives empty
 no_lives id = subst (λ found. IfSome found (IsInstance id)) (sym (get-empty (slice_cmp nat_cmp) id)) tt
 
+-- tables without rows stand for no lives
+no_standing : IsStanding no_content
+no_standing = record { instances = λ id. ap (λ found. map (λ (row : InstanceRow). (id, row)) (option_to_list (row_of (unwrap_or found [])))) (sym (get-empty (slice_cmp nat_cmp) id)) }
+
+pub writes_nothing : (old new : State) → Steps old new no_content → Writes old new empty
+writes_nothing old new steps = record {
+  was_inside = steps.was_inside;
+  inside = steps.inside;
+  was_open = steps.was_open;
+  is_open = steps.is_open;
+  tables = steps.tables;
+  lives_are = steps.lives_are;
+  standing = subst IsStanding (sym is) no_standing;
+  sound = steps.sound;
+  committed = steps.committed;
+}
+  where
+    is : content new ≡ no_content
+    is = rw (steps.lives_are, steps.instances_are, steps.bindings_are) refl
+
 -- the tables that were made are ready
-pub made_ready : (new : State) (r : Result (Unit {0}) Error) → new.in_transaction ≡ false → (HasCleanDisk new → IsTrue new.is_open → OnOk r (HasTables new.now × (stored new ≡ empty) × (new.now ≡ new.committed))) → OnOk r (IsReady new)
+pub made_ready : (new : State) (r : Result (Unit {0}) Error) → new.in_transaction ≡ false → (HasCleanDisk new → IsTrue new.is_open → OnOk r (HasTables new.now × (stored new ≡ empty) × IsStanding (content new) × (new.now ≡ new.committed))) → OnOk r (IsReady new)
 made_ready new (Ok _) ended made = record {
   autocommit = ended;
   tables = λ clean live. (made clean live).0;
   lives = λ clean live. subst IsLives (sym (made clean live).1) no_lives;
-  committed = λ clean live. (made clean live).2;
+  standing = λ clean live. (made clean live).2;
+  committed = λ clean live. (made clean live).3;
 }
 made_ready new (Err _) ended made = tt
 

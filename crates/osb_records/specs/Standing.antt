@@ -1,5 +1,5 @@
 -- The rows that keep the current state are those of the lives.
-use Rattle.std.specs.Prelude.{◌≡◌, ℕ, List, Option, map, filter}
+use Rattle.std.specs.Prelude.{◌≡◌, false, ℕ, List, Option, Some, map, filter, bytes_eq}
 use Rattle.std.specs.Option.{option_to_list}
 use Rattle.std.specs.FinMap.{entries}
 use Rattle.osb_orders.specs.Life.{Life}
@@ -13,6 +13,11 @@ use Rattle.osb_records.specs.Stored.{Content}
 -- the instance has this row, or none
 abbrev pub IsRowOf : List ℕ → Option InstanceRow → List InstanceEntry → Type 0
 IsRowOf id row instances = filter (is_instance id) instances ≡ map (λ (row : InstanceRow). (id, row)) (option_to_list row)
+
+-- the instance has this row now, and the others have what they had
+pub record Puts (id : List ℕ) (row : InstanceRow) (before after : List InstanceEntry) : Type 0 where
+  pub here : IsRowOf id (Some row) after
+  pub others : (other : List ℕ) → bytes_eq id other ≡ false → filter (is_instance other) after ≡ filter (is_instance other) before
 
 -- it is that of this life, and none where the life has no orders
 abbrev pub InstanceStands : List ℕ → Life → List InstanceEntry → Type 0

@@ -9,7 +9,9 @@ use Rattle.sqlite.specs.State.{State, HasCleanDisk}
 use Rattle.osb_orders.specs.Lives.{Lives}
 use Rattle.osb_orders.specs.IsLife.{IsLives}
 use Rattle.osb_records.specs.Tables.{record_schema}
-use Rattle.osb_records.specs.Stored.{HoldsEntries, Content, content_in, lives_stored}
+use Rattle.osb_standing.specs.declared.row.InstanceRow.{InstanceRow}
+use Rattle.osb_records.specs.Stored.{HoldsEntries, Content, content_in, lives_stored, with_instances}
+use Rattle.osb_records.specs.Standing.{Puts, IsStanding}
 
 -- the lives that a connection shows
 abbrev pub stored : State → Lives
@@ -44,22 +46,25 @@ AreBlank places db = AllByRecursion (λ tree. db tree ≡ []) places
 abbrev pub ShowsBlank : List ℕ → State → Type 0
 ShowsBlank places s = HasCleanDisk s → IsTrue s.is_open → AreBlank places s.now.trees
 
--- the trees are a database of the tables, and these lives stand there
+-- the trees are a database of the tables, and these lives stand there, with the rows that they have
 pub record HoldsLives (lives : Lives) (db : Trees) : Type 0 where
   pub sound : IsDatabase (record { schema = record_schema; trees = db })
   pub holds : HoldsEntries db
   pub lives_are : lives_stored db ≡ lives
+  pub standing : IsStanding (content_in db)
 
 -- No transaction is open, and everything is committed.
 pub record IsSettled (s : State) : Type 0 where
   pub autocommit : s.in_transaction ≡ false
   pub committed : HasCleanDisk s → IsTrue s.is_open → s.now ≡ s.committed
 
--- No transaction is open, the tables are there with well-formed lives, and everything is committed.
+-- No transaction is open, the tables are there with well-formed lives and the rows that these have, and everything is
+-- committed.
 pub record IsReady (s : State) : Type 0 where
   pub autocommit : s.in_transaction ≡ false
   pub tables : ShowsTables s
   pub lives : HasCleanDisk s → IsTrue s.is_open → IsLives (stored s)
+  pub standing : HasCleanDisk s → IsTrue s.is_open → IsStanding (content s)
   pub committed : HasCleanDisk s → IsTrue s.is_open → s.now ≡ s.committed
 
 -- Inside a transaction the content has become this one. Nothing is committed.
@@ -74,6 +79,23 @@ pub record Steps (old new : State) (next : Content) : Type 0 where
   pub bindings_are : (content new).bindings ≡ next.bindings
   pub sound : IsDatabase new.now
   pub committed : new.committed ≡ old.committed
+
+-- Inside a transaction the lives have become these, with the rows that they have. Nothing is committed.
+pub record Writes (old new : State) (lives : Lives) : Type 0 where
+  pub was_inside : IsTrue old.in_transaction
+  pub inside : IsTrue new.in_transaction
+  pub was_open : IsTrue old.is_open
+  pub is_open : IsTrue new.is_open
+  pub tables : HasTables new.now
+  pub lives_are : stored new ≡ lives
+  pub standing : IsStanding (content new)
+  pub sound : IsDatabase new.now
+  pub committed : new.committed ≡ old.committed
+
+-- Inside a transaction the instance got this row. Nothing is committed.
+pub record PutsInstance (old new : State) (id : List ℕ) (row : InstanceRow) : Type 0 where
+  pub steps : Steps old new (with_instances (content new).instances (content old))
+  pub puts : Puts id row (content old).instances (content new).instances
 
 -- Inside a transaction the schema has become this one, and these trees have no rows. Nothing is committed.
 pub record Makes (old new : State) (schema : Schema) (places : List ℕ) : Type 0 where

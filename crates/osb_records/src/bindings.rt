@@ -1,21 +1,25 @@
 //! The rows that say how bindings stand, inside a transaction.
 
-ghost use Rattle.std.specs.Prelude.{◌≡◌, ◌==◌, [], filter, not, length, false, IsTrue, IfOk, OnOk, Err};
+ghost use Rattle.std.specs.Prelude.{◌≡◌, ◌==◌, [], filter, not, length, true, false, is_some, IsTrue, IfOk, OnOk, Err};
 ghost use Rattle.std.specs.List.{list_any};
 ghost use Rattle.sqlite.specs.Held.{state};
 ghost use Rattle.sqlite.specs.State.{HasCleanDisk, ExecutesInside, IsUnchanged, KeepsCommit, Survives};
 ghost use Rattle.sqlite.specs.declared.error.Error.TheVariants as fault;
 ghost use Rattle.sqlite.specs.declared.error.ErrorCode.TheVariants as code;
+ghost use Rattle.sqlite.specs.Effect.{IsDatabase};
 ghost use Rattle.sqlite_keyed.specs.Lists.{insert_sorted, update_where, delete_where};
+ghost use Rattle.osb_orders.specs.declared.view.BindingNow.{BindingNow};
+ghost use Rattle.osb_standing.specs.declared.row.BindingEdit.TheVariants.{Put};
 ghost use Rattle.osb_records.specs.Bindings as spec;
 ghost use Rattle.osb_records.specs.Bindings.{binding_cmp, binding_entry, binding_row, is_binding, is_bound};
-ghost use Rattle.osb_records.specs.BindingRows.{IsBindingOf, first_binding, with_binding};
+ghost use Rattle.osb_records.specs.BindingRows.{binding_found, first_binding, with_binding, bindings_edited, FollowsOrder};
 ghost use Rattle.osb_records.specs.Stored.{with_bindings};
 ghost use Rattle.osb_records.specs.Steps.{ShowsTables, Steps, content};
 
 use crate::fault::StoreFault;
 use crate::row::binding_in;
-use osb_orders::{BindingNow, BindingPhase};
+use osb_orders::{BindingNow, BindingPhase, Order};
+use osb_standing::{BindingEdit, binding_edit};
 use sqlite::{Alter, Error, Row, Transaction, params};
 use std::alloc::Global;
 
@@ -119,7 +123,7 @@ pub(crate) fn delete_bindings<S: Alter>(tx: &mut Transaction<'_, S>, instance: &
 fn select_binding<S: Alter>(tx: &mut Transaction<'_, S>, instance: &str, binding: &str) -> Result<Vec<Row>, Error>
     requires { ShowsTables (state S.Store tx.old.conn.now) }
     ensures same_reference { tx.new.conn.ghost_name ≡ tx.old.conn.ghost_name }
-    ensures ok { HasCleanDisk (state S.Store tx.new.conn.now) → IfOk result (λ rows. IsBindingOf instance.now binding.now (first_binding rows.items) (content (state S.Store tx.old.conn.now)).bindings) }
+    ensures ok { HasCleanDisk (state S.Store tx.new.conn.now) → IfOk result (λ rows. first_binding rows.items ≡ binding_found instance.now binding.now (content (state S.Store tx.old.conn.now)).bindings) }
     ensures same { HasCleanDisk (state S.Store tx.new.conn.now) → OnOk result (IsUnchanged (state S.Store tx.old.conn.now) (state S.Store tx.new.conn.now)) }
     ensures kept { HasCleanDisk (state S.Store tx.new.conn.now) → IsTrue (state S.Store tx.old.conn.now).in_transaction → KeepsCommit (state S.Store tx.old.conn.now) (state S.Store tx.new.conn.now) }
     ensures survives { Survives (state S.Store tx.old.conn.now) (state S.Store tx.new.conn.now) (λ _. ⊥) }
@@ -157,7 +161,7 @@ fn first_in(alloc: Global, rows: &[Row]) -> Result<Option<BindingNow>, StoreFaul
 pub(crate) fn read_binding<S: Alter>(tx: &mut Transaction<'_, S>, alloc: Global, instance: &str, binding: &str) -> Result<Option<BindingNow>, StoreFault>
     requires { ShowsTables (state S.Store tx.old.conn.now) }
     ensures same_reference { tx.new.conn.ghost_name ≡ tx.old.conn.ghost_name }
-    ensures ok { HasCleanDisk (state S.Store tx.new.conn.now) → IfOk result (λ row. IsBindingOf instance.now binding.now row (content (state S.Store tx.old.conn.now)).bindings) }
+    ensures ok { HasCleanDisk (state S.Store tx.new.conn.now) → IfOk result (λ row. row ≡ binding_found instance.now binding.now (content (state S.Store tx.old.conn.now)).bindings) }
     ensures same { HasCleanDisk (state S.Store tx.new.conn.now) → OnOk result (IsUnchanged (state S.Store tx.old.conn.now) (state S.Store tx.new.conn.now)) }
     ensures kept { HasCleanDisk (state S.Store tx.new.conn.now) → IsTrue (state S.Store tx.old.conn.now).in_transaction → KeepsCommit (state S.Store tx.old.conn.now) (state S.Store tx.new.conn.now) }
     ensures survives { Survives (state S.Store tx.old.conn.now) (state S.Store tx.new.conn.now) (λ _. ⊥) }
@@ -177,4 +181,69 @@ pub(crate) fn is_bound<S: Alter>(tx: &mut Transaction<'_, S>, instance: &str) ->
 {
     let rows = select_bound(tx, instance)?;
     Ok(!rows.is_empty())
+}
+
+/// Makes the statement that the edit asks for, if any. `had` says whether the binding has a row.
+fn apply_edit<S: Alter>(
+    tx: &mut Transaction<'_, S>,
+    instance: &str,
+    binding: &str,
+    had: bool,
+    edit: &BindingEdit,
+) -> Result<usize, Error>
+    requires tables { ShowsTables (state S.Store tx.old.conn.now) }
+    requires had { HasCleanDisk (state S.Store tx.old.conn.now) → IsTrue (state S.Store tx.old.conn.now).is_open → (row : BindingNow) → edit.now ≡ Put row → had ≡ is_some (binding_found instance.now binding.now (content (state S.Store tx.old.conn.now)).bindings) }
+    ensures same_reference { tx.new.conn.ghost_name ≡ tx.old.conn.ghost_name }
+    ensures ok { HasCleanDisk (state S.Store tx.new.conn.now) → IsTrue (state S.Store tx.old.conn.now).is_open → IsTrue (state S.Store tx.old.conn.now).in_transaction → IsDatabase (state S.Store tx.old.conn.now).now → OnOk result (Steps (state S.Store tx.old.conn.now) (state S.Store tx.new.conn.now) (with_bindings (bindings_edited edit.now instance.now binding.now (content (state S.Store tx.old.conn.now)).bindings) (content (state S.Store tx.old.conn.now)))) }
+    ensures kept { HasCleanDisk (state S.Store tx.new.conn.now) → IsTrue (state S.Store tx.old.conn.now).in_transaction → KeepsCommit (state S.Store tx.old.conn.now) (state S.Store tx.new.conn.now) }
+    ensures survives { Survives (state S.Store tx.old.conn.now) (state S.Store tx.new.conn.now) (λ _. ⊥) }
+{
+    match edit {
+        BindingEdit::Keep => Ok(0),
+        BindingEdit::Put(row) if had => update_binding(tx, instance, binding, row),
+        BindingEdit::Put(row) => insert_binding(tx, instance, binding, row),
+        BindingEdit::Remove => delete_binding(tx, instance, binding),
+        BindingEdit::Clear => delete_bindings(tx, instance),
+    }
+}
+
+/// Lets the row of the binding that the order is about follow it.
+fn write_binding<S: Alter>(
+    tx: &mut Transaction<'_, S>,
+    alloc: Global,
+    instance: &str,
+    order: &Order,
+) -> Result<(), StoreFault>
+    requires { ShowsTables (state S.Store tx.old.conn.now) }
+    ensures same_reference { tx.new.conn.ghost_name ≡ tx.old.conn.ghost_name }
+    ensures ok { HasCleanDisk (state S.Store tx.new.conn.now) → IsTrue (state S.Store tx.old.conn.now).is_open → IsTrue (state S.Store tx.old.conn.now).in_transaction → IsDatabase (state S.Store tx.old.conn.now).now → OnOk result (FollowsOrder (state S.Store tx.old.conn.now) (state S.Store tx.new.conn.now) instance.now order.now) }
+    ensures kept { HasCleanDisk (state S.Store tx.new.conn.now) → IsTrue (state S.Store tx.old.conn.now).in_transaction → KeepsCommit (state S.Store tx.old.conn.now) (state S.Store tx.new.conn.now) }
+    ensures survives { Survives (state S.Store tx.old.conn.now) (state S.Store tx.new.conn.now) (λ _. ⊥) }
+{
+    let binding = order.binding.as_str();
+    let old = read_binding(tx, alloc, instance, binding)?;
+    let edit = binding_edit(alloc, order, old.as_ref())?;
+    apply_edit(tx, instance, binding, old.is_some(), &edit)?;
+    Ok(())
+}
+
+/// Lets the rows of the instance's bindings follow the written order, by one statement at most.
+pub(crate) fn write_bindings<S: Alter>(
+    tx: &mut Transaction<'_, S>,
+    alloc: Global,
+    instance: &str,
+    order: &Order,
+) -> Result<(), StoreFault>
+    requires { ShowsTables (state S.Store tx.old.conn.now) }
+    ensures same_reference { tx.new.conn.ghost_name ≡ tx.old.conn.ghost_name }
+    ensures ok { HasCleanDisk (state S.Store tx.new.conn.now) → IsTrue (state S.Store tx.old.conn.now).is_open → IsTrue (state S.Store tx.old.conn.now).in_transaction → IsDatabase (state S.Store tx.old.conn.now).now → OnOk result (FollowsOrder (state S.Store tx.old.conn.now) (state S.Store tx.new.conn.now) instance.now order.now) }
+    ensures kept { HasCleanDisk (state S.Store tx.new.conn.now) → IsTrue (state S.Store tx.old.conn.now).in_transaction → KeepsCommit (state S.Store tx.old.conn.now) (state S.Store tx.new.conn.now) }
+    ensures survives { Survives (state S.Store tx.old.conn.now) (state S.Store tx.new.conn.now) (λ _. ⊥) }
+{
+    if order.kind.is_about_binding() {
+        return write_binding(tx, alloc, instance, order);
+    }
+    let edit = binding_edit(alloc, order, None)?;
+    apply_edit(tx, instance, order.binding.as_str(), false, &edit)?;
+    Ok(())
 }

@@ -10,17 +10,20 @@ ghost use Rattle.osb_orders.specs.IsLife.{IsLives};
 ghost use Rattle.osb_orders.specs.Allowed.{IsFinishable};
 ghost use Rattle.osb_records.specs.Steps.{HoldsLives, IsReady, LeavesOnly, stored};
 
-use crate::statements::{finish_order, insert_order};
+use crate::fault::StoreFault;
+use crate::writing::{append_order, end_order};
 use osb_orders::{Order, Outcome};
-use sqlite::{Alter, Connection, Error};
+use sqlite::{Alter, Connection};
+use std::alloc::Global;
 
 /// One order more for the instance.
 #[tactic(auto, using(crate::proofs::StepLemmas::committed_lives))]
 pub(crate) fn append<S: Alter>(
     conn: &mut Connection<S>,
+    alloc: Global,
     instance: &str,
     order: &Order,
-) -> Result<(), Error>
+) -> Result<(), StoreFault>
     requires ready { IsReady (state S.Store conn.old) }
     requires whole { HasCleanDisk (state S.Store conn.old) → IsTrue (state S.Store conn.old).is_open → IsLives (lives_changed (Append order.now) instance.now (stored (state S.Store conn.old))) }
     ensures ready { IsReady (state S.Store conn.new) }
@@ -30,18 +33,19 @@ pub(crate) fn append<S: Alter>(
     ensures durable { HasCleanDisk (state S.Store conn.new) → IsTrue (state S.Store conn.new).is_open → OnOk result (LeavesOnly (state S.Store conn.new) (stored (state S.Store conn.new))) }
 {
     let mut tx = conn.transaction();
-    insert_order(&mut tx, instance, order)?;
-    tx.commit()
+    append_order(&mut tx, alloc, instance, order)?;
+    Ok(tx.commit()?)
 }
 
 /// The end of the running last order of the instance.
 #[tactic(auto, using(crate::proofs::StepLemmas::committed_lives))]
 pub(crate) fn finish<S: Alter>(
     conn: &mut Connection<S>,
+    alloc: Global,
     instance: &str,
     number: u32,
     outcome: &Outcome,
-) -> Result<(), Error>
+) -> Result<(), StoreFault>
     requires ready { IsReady (state S.Store conn.old) }
     requires whole { HasCleanDisk (state S.Store conn.old) → IsTrue (state S.Store conn.old).is_open → IsLives (lives_changed (Finish number outcome.now) instance.now (stored (state S.Store conn.old))) }
     requires last { HasCleanDisk (state S.Store conn.old) → IsTrue (state S.Store conn.old).is_open → IsFinishable (life_of (stored (state S.Store conn.old)) instance.now) number outcome.now }
@@ -52,6 +56,6 @@ pub(crate) fn finish<S: Alter>(
     ensures durable { HasCleanDisk (state S.Store conn.new) → IsTrue (state S.Store conn.new).is_open → OnOk result (LeavesOnly (state S.Store conn.new) (stored (state S.Store conn.new))) }
 {
     let mut tx = conn.transaction();
-    finish_order(&mut tx, instance, number, outcome)?;
-    tx.commit()
+    end_order(&mut tx, alloc, instance, number, outcome)?;
+    Ok(tx.commit()?)
 }

@@ -1,21 +1,29 @@
 //! The row that says how an instance stands, inside a transaction.
 
-ghost use Rattle.std.specs.Prelude.{◌≡◌, [], filter, false, IsTrue, IfOk, OnOk, Err};
+ghost use Rattle.std.specs.Prelude.{◌≡◌, [], filter, true, false, IsTrue, IfOk, OnOk, Err, Some, option_copied};
 ghost use Rattle.sqlite.specs.Held.{state};
 ghost use Rattle.sqlite.specs.State.{HasCleanDisk, ExecutesInside, IsUnchanged, KeepsCommit, Survives};
 ghost use Rattle.sqlite.specs.declared.error.Error.TheVariants as fault;
 ghost use Rattle.sqlite.specs.declared.error.ErrorCode.TheVariants as code;
 ghost use Rattle.sqlite_keyed.specs.Lists.{insert_sorted, update_where};
+ghost use Rattle.osb_orders.specs.declared.order.Change.{Change};
+ghost use Rattle.osb_orders.specs.Lives.{life_of};
+ghost use Rattle.osb_orders.specs.Changed.{changed, lives_changed};
+ghost use Rattle.osb_standing.specs.Rows as rows;
+ghost use Rattle.osb_standing.specs.Instance.{is_failed_deletion};
+ghost use Rattle.osb_standing.specs.Written.{IsWritten};
 ghost use Rattle.osb_records.specs.Instances as spec;
 ghost use Rattle.osb_records.specs.Instances.{is_instance, instance_cmp, instance_row, with_row};
 ghost use Rattle.osb_records.specs.Stored.{with_instances};
-ghost use Rattle.osb_records.specs.Standing.{IsRowOf};
-ghost use Rattle.osb_records.specs.Steps.{ShowsTables, Steps, content};
+ghost use Rattle.osb_records.specs.Standing.{IsRowOf, InstancesStand};
+ghost use Rattle.osb_records.specs.Queries.{ShowsRecords};
+ghost use Rattle.osb_records.specs.Steps.{ShowsTables, Steps, PutsInstance, content, stored};
 
 use crate::fault::StoreFault;
+use crate::queries::birth_failed;
 use crate::row::first_instance_in;
-use osb_orders::{InstancePhase, Standing};
-use osb_standing::InstanceRow;
+use osb_orders::{InstancePhase, Order, Standing};
+use osb_standing::{InstanceRow, instance_row_after, is_failed_deletion};
 use sqlite::{Alter, Error, Row, Transaction, params};
 
 fn phase_number(phase: InstancePhase) -> u32
@@ -178,4 +186,83 @@ pub(crate) fn read_instance<S: Alter>(
 {
     let rows = select_instance(tx, instance)?;
     first_instance_in(&rows)
+}
+
+/// Gives the instance the row, in place of the old one if it has one.
+fn put_instance<S: Alter>(
+    tx: &mut Transaction<'_, S>,
+    instance: &str,
+    old: Option<&InstanceRow>,
+    row: &InstanceRow,
+) -> Result<usize, Error>
+    requires tables { ShowsTables (state S.Store tx.old.conn.now) }
+    requires there { HasCleanDisk (state S.Store tx.old.conn.now) → IsTrue (state S.Store tx.old.conn.now).is_open → IsRowOf instance.now (option_copied old) (content (state S.Store tx.old.conn.now)).instances }
+    ensures same_reference { tx.new.conn.ghost_name ≡ tx.old.conn.ghost_name }
+    ensures ok { HasCleanDisk (state S.Store tx.new.conn.now) → OnOk result (PutsInstance (state S.Store tx.old.conn.now) (state S.Store tx.new.conn.now) instance.now row.now) }
+    ensures kept { HasCleanDisk (state S.Store tx.new.conn.now) → IsTrue (state S.Store tx.old.conn.now).in_transaction → KeepsCommit (state S.Store tx.old.conn.now) (state S.Store tx.new.conn.now) }
+    ensures survives { Survives (state S.Store tx.old.conn.now) (state S.Store tx.new.conn.now) (λ _. ⊥) }
+{
+    match old {
+        None => insert_instance(tx, instance, row),
+        Some(_) => update_instance(tx, instance, row),
+    }
+}
+
+/// Whether the birth of the instance failed. It is looked up only where the order makes it matter.
+fn birth_failed_for<S: Alter>(
+    tx: &mut Transaction<'_, S>,
+    instance: &str,
+    order: &Order,
+) -> Result<bool, StoreFault>
+    requires { ShowsRecords (state S.Store tx.old.conn.now) }
+    ensures same_reference { tx.new.conn.ghost_name ≡ tx.old.conn.ghost_name }
+    ensures ok { HasCleanDisk (state S.Store tx.new.conn.now) → IfOk result (λ failed. is_failed_deletion order.now ≡ true → failed ≡ rows.birth_failed (life_of (stored (state S.Store tx.old.conn.now)) instance.now)) }
+    ensures same { HasCleanDisk (state S.Store tx.new.conn.now) → IsTrue (state S.Store tx.old.conn.now).is_open → OnOk result (IsUnchanged (state S.Store tx.old.conn.now) (state S.Store tx.new.conn.now)) }
+    ensures kept { HasCleanDisk (state S.Store tx.new.conn.now) → IsTrue (state S.Store tx.old.conn.now).in_transaction → KeepsCommit (state S.Store tx.old.conn.now) (state S.Store tx.new.conn.now) }
+    ensures survives { Survives (state S.Store tx.old.conn.now) (state S.Store tx.new.conn.now) (λ _. ⊥) }
+{
+    if is_failed_deletion(order) {
+        birth_failed(tx, instance)
+    } else {
+        Ok(false)
+    }
+}
+
+/// The row of the instance once the order is written, from the row before.
+fn next_row<S: Alter>(
+    tx: &mut Transaction<'_, S>,
+    instance: &str,
+    order: &Order,
+    old: Option<&InstanceRow>,
+) -> Result<InstanceRow, StoreFault>
+    requires { ShowsRecords (state S.Store tx.old.conn.now) }
+    ensures same_reference { tx.new.conn.ghost_name ≡ tx.old.conn.ghost_name }
+    ensures ok { HasCleanDisk (state S.Store tx.new.conn.now) → (change : Change) → IsWritten (life_of (stored (state S.Store tx.old.conn.now)) instance.now) change order.now → option_copied old.entry ≡ rows.row_of (life_of (stored (state S.Store tx.old.conn.now)) instance.now) →
+        IfOk result (λ row. rows.row_of (changed change (life_of (stored (state S.Store tx.old.conn.now)) instance.now)) ≡ Some row) }
+    ensures same { HasCleanDisk (state S.Store tx.new.conn.now) → IsTrue (state S.Store tx.old.conn.now).is_open → OnOk result (IsUnchanged (state S.Store tx.old.conn.now) (state S.Store tx.new.conn.now)) }
+    ensures kept { HasCleanDisk (state S.Store tx.new.conn.now) → IsTrue (state S.Store tx.old.conn.now).in_transaction → KeepsCommit (state S.Store tx.old.conn.now) (state S.Store tx.new.conn.now) }
+    ensures survives { Survives (state S.Store tx.old.conn.now) (state S.Store tx.new.conn.now) (λ _. ⊥) }
+{
+    let failed = birth_failed_for(tx, instance, order)?;
+    Ok(instance_row_after(failed, order, old)?)
+}
+
+/// Writes the row that the instance has once the order is written.
+pub(crate) fn write_instance<S: Alter>(
+    tx: &mut Transaction<'_, S>,
+    instance: &str,
+    order: &Order,
+) -> Result<(), StoreFault>
+    requires { ShowsRecords (state S.Store tx.old.conn.now) }
+    ensures same_reference { tx.new.conn.ghost_name ≡ tx.old.conn.ghost_name }
+    ensures ok { HasCleanDisk (state S.Store tx.new.conn.now) → OnOk result (Steps (state S.Store tx.old.conn.now) (state S.Store tx.new.conn.now) (with_instances (content (state S.Store tx.new.conn.now)).instances (content (state S.Store tx.old.conn.now)))) }
+    ensures stands { HasCleanDisk (state S.Store tx.new.conn.now) → (change : Change) → IsWritten (life_of (stored (state S.Store tx.old.conn.now)) instance.now) change order.now → InstancesStand (stored (state S.Store tx.old.conn.now)) (content (state S.Store tx.old.conn.now)).instances →
+        OnOk result (InstancesStand (lives_changed change instance.now (stored (state S.Store tx.old.conn.now))) (content (state S.Store tx.new.conn.now)).instances) }
+    ensures kept { HasCleanDisk (state S.Store tx.new.conn.now) → IsTrue (state S.Store tx.old.conn.now).in_transaction → KeepsCommit (state S.Store tx.old.conn.now) (state S.Store tx.new.conn.now) }
+    ensures survives { Survives (state S.Store tx.old.conn.now) (state S.Store tx.new.conn.now) (λ _. ⊥) }
+{
+    let old = read_instance(tx, instance)?;
+    let row = next_row(tx, instance, order, old.as_ref())?;
+    put_instance(tx, instance, old.as_ref(), &row)?;
+    Ok(())
 }

@@ -13,6 +13,8 @@ mod records;
 mod row;
 mod statements;
 mod tables;
+mod view;
+mod writing;
 
 pub use fault::StoreFault;
 pub use records::{Records, open_memory};

@@ -20,7 +20,11 @@ use osb_orders::{Order, OrderState};
 use sqlite::{Alter, Error, Row, Transaction, params};
 use std::alloc::Global;
 
-fn select_order<S: Alter>(tx: &mut Transaction<'_, S>, instance: &str, number: u32) -> Result<Vec<Row>, Error>
+fn select_order<S: Alter>(
+    tx: &mut Transaction<'_, S>,
+    instance: &str,
+    number: u32,
+) -> Result<Vec<Row>, Error>
     requires { ShowsTables (state S.Store tx.old.conn.now) }
     ensures same_reference { tx.new.conn.ghost_name ≡ tx.old.conn.ghost_name }
     ensures ok { HasCleanDisk (state S.Store tx.new.conn.now) → IfOk result (λ rows. first_order rows.items ≡ spec.order_numbered number (life_of (stored (state S.Store tx.old.conn.now)) instance.now)) }
@@ -48,7 +52,10 @@ fn select_creation<S: Alter>(tx: &mut Transaction<'_, S>, instance: &str) -> Res
     )
 }
 
-fn select_of_instance<S: Alter>(tx: &mut Transaction<'_, S>, instance: &str) -> Result<Vec<Row>, Error>
+fn select_of_instance<S: Alter>(
+    tx: &mut Transaction<'_, S>,
+    instance: &str,
+) -> Result<Vec<Row>, Error>
     requires { ShowsTables (state S.Store tx.old.conn.now) }
     ensures same_reference { tx.new.conn.ghost_name ≡ tx.old.conn.ghost_name }
     ensures ok { HasCleanDisk (state S.Store tx.new.conn.now) → IfOk result (λ rows. first_order rows.items ≡ last_of (filter is_of_instance (life_of (stored (state S.Store tx.old.conn.now)) instance.now))) }
@@ -62,7 +69,11 @@ fn select_of_instance<S: Alter>(tx: &mut Transaction<'_, S>, instance: &str) -> 
     )
 }
 
-fn select_of_binding<S: Alter>(tx: &mut Transaction<'_, S>, instance: &str, binding: &str) -> Result<Vec<Row>, Error>
+fn select_of_binding<S: Alter>(
+    tx: &mut Transaction<'_, S>,
+    instance: &str,
+    binding: &str,
+) -> Result<Vec<Row>, Error>
     requires { ShowsTables (state S.Store tx.old.conn.now) }
     ensures same_reference { tx.new.conn.ghost_name ≡ tx.old.conn.ghost_name }
     ensures ok { HasCleanDisk (state S.Store tx.new.conn.now) → IfOk result (λ rows. first_order rows.items ≡ last_of (filter (is_of_binding binding.now) (life_of (stored (state S.Store tx.old.conn.now)) instance.now))) }
@@ -78,7 +89,11 @@ fn select_of_binding<S: Alter>(tx: &mut Transaction<'_, S>, instance: &str, bind
 
 /// The order of that number in the life of the instance.
 #[tactic(auto, using(crate::proofs::NamedLemmas::shows_again))]
-pub(crate) fn order_numbered<S: Alter>(tx: &mut Transaction<'_, S>, instance: &str, number: u32) -> Result<Option<Order>, StoreFault>
+pub(crate) fn order_numbered<S: Alter>(
+    tx: &mut Transaction<'_, S>,
+    instance: &str,
+    number: u32,
+) -> Result<Option<Order>, StoreFault>
     requires { ShowsRecords (state S.Store tx.old.conn.now) }
     ensures same_reference { tx.new.conn.ghost_name ≡ tx.old.conn.ghost_name }
     ensures ok { HasCleanDisk (state S.Store tx.new.conn.now) → IfOk result (λ order. order ≡ spec.order_numbered number (life_of (stored (state S.Store tx.old.conn.now)) instance.now)) }
@@ -93,7 +108,10 @@ pub(crate) fn order_numbered<S: Alter>(tx: &mut Transaction<'_, S>, instance: &s
 
 /// The last creation of the instance.
 #[tactic(auto, using(crate::proofs::NamedLemmas::shows_again))]
-pub(crate) fn last_creation<S: Alter>(tx: &mut Transaction<'_, S>, instance: &str) -> Result<Option<Order>, StoreFault>
+pub(crate) fn last_creation<S: Alter>(
+    tx: &mut Transaction<'_, S>,
+    instance: &str,
+) -> Result<Option<Order>, StoreFault>
     requires { ShowsRecords (state S.Store tx.old.conn.now) }
     ensures same_reference { tx.new.conn.ghost_name ≡ tx.old.conn.ghost_name }
     ensures ok { HasCleanDisk (state S.Store tx.new.conn.now) → IfOk result (λ order. order ≡ last_of (filter (is_a Create) (life_of (stored (state S.Store tx.old.conn.now)) instance.now))) }
@@ -108,7 +126,10 @@ pub(crate) fn last_creation<S: Alter>(tx: &mut Transaction<'_, S>, instance: &st
 
 /// The last creation, update or deletion of the instance.
 #[tactic(auto, using(crate::proofs::NamedLemmas::shows_again))]
-pub(crate) fn last_of_instance<S: Alter>(tx: &mut Transaction<'_, S>, instance: &str) -> Result<Option<Order>, StoreFault>
+pub(crate) fn last_of_instance<S: Alter>(
+    tx: &mut Transaction<'_, S>,
+    instance: &str,
+) -> Result<Option<Order>, StoreFault>
     requires { ShowsRecords (state S.Store tx.old.conn.now) }
     ensures same_reference { tx.new.conn.ghost_name ≡ tx.old.conn.ghost_name }
     ensures ok { HasCleanDisk (state S.Store tx.new.conn.now) → IfOk result (λ order. order ≡ last_of (filter is_of_instance (life_of (stored (state S.Store tx.old.conn.now)) instance.now))) }
@@ -123,7 +144,11 @@ pub(crate) fn last_of_instance<S: Alter>(tx: &mut Transaction<'_, S>, instance: 
 
 /// The last order about the binding.
 #[tactic(auto, using(crate::proofs::NamedLemmas::shows_again))]
-pub(crate) fn last_of_binding<S: Alter>(tx: &mut Transaction<'_, S>, instance: &str, binding: &str) -> Result<Option<Order>, StoreFault>
+pub(crate) fn last_of_binding<S: Alter>(
+    tx: &mut Transaction<'_, S>,
+    instance: &str,
+    binding: &str,
+) -> Result<Option<Order>, StoreFault>
     requires { ShowsRecords (state S.Store tx.old.conn.now) }
     ensures same_reference { tx.new.conn.ghost_name ≡ tx.old.conn.ghost_name }
     ensures ok { HasCleanDisk (state S.Store tx.new.conn.now) → IfOk result (λ order. order ≡ last_of (filter (is_of_binding binding.now) (life_of (stored (state S.Store tx.old.conn.now)) instance.now))) }
@@ -138,7 +163,10 @@ pub(crate) fn last_of_binding<S: Alter>(tx: &mut Transaction<'_, S>, instance: &
 
 /// Whether the last creation of the instance failed.
 #[tactic(auto, using(crate::proofs::NamedLemmas::shows_again))]
-pub(crate) fn birth_failed<S: Alter>(tx: &mut Transaction<'_, S>, instance: &str) -> Result<bool, StoreFault>
+pub(crate) fn birth_failed<S: Alter>(
+    tx: &mut Transaction<'_, S>,
+    instance: &str,
+) -> Result<bool, StoreFault>
     requires { ShowsRecords (state S.Store tx.old.conn.now) }
     ensures same_reference { tx.new.conn.ghost_name ≡ tx.old.conn.ghost_name }
     ensures ok { HasCleanDisk (state S.Store tx.new.conn.now) → IfOk result (λ failed. failed ≡ rows.birth_failed (life_of (stored (state S.Store tx.old.conn.now)) instance.now)) }
@@ -169,7 +197,12 @@ fn only_named(alloc: Global, found: Option<Order>, name: &str) -> Result<Option<
 
 /// The order of that name in the life of the instance, whatever it is about.
 #[tactic(auto, using(crate::proofs::NamedLemmas::shows_again))]
-pub(crate) fn order_named<S: Alter>(tx: &mut Transaction<'_, S>, alloc: Global, instance: &str, name: &str) -> Result<Option<Order>, StoreFault>
+pub(crate) fn order_named<S: Alter>(
+    tx: &mut Transaction<'_, S>,
+    alloc: Global,
+    instance: &str,
+    name: &str,
+) -> Result<Option<Order>, StoreFault>
     requires { ShowsRecords (state S.Store tx.old.conn.now) }
     ensures same_reference { tx.new.conn.ghost_name ≡ tx.old.conn.ghost_name }
     ensures ok { HasCleanDisk (state S.Store tx.new.conn.now) → IfOk result (λ order. (passes : Order → Bool) → spec.order_named name.now (filter passes (life_of (stored (state S.Store tx.old.conn.now)) instance.now)) ≡ only passes order) }

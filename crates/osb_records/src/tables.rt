@@ -5,7 +5,7 @@ ghost use Rattle.std.specs.FinMap.{empty};
 ghost use Rattle.sqlite.specs.Held.{state};
 ghost use Rattle.sqlite.specs.State.{HasCleanDisk, KeepsCommit, Survives};
 ghost use Rattle.osb_records.specs.Tables.{no_schema, format_schema, orders_schema, instances_schema, record_schema};
-ghost use Rattle.osb_records.specs.Steps.{ShowsSchema, ShowsBlank, HoldsLives, IsSettled, IsReady, Steps, Makes, LeavesOnly, stored, no_content};
+ghost use Rattle.osb_records.specs.Steps.{ShowsSchema, ShowsBlank, HoldsLives, IsSettled, IsReady, Writes, Makes, LeavesOnly, stored};
 
 use sqlite::{Alter, Connection, Error, Transaction};
 
@@ -95,7 +95,7 @@ fn insert_version<S: Alter>(tx: &mut Transaction<'_, S>) -> Result<usize, Error>
     requires schema { ShowsSchema record_schema (state S.Store tx.old.conn.now) }
     requires blank { ShowsBlank (5 ∷ 3 ∷ 1 ∷ 0 ∷ []) (state S.Store tx.old.conn.now) }
     ensures same_reference { tx.new.conn.ghost_name ≡ tx.old.conn.ghost_name }
-    ensures ok { HasCleanDisk (state S.Store tx.new.conn.now) → OnOk result (Steps (state S.Store tx.old.conn.now) (state S.Store tx.new.conn.now) no_content) }
+    ensures ok { HasCleanDisk (state S.Store tx.new.conn.now) → OnOk result (Writes (state S.Store tx.old.conn.now) (state S.Store tx.new.conn.now) empty) }
     ensures kept { HasCleanDisk (state S.Store tx.new.conn.now) → IsTrue (state S.Store tx.old.conn.now).in_transaction → KeepsCommit (state S.Store tx.old.conn.now) (state S.Store tx.new.conn.now) }
     ensures survives { Survives (state S.Store tx.old.conn.now) (state S.Store tx.new.conn.now) (λ _. ⊥) }
 {

@@ -4,11 +4,14 @@ use Rattle.sqlite.specs.Held.{state}
 use Rattle.osb_records.proofs.Texts.{insert_version}
 use Rattle.osb_records.proofs.CreateLemmas.{adds_version}
 use Rattle.osb_records.proofs.StepLemmas.{steps_by}
+use Rattle.osb_records.proofs.WriteLemmas.{writes_nothing}
+use Rattle.osb_records.proofs.ResultLemmas.{then_ok}
 use Rattle.osb_records.proofs.tables.insert_version.Goals as goal
 
 pub returns-clause-ok : goal.returns-clause-ok
 returns-clause-ok g c clean =
     let old = state g.S.Store c.args.tx.now.conn.now in
     let new = state g.S.Store c.execute.new.self.conn.now in
-    steps_by insert_version [] old new c.execute.result _ (λ over. (c.execute.ensures.ended over).0) c.execute.ensures.survives clean
-    empty [] [] [] c.requires.schema (λ count before live has h. (adds_version old new count has (c.requires.blank before live) h, refl)) (c.execute.ensures.runs clean)
+    then_ok c.execute.result (writes_nothing old new)
+    (steps_by insert_version [] old new c.execute.result _ (λ over. (c.execute.ensures.ended over).0) c.execute.ensures.survives clean
+    empty [] [] [] c.requires.schema (λ count before live has h. (adds_version old new count has (c.requires.blank before live) h, refl)) (c.execute.ensures.runs clean))

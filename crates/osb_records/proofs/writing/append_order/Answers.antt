@@ -1,0 +1,20 @@
+use Rattle.sqlite.specs.Held.{state}
+use Rattle.osb_orders.specs.declared.order.Change.TheVariants.{Append}
+use Rattle.osb_records.specs.Steps.{stored}
+use Rattle.osb_records.proofs.StepLemmas.{clean_before}
+use Rattle.osb_records.proofs.CommitLemmas.{append_written, written_after}
+use Rattle.osb_records.proofs.writing.append_order.Goals as goal
+
+pub returns-clause-ok : goal.returns-clause-ok
+returns-clause-ok g c clean =
+    let first = state g.S.Store c.args.tx.now.conn.now in
+    let mid = state g.S.Store c.write_standing.new.tx.conn.now in
+    let new = state g.S.Store c.insert_order.new.tx.conn.now in
+    let clean_mid = clean_before mid new _ c.insert_order.ensures.survives clean in
+    let clean_first = clean_before first mid _ c.write_standing.ensures.survives clean_mid in
+    let rows = c.in_ok-write_standing.ensures.ok clean_mid in
+    let id = c.args.instance.now in
+    let order = c.args.order.now in
+    let lives = (c.requires.records clean_first rows.was_open).lives in
+    let written = append_written (stored first) id order lives (c.requires.whole clean_first rows.was_open) in
+    written_after first mid new id (Append order) rows (c.in_ok-write_standing.ensures.stands clean_mid (Append order) written (c.requires.standing clean_first rows.was_open)) (c.in_ok-insert_order.ensures.ok clean)
