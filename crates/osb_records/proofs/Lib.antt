@@ -27,3 +27,4 @@ pub mod BindingLemmas
 pub mod PutLemmas
 pub mod EditLemmas
 pub mod CommitLemmas
+pub mod StandLemmas

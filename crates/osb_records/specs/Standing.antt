@@ -36,3 +36,4 @@ AllBindingsStand lives bindings = (id : List ℕ) → BindingsStand id (life_of 
 -- the rows of every id
 pub record IsStanding (content : Content) : Type 0 where
   pub instances : InstancesStand content.lives content.instances
+  pub bindings : AllBindingsStand content.lives content.bindings
