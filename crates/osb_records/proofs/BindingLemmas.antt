@@ -211,7 +211,7 @@ module _ (old new : State) (tables : HasTables old.now) (id : List ℕ) where
       let params = Text id ∷ Text binding ∷ [] in
       let read = reads_as select_binding params old new record_schema tables.schema _ select_binding_is.0 select_binding_is.2 select_binding_is.1 rows h in
       ap first_binding (one_answer 5 at_binding binding_cells_read by_ids every (overlay old.now.trees []) params binding_cells binding_row binding_cmp binding_total (is_binding id binding)
-        (λ _. refl) (λ _. refl) (at_ids id binding []) (λ a b less. by_both_ids a b ∙ less) known rows tables.holds.bindings (read.answer Null))
+      (λ _. refl) (λ _. refl) (at_ids id binding []) (λ a b less. by_both_ids a b ∙ less) known rows tables.holds.bindings (read.answer Null))
       ∙ found_told (filter (is_binding id binding) known)
 
   pub shows_bound : (rows : List Row) → Shown select_bound (Text id ∷ []) old new rows → (length rows == 0) ≡ not (list_any (is_bound id) known)
@@ -219,7 +219,7 @@ module _ (old new : State) (tables : HasTables old.now) (id : List ℕ) where
       let params = Text id ∷ [] in
       let read = reads_as select_bound params old new record_schema tables.schema _ select_bound_is.0 select_bound_is.2 select_bound_is.1 rows h in
       ap (λ items. length items == 0) (one_answer 5 at_instance binding_cells_read by_ids one (overlay old.now.trees []) params binding_cells binding_row binding_cmp binding_total (is_bound id)
-        (λ _. refl) (λ _. refl) (at_id id []) (λ a b less. by_both_ids a b ∙ less) known rows tables.holds.bindings (read.answer Null))
+      (λ _. refl) (λ _. refl) (at_id id []) (λ a b less. by_both_ids a b ∙ less) known rows tables.holds.bindings (read.answer Null))
       ∙ any_first id known
 
 -- the parameters that show a row

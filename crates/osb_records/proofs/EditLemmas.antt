@@ -162,7 +162,7 @@ entries_removed rows binding =
     let same = slice_cmp-IsAntisymmetric nat_cmp-IsAntisymmetric in
     same_entries by_bytes nat_list_cmp_total same (entries (remove rows binding)) (where_key by_bytes passes (entries rows)) (entries_sorted _) (is_sorted-where_key by_bytes passes (entries rows) (entries_sorted rows))
     (λ q. sym (get-entries (remove rows binding) q) ∙ get-remove nat_list_cmp_total rows binding q ∙ other_way (eq_by_cmp by_bytes q binding) (get rows q) ∙ ap (λ b. cond (not b) (get rows q) None) (tie_back q binding) ∙ ap (λ found. cond (passes q) found None) (get-entries rows q)
-      ∙ sym (find-where_key by_bytes passes q (λ x tied. ap passes (sym (same q x tied))) (entries rows)))
+    ∙ sym (find-where_key by_bytes passes q (λ x tied. ap passes (sym (same q x tied))) (entries rows)))
 
 no_rows : entries (empty {X = BindingNow} {R = slice_cmp nat_cmp}) ≡ []
 no_rows = none _ (sym (len-entries empty) ∙ len-empty (slice_cmp nat_cmp) BindingNow)

@@ -29,3 +29,4 @@ pub mod EditLemmas
 pub mod CommitLemmas
 pub mod ViewLemmas
 pub mod AskLemmas
+pub mod StandLemmas

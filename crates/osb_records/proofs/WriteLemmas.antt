@@ -1,7 +1,7 @@
 -- What the statements do to the lives.
-use Rattle.std.proofs.Common.{◌≡◌, ◌≢◌, ℕ, pos, List, [], ◌∷◌, map, true, false, true≢false, Ok, Err, Result, OnOk, IsTrue, ◌<◌, refl, sym, ap, subst}
+use Rattle.std.proofs.Common.{◌≡◌, ◌≢◌, ℕ, pos, List, [], ◌∷◌, map, length, true, false, true≢false, Ok, Err, Result, OnOk, IsTrue, ◌<◌, refl, sym, ap, subst, ◌∙◌, arith}
 use Rattle.std.specs.List.{AllByRecursion}
-use Rattle.std.specs.FinMap.{empty, get-empty}
+use Rattle.std.specs.FinMap.{empty, entries as rows_of, get-empty, len-entries, len-empty}
 use Rattle.std.specs.Prelude.{IfSome, unwrap_or}
 use Rattle.std.specs.Option.{option_to_list}
 use Rattle.std.specs.Ordering.{nat_cmp}
@@ -21,10 +21,11 @@ use Rattle.osb_orders.specs.Changed.{lives_changed}
 use Rattle.osb_orders.specs.IsLife.{IsLives, IsInstance, ends_running}
 use Rattle.osb_orders.specs.Allowed.{IsFinishable}
 use Rattle.osb_records.specs.Instances.{InstanceEntry}
-use Rattle.osb_records.specs.Bindings.{BindingEntry}
+use Rattle.osb_records.specs.Bindings.{BindingEntry, binding_entry}
 use Rattle.osb_records.specs.Stored.{Entry, entry_row, entry_cmp, is_keyed, entries_in, instances_in, bindings_in, lives_in}
 use Rattle.osb_standing.specs.declared.row.InstanceRow.{InstanceRow}
-use Rattle.osb_standing.specs.Rows.{row_of}
+use Rattle.osb_orders.specs.declared.view.BindingNow.{BindingNow}
+use Rattle.osb_standing.specs.Rows.{row_of, bindings_of}
 use Rattle.osb_records.specs.Standing.{IsStanding}
 use Rattle.osb_records.specs.Steps.{HasTables, IsReady, Steps, Writes, no_content, stored, content}
 use Rattle.osb_records.proofs.Texts.{insert_order, finish_order}
@@ -35,9 +36,19 @@ use Rattle.osb_records.proofs.LivesLemmas.{life_of_lives, numbered, append_above
 pub no_lives : IsLives empty
 no_lives id = subst (λ found. IfSome found (IsInstance id)) (sym (get-empty (slice_cmp nat_cmp) id)) tt
 
+no_bindings : (id : List ℕ) → map (binding_entry id) (rows_of (empty {X = BindingNow} {R = slice_cmp nat_cmp})) ≡ []
+no_bindings id = none _ (sym (len-entries empty) ∙ len-empty (slice_cmp nat_cmp) BindingNow)
+  where
+    none : (rows : List (List ℕ × BindingNow)) → length rows ≡ 0 → map (binding_entry id) rows ≡ []
+    none [] e = refl
+    none (row ∷ rows) e = absurd (omega (arith, e))
+
 -- tables without rows stand for no lives
 no_standing : IsStanding no_content
-no_standing = record { instances = λ id. ap (λ found. map (λ (row : InstanceRow). (id, row)) (option_to_list (row_of (unwrap_or found [])))) (sym (get-empty (slice_cmp nat_cmp) id)) }
+no_standing = record {
+  instances = λ id. ap (λ found. map (λ (row : InstanceRow). (id, row)) (option_to_list (row_of (unwrap_or found [])))) (sym (get-empty (slice_cmp nat_cmp) id));
+  bindings = λ id. sym (ap (λ found. map (binding_entry id) (rows_of (bindings_of (unwrap_or found [])))) (get-empty (slice_cmp nat_cmp) id) ∙ no_bindings id);
+}
 
 pub writes_nothing : (old new : State) → Steps old new no_content → Writes old new empty
 writes_nothing old new steps = record {

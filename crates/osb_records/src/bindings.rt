@@ -35,7 +35,13 @@ fn phase_number(phase: BindingPhase) -> u32
 }
 
 /// Runs a statement whose parameters are the columns of the row.
-fn execute_with<S: Alter>(tx: &mut Transaction<'_, S>, sql: &str, instance: &str, binding: &str, row: &BindingNow) -> Result<usize, Error>
+fn execute_with<S: Alter>(
+    tx: &mut Transaction<'_, S>,
+    sql: &str,
+    instance: &str,
+    binding: &str,
+    row: &BindingNow,
+) -> Result<usize, Error>
     ensures same_reference { tx.new.conn.ghost_name ≡ tx.old.conn.ghost_name }
     ensures ended { (state S.Store tx.old.conn.now).in_transaction ≡ false → result ≡ Err (fault.SqliteFailure code.TransactionState) }
     ensures runs { HasCleanDisk (state S.Store tx.new.conn.now) → IsTrue (state S.Store tx.old.conn.now).in_transaction → ExecutesInside 0 sql.now (binding_row (binding_entry instance.now (binding.now, row.now))) (state S.Store tx.old.conn.now) (state S.Store tx.new.conn.now) result }
@@ -58,7 +64,12 @@ fn execute_with<S: Alter>(tx: &mut Transaction<'_, S>, sql: &str, instance: &str
 }
 
 /// Inserts the row of a binding that has none.
-pub(crate) fn insert_binding<S: Alter>(tx: &mut Transaction<'_, S>, instance: &str, binding: &str, row: &BindingNow) -> Result<usize, Error>
+pub(crate) fn insert_binding<S: Alter>(
+    tx: &mut Transaction<'_, S>,
+    instance: &str,
+    binding: &str,
+    row: &BindingNow,
+) -> Result<usize, Error>
     requires tables { ShowsTables (state S.Store tx.old.conn.now) }
     requires no_row { HasCleanDisk (state S.Store tx.old.conn.now) → IsTrue (state S.Store tx.old.conn.now).is_open → filter (is_binding instance.now binding.now) (content (state S.Store tx.old.conn.now)).bindings ≡ [] }
     ensures same_reference { tx.new.conn.ghost_name ≡ tx.old.conn.ghost_name }
@@ -76,7 +87,12 @@ pub(crate) fn insert_binding<S: Alter>(tx: &mut Transaction<'_, S>, instance: &s
 }
 
 /// Gives the binding another row, where it has one.
-pub(crate) fn update_binding<S: Alter>(tx: &mut Transaction<'_, S>, instance: &str, binding: &str, row: &BindingNow) -> Result<usize, Error>
+pub(crate) fn update_binding<S: Alter>(
+    tx: &mut Transaction<'_, S>,
+    instance: &str,
+    binding: &str,
+    row: &BindingNow,
+) -> Result<usize, Error>
     requires { ShowsTables (state S.Store tx.old.conn.now) }
     ensures same_reference { tx.new.conn.ghost_name ≡ tx.old.conn.ghost_name }
     ensures ok { HasCleanDisk (state S.Store tx.new.conn.now) → OnOk result (Steps (state S.Store tx.old.conn.now) (state S.Store tx.new.conn.now) (with_bindings (update_where (is_binding instance.now binding.now) (with_binding row.now) (content (state S.Store tx.old.conn.now)).bindings) (content (state S.Store tx.old.conn.now)))) }
@@ -93,7 +109,11 @@ pub(crate) fn update_binding<S: Alter>(tx: &mut Transaction<'_, S>, instance: &s
 }
 
 /// Takes the row of the binding away.
-pub(crate) fn delete_binding<S: Alter>(tx: &mut Transaction<'_, S>, instance: &str, binding: &str) -> Result<usize, Error>
+pub(crate) fn delete_binding<S: Alter>(
+    tx: &mut Transaction<'_, S>,
+    instance: &str,
+    binding: &str,
+) -> Result<usize, Error>
     requires { ShowsTables (state S.Store tx.old.conn.now) }
     ensures same_reference { tx.new.conn.ghost_name ≡ tx.old.conn.ghost_name }
     ensures ok { HasCleanDisk (state S.Store tx.new.conn.now) → OnOk result (Steps (state S.Store tx.old.conn.now) (state S.Store tx.new.conn.now) (with_bindings (delete_where (is_binding instance.now binding.now) (content (state S.Store tx.old.conn.now)).bindings) (content (state S.Store tx.old.conn.now)))) }
@@ -107,7 +127,10 @@ pub(crate) fn delete_binding<S: Alter>(tx: &mut Transaction<'_, S>, instance: &s
 }
 
 /// Takes the rows of all bindings of the instance away.
-pub(crate) fn delete_bindings<S: Alter>(tx: &mut Transaction<'_, S>, instance: &str) -> Result<usize, Error>
+pub(crate) fn delete_bindings<S: Alter>(
+    tx: &mut Transaction<'_, S>,
+    instance: &str,
+) -> Result<usize, Error>
     requires { ShowsTables (state S.Store tx.old.conn.now) }
     ensures same_reference { tx.new.conn.ghost_name ≡ tx.old.conn.ghost_name }
     ensures ok { HasCleanDisk (state S.Store tx.new.conn.now) → OnOk result (Steps (state S.Store tx.old.conn.now) (state S.Store tx.new.conn.now) (with_bindings (delete_where (is_bound instance.now) (content (state S.Store tx.old.conn.now)).bindings) (content (state S.Store tx.old.conn.now)))) }
@@ -120,7 +143,11 @@ pub(crate) fn delete_bindings<S: Alter>(tx: &mut Transaction<'_, S>, instance: &
     )
 }
 
-fn select_binding<S: Alter>(tx: &mut Transaction<'_, S>, instance: &str, binding: &str) -> Result<Vec<Row>, Error>
+fn select_binding<S: Alter>(
+    tx: &mut Transaction<'_, S>,
+    instance: &str,
+    binding: &str,
+) -> Result<Vec<Row>, Error>
     requires { ShowsTables (state S.Store tx.old.conn.now) }
     ensures same_reference { tx.new.conn.ghost_name ≡ tx.old.conn.ghost_name }
     ensures ok { HasCleanDisk (state S.Store tx.new.conn.now) → IfOk result (λ rows. first_binding rows.items ≡ binding_found instance.now binding.now (content (state S.Store tx.old.conn.now)).bindings) }
@@ -158,7 +185,12 @@ fn first_in(alloc: Global, rows: &[Row]) -> Result<Option<BindingNow>, StoreFaul
 }
 
 /// The row of the binding.
-pub(crate) fn read_binding<S: Alter>(tx: &mut Transaction<'_, S>, alloc: Global, instance: &str, binding: &str) -> Result<Option<BindingNow>, StoreFault>
+pub(crate) fn read_binding<S: Alter>(
+    tx: &mut Transaction<'_, S>,
+    alloc: Global,
+    instance: &str,
+    binding: &str,
+) -> Result<Option<BindingNow>, StoreFault>
     requires { ShowsTables (state S.Store tx.old.conn.now) }
     ensures same_reference { tx.new.conn.ghost_name ≡ tx.old.conn.ghost_name }
     ensures ok { HasCleanDisk (state S.Store tx.new.conn.now) → IfOk result (λ row. row ≡ binding_found instance.now binding.now (content (state S.Store tx.old.conn.now)).bindings) }
@@ -171,7 +203,10 @@ pub(crate) fn read_binding<S: Alter>(tx: &mut Transaction<'_, S>, alloc: Global,
 }
 
 /// Whether a binding of the instance has a row.
-pub(crate) fn is_bound<S: Alter>(tx: &mut Transaction<'_, S>, instance: &str) -> Result<bool, StoreFault>
+pub(crate) fn is_bound<S: Alter>(
+    tx: &mut Transaction<'_, S>,
+    instance: &str,
+) -> Result<bool, StoreFault>
     requires { ShowsTables (state S.Store tx.old.conn.now) }
     ensures same_reference { tx.new.conn.ghost_name ≡ tx.old.conn.ghost_name }
     ensures ok { HasCleanDisk (state S.Store tx.new.conn.now) → IfOk result (λ bound. bound ≡ list_any (is_bound instance.now) (content (state S.Store tx.old.conn.now)).bindings) }

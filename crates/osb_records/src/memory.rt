@@ -45,11 +45,7 @@ pub fn running(
 }
 
 /// As `Records::view`.
-pub fn view(
-    records: &mut Records<MemStore>,
-    alloc: Global,
-    ask: &Ask,
-) -> Result<View, StoreFault>
+pub fn view(records: &mut Records<MemStore>, alloc: Global, ask: &Ask) -> Result<View, StoreFault>
     ensures ok { IfOk result (λ view. facts view ≡ view_of (stored (state over_memory records.old)) ask.now) }
     ensures same { stored (state over_memory records.new) ≡ stored (state over_memory records.old) }
 {

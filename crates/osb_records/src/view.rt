@@ -97,10 +97,7 @@ fn read_standing<S: Alter>(
 
 /// Whether a binding of the instance remains.
 #[tactic(auto, using(crate::proofs::NamedLemmas::shows_again))]
-fn read_bound<S: Alter>(
-    tx: &mut Transaction<'_, S>,
-    instance: &str,
-) -> Result<bool, StoreFault>
+fn read_bound<S: Alter>(tx: &mut Transaction<'_, S>, instance: &str) -> Result<bool, StoreFault>
     requires { ShowsRecords (state S.Store tx.old.conn.now) }
     ensures same_reference { tx.new.conn.ghost_name ≡ tx.old.conn.ghost_name }
     ensures ok { HasCleanDisk (state S.Store tx.new.conn.now) → IfOk result (λ bound. bound ≡ has_rows (bindings_of (life_of (stored (state S.Store tx.old.conn.now)) instance.now))) }

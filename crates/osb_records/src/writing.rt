@@ -16,6 +16,7 @@ ghost use Rattle.osb_records.specs.Standing.{IsStanding};
 ghost use Rattle.osb_records.specs.Queries.{ShowsRecords};
 ghost use Rattle.osb_records.specs.Steps.{Steps, Writes, content, stored};
 
+use crate::bindings::write_bindings;
 use crate::fault::StoreFault;
 use crate::instances::write_instance;
 use crate::queries::order_numbered;
@@ -28,7 +29,7 @@ use std::alloc::Global;
 /// Writes the rows of what stands once the order is written.
 fn write_standing<S: Alter>(
     tx: &mut Transaction<'_, S>,
-    _alloc: Global,
+    alloc: Global,
     instance: &str,
     order: &Order,
 ) -> Result<(), StoreFault>
@@ -40,7 +41,8 @@ fn write_standing<S: Alter>(
     ensures kept { HasCleanDisk (state S.Store tx.new.conn.now) → IsTrue (state S.Store tx.old.conn.now).in_transaction → KeepsCommit (state S.Store tx.old.conn.now) (state S.Store tx.new.conn.now) }
     ensures survives { Survives (state S.Store tx.old.conn.now) (state S.Store tx.new.conn.now) (λ _. ⊥) }
 {
-    write_instance(tx, instance, order)
+    write_instance(tx, instance, order)?;
+    write_bindings(tx, alloc, instance, order)
 }
 
 /// Writes one order more.
