@@ -27,4 +27,6 @@ pub mod BindingLemmas
 pub mod PutLemmas
 pub mod EditLemmas
 pub mod CommitLemmas
+pub mod ViewLemmas
+pub mod AskLemmas
 pub mod StandLemmas

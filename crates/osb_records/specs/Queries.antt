@@ -1,9 +1,10 @@
 -- What a connection shows to queries, and what the rows of an answer tell.
-use Rattle.std.specs.Prelude.{IsTrue, Bool, List, Option, None, Some, option_map, slice_get, if◌then◌else◌}
+use Rattle.std.specs.Prelude.{IsTrue, ℕ, Bool, false, List, Option, None, Some, option_map, slice_get, if◌then◌else◌}
 use Rattle.sqlite.specs.Order.{Row}
 use Rattle.sqlite.specs.Effect.{Database}
 use Rattle.sqlite.specs.State.{State, HasCleanDisk}
 use Rattle.osb_orders.specs.declared.order.Order.{Order}
+use Rattle.osb_orders.specs.Facts.{Facts}
 use Rattle.osb_orders.specs.IsLife.{IsLives}
 use Rattle.osb_records.specs.Stored.{order_told, lives_stored, content_in}
 use Rattle.osb_records.specs.Standing.{IsStanding}
@@ -27,3 +28,7 @@ first_order rows = option_map order_told (slice_get rows 0)
 abbrev pub only : {A : Type 0} → (A → Bool) → Option A → Option A
 only passes None = None
 only passes (Some item) = if passes item then Some item else None
+
+-- the view for an ask about no instance
+abbrev pub listed_facts : List (List ℕ × Order) → Facts
+listed_facts listing = record { standing = None; last = None; binding = None; named = None; subject_last = None; count = 0; bound = false; listing = listing }

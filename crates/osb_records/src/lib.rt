@@ -13,6 +13,7 @@ mod records;
 mod row;
 mod statements;
 mod tables;
+mod view;
 mod writing;
 
 pub use fault::StoreFault;

@@ -6,6 +6,7 @@ ghost use Rattle.sqlite.specs.Held.{state};
 ghost use Rattle.sqlite.specs.State.{HasCleanDisk, Survives};
 ghost use Rattle.sqlite.specs.Steps.{over_memory};
 ghost use Rattle.osb_orders.specs.Lives.{life_of};
+ghost use Rattle.osb_orders.specs.Facts.{facts, view_of};
 ghost use Rattle.osb_orders.specs.Listing.{listing};
 ghost use Rattle.osb_orders.specs.Changed.{lives_changed};
 ghost use Rattle.osb_orders.specs.IsLife.{IsLives};
@@ -17,7 +18,9 @@ use crate::fault::StoreFault;
 use crate::reading::{read_life, read_running};
 use crate::row::{entries_in, orders_in};
 use crate::tables::make_tables;
-use osb_orders::{Change, Order};
+use crate::view::{view_of_instance, view_without_instance};
+use osb_asks::Ask;
+use osb_orders::{Change, Order, View};
 use osb_text::Text;
 use sqlite::{Alter, Connection, MemStore};
 use std::alloc::Global;
@@ -79,6 +82,18 @@ impl<S: Alter> Records<S> {
     {
         let rows = read_running(&mut self.conn, after, limit)?;
         entries_in(alloc, &rows)
+    }
+
+    /// What the ask needs to know of the lives.
+    pub fn view(&mut self, alloc: Global, ask: &Ask) -> Result<View, StoreFault>
+        ensures ok { HasCleanDisk (state S.Store self.new) → IfOk result (λ view. facts view ≡ view_of (stored (state S.Store self.old)) ask.now) }
+        ensures same { HasCleanDisk (state S.Store self.new) → IsTrue (state S.Store self.new).is_open → stored (state S.Store self.new) ≡ stored (state S.Store self.old) }
+        ensures crash { Survives (state S.Store self.old) (state S.Store self.new) (λ _. ⊥) }
+    {
+        match ask.instance() {
+            Some(instance) => view_of_instance(&mut self.conn, alloc, instance.as_str(), ask),
+            None => view_without_instance(&mut self.conn, alloc, ask),
+        }
     }
 
     /// Makes the change to the life of the instance, in one transaction. Where the store refuses it,

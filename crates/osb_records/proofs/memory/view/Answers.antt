@@ -1,0 +1,9 @@
+use Rattle.std.proofs.Common.{refl}
+use Rattle.sqlite.proofs.Callers.{memory_is_clean}
+use Rattle.osb_records.proofs.memory.view.Goals as goal
+
+pub returns-clause-ok : goal.returns-clause-ok
+returns-clause-ok c = c.view.ensures.ok (memory_is_clean c.view.new.self)
+
+pub returns-clause-same : goal.returns-clause-same
+returns-clause-same c = c.view.ensures.same (memory_is_clean c.view.new.self) refl

@@ -1,0 +1,457 @@
+//! What an ask needs to know, read inside a transaction.
+
+ghost use Rattle.std.specs.Prelude.{◌≡◌, [], filter, Some, None, unwrap_or, IsTrue, IfOk, OnOk, option_copied, option_and_then};
+ghost use Rattle.std.specs.FinMap.{get};
+ghost use Rattle.sqlite.specs.Held.{state};
+ghost use Rattle.sqlite.specs.State.{HasCleanDisk, IsUnchanged, KeepsCommit, Survives};
+ghost use Rattle.osb_orders.specs.Lists.{last_of};
+ghost use Rattle.osb_orders.specs.Orders.{is_of_instance, is_of_binding};
+ghost use Rattle.osb_orders.specs.Lives.{life_of};
+ghost use Rattle.osb_asks.specs.declared.ask.Ask.TheVariants as asks;
+ghost use Rattle.osb_orders.specs.Facts.{facts, view_of};
+ghost use Rattle.osb_orders.specs.Named.{instance_in, binding_in, subject, named_by, named_in};
+ghost use Rattle.osb_standing.specs.Rows.{row_of, bindings_of};
+ghost use Rattle.osb_standing.specs.Laws.{count_in, has_rows};
+ghost use Rattle.osb_standing.specs.Read.{IsReadOf};
+ghost use Rattle.osb_records.specs.Steps.{IsReady, stored};
+ghost use Rattle.osb_records.specs.Queries.{ShowsRecords, only, listed_facts};
+
+use crate::bindings::{is_bound, read_binding};
+use crate::fault::StoreFault;
+use crate::instances::read_instance;
+use crate::queries::{last_of_binding, last_of_instance, order_named, order_numbered};
+use crate::reading::read_running;
+use crate::row::entries_in;
+use osb_asks::{Ask, Orders};
+use osb_orders::{BindingNow, Order, View};
+use osb_standing::{InstanceRow, Read, view_by};
+use osb_text::Text;
+use sqlite::{Alter, Connection, Transaction};
+use std::alloc::Global;
+
+/// How many running orders an ask lists.
+const LISTED: u32 = 100;
+
+/// The row of the instance.
+#[tactic(auto, using(crate::proofs::NamedLemmas::shows_again))]
+fn read_row<S: Alter>(
+    tx: &mut Transaction<'_, S>,
+    instance: &str,
+) -> Result<Option<InstanceRow>, StoreFault>
+    requires { ShowsRecords (state S.Store tx.old.conn.now) }
+    ensures same_reference { tx.new.conn.ghost_name ≡ tx.old.conn.ghost_name }
+    ensures ok { HasCleanDisk (state S.Store tx.new.conn.now) → IfOk result (λ row. row ≡ row_of (life_of (stored (state S.Store tx.old.conn.now)) instance.now)) }
+    ensures same { HasCleanDisk (state S.Store tx.new.conn.now) → OnOk result (IsUnchanged (state S.Store tx.old.conn.now) (state S.Store tx.new.conn.now)) }
+    ensures shows { OnOk result (ShowsRecords (state S.Store tx.new.conn.now)) }
+    ensures kept { HasCleanDisk (state S.Store tx.new.conn.now) → IsTrue (state S.Store tx.old.conn.now).in_transaction → KeepsCommit (state S.Store tx.old.conn.now) (state S.Store tx.new.conn.now) }
+    ensures survives { Survives (state S.Store tx.old.conn.now) (state S.Store tx.new.conn.now) (λ _. ⊥) }
+{
+    read_instance(tx, instance)
+}
+
+fn last_number(row: Option<&InstanceRow>) -> u32
+    ensures { result ≡ count_in (option_copied row.entry) }
+{
+    match row {
+        Some(row) => row.last_number,
+        None => 0,
+    }
+}
+
+/// The last order of the instance, by its row.
+#[tactic(auto, using(crate::proofs::NamedLemmas::shows_again))]
+fn read_last<S: Alter>(
+    tx: &mut Transaction<'_, S>,
+    instance: &str,
+    row: Option<&InstanceRow>,
+) -> Result<Option<Order>, StoreFault>
+    requires { ShowsRecords (state S.Store tx.old.conn.now) }
+    ensures same_reference { tx.new.conn.ghost_name ≡ tx.old.conn.ghost_name }
+    ensures ok { HasCleanDisk (state S.Store tx.new.conn.now) → IfOk result (λ order. option_copied row.entry ≡ row_of (life_of (stored (state S.Store tx.old.conn.now)) instance.now) → order ≡ last_of (life_of (stored (state S.Store tx.old.conn.now)) instance.now)) }
+    ensures same { HasCleanDisk (state S.Store tx.new.conn.now) → OnOk result (IsUnchanged (state S.Store tx.old.conn.now) (state S.Store tx.new.conn.now)) }
+    ensures shows { OnOk result (ShowsRecords (state S.Store tx.new.conn.now)) }
+    ensures kept { HasCleanDisk (state S.Store tx.new.conn.now) → IsTrue (state S.Store tx.old.conn.now).in_transaction → KeepsCommit (state S.Store tx.old.conn.now) (state S.Store tx.new.conn.now) }
+    ensures survives { Survives (state S.Store tx.old.conn.now) (state S.Store tx.new.conn.now) (λ _. ⊥) }
+{
+    order_numbered(tx, instance, last_number(row))
+}
+
+/// The row of the instance and its last order.
+#[tactic(auto, using(crate::proofs::NamedLemmas::shows_again))]
+fn read_standing<S: Alter>(
+    tx: &mut Transaction<'_, S>,
+    instance: &str,
+) -> Result<(Option<InstanceRow>, Option<Order>), StoreFault>
+    requires { ShowsRecords (state S.Store tx.old.conn.now) }
+    ensures same_reference { tx.new.conn.ghost_name ≡ tx.old.conn.ghost_name }
+    ensures ok { HasCleanDisk (state S.Store tx.new.conn.now) → IfOk result (λ found. (found.0 ≡ row_of (life_of (stored (state S.Store tx.old.conn.now)) instance.now)) × (found.1 ≡ last_of (life_of (stored (state S.Store tx.old.conn.now)) instance.now))) }
+    ensures same { HasCleanDisk (state S.Store tx.new.conn.now) → OnOk result (IsUnchanged (state S.Store tx.old.conn.now) (state S.Store tx.new.conn.now)) }
+    ensures shows { OnOk result (ShowsRecords (state S.Store tx.new.conn.now)) }
+    ensures kept { HasCleanDisk (state S.Store tx.new.conn.now) → IsTrue (state S.Store tx.old.conn.now).in_transaction → KeepsCommit (state S.Store tx.old.conn.now) (state S.Store tx.new.conn.now) }
+    ensures survives { Survives (state S.Store tx.old.conn.now) (state S.Store tx.new.conn.now) (λ _. ⊥) }
+{
+    let row = read_row(tx, instance)?;
+    let last = read_last(tx, instance, row.as_ref())?;
+    Ok((row, last))
+}
+
+/// Whether a binding of the instance remains.
+#[tactic(auto, using(crate::proofs::NamedLemmas::shows_again))]
+fn read_bound<S: Alter>(tx: &mut Transaction<'_, S>, instance: &str) -> Result<bool, StoreFault>
+    requires { ShowsRecords (state S.Store tx.old.conn.now) }
+    ensures same_reference { tx.new.conn.ghost_name ≡ tx.old.conn.ghost_name }
+    ensures ok { HasCleanDisk (state S.Store tx.new.conn.now) → IfOk result (λ bound. bound ≡ has_rows (bindings_of (life_of (stored (state S.Store tx.old.conn.now)) instance.now))) }
+    ensures same { HasCleanDisk (state S.Store tx.new.conn.now) → OnOk result (IsUnchanged (state S.Store tx.old.conn.now) (state S.Store tx.new.conn.now)) }
+    ensures shows { OnOk result (ShowsRecords (state S.Store tx.new.conn.now)) }
+    ensures kept { HasCleanDisk (state S.Store tx.new.conn.now) → IsTrue (state S.Store tx.old.conn.now).in_transaction → KeepsCommit (state S.Store tx.old.conn.now) (state S.Store tx.new.conn.now) }
+    ensures survives { Survives (state S.Store tx.old.conn.now) (state S.Store tx.new.conn.now) (λ _. ⊥) }
+{
+    is_bound(tx, instance)
+}
+
+/// The row of the binding that the ask names.
+#[tactic(auto, using(crate::proofs::NamedLemmas::shows_again))]
+fn read_binding_for<S: Alter>(
+    tx: &mut Transaction<'_, S>,
+    alloc: Global,
+    instance: &str,
+    ask: &Ask,
+) -> Result<Option<BindingNow>, StoreFault>
+    requires { ShowsRecords (state S.Store tx.old.conn.now) }
+    ensures same_reference { tx.new.conn.ghost_name ≡ tx.old.conn.ghost_name }
+    ensures ok { HasCleanDisk (state S.Store tx.new.conn.now) → IsTrue (state S.Store tx.old.conn.now).is_open → IfOk result (λ row. row ≡ option_and_then (λ id. get (bindings_of (life_of (stored (state S.Store tx.old.conn.now)) instance.now)) id) (binding_in ask.now)) }
+    ensures same { HasCleanDisk (state S.Store tx.new.conn.now) → IsTrue (state S.Store tx.old.conn.now).is_open → OnOk result (IsUnchanged (state S.Store tx.old.conn.now) (state S.Store tx.new.conn.now)) }
+    ensures shows { OnOk result (ShowsRecords (state S.Store tx.new.conn.now)) }
+    ensures kept { HasCleanDisk (state S.Store tx.new.conn.now) → IsTrue (state S.Store tx.old.conn.now).in_transaction → KeepsCommit (state S.Store tx.old.conn.now) (state S.Store tx.new.conn.now) }
+    ensures survives { Survives (state S.Store tx.old.conn.now) (state S.Store tx.new.conn.now) (λ _. ⊥) }
+{
+    match ask.binding() {
+        Some(binding) => read_binding(tx, alloc, instance, binding.as_str()),
+        None => Ok(None),
+    }
+}
+
+fn only_of_instance(found: Option<Order>) -> Option<Order>
+    ensures { result ≡ only is_of_instance found }
+{
+    match found {
+        Some(order) if order.is_of_instance() => Some(order),
+        _ => None,
+    }
+}
+
+fn only_of_binding(found: Option<Order>, binding: &str) -> Option<Order>
+    ensures { result ≡ only (is_of_binding binding.now) found }
+{
+    match found {
+        Some(order) if order.is_of_binding(binding) => Some(order),
+        _ => None,
+    }
+}
+
+/// The order of that name among those of the instance.
+#[tactic(auto, using(crate::proofs::NamedLemmas::shows_again))]
+fn named_of_instance<S: Alter>(
+    tx: &mut Transaction<'_, S>,
+    alloc: Global,
+    instance: &str,
+    operation: Option<&Text>,
+) -> Result<Option<Order>, StoreFault>
+    requires { ShowsRecords (state S.Store tx.old.conn.now) }
+    ensures same_reference { tx.new.conn.ghost_name ≡ tx.old.conn.ghost_name }
+    ensures ok { HasCleanDisk (state S.Store tx.new.conn.now) → IsTrue (state S.Store tx.old.conn.now).is_open → IfOk result (λ order. order ≡ named_by (option_copied operation.entry) (filter is_of_instance (life_of (stored (state S.Store tx.old.conn.now)) instance.now))) }
+    ensures same { HasCleanDisk (state S.Store tx.new.conn.now) → IsTrue (state S.Store tx.old.conn.now).is_open → OnOk result (IsUnchanged (state S.Store tx.old.conn.now) (state S.Store tx.new.conn.now)) }
+    ensures shows { OnOk result (ShowsRecords (state S.Store tx.new.conn.now)) }
+    ensures kept { HasCleanDisk (state S.Store tx.new.conn.now) → IsTrue (state S.Store tx.old.conn.now).in_transaction → KeepsCommit (state S.Store tx.old.conn.now) (state S.Store tx.new.conn.now) }
+    ensures survives { Survives (state S.Store tx.old.conn.now) (state S.Store tx.new.conn.now) (λ _. ⊥) }
+{
+    let Some(name) = operation else {
+        return Ok(None);
+    };
+    let found = order_named(tx, alloc, instance, name.as_str())?;
+    Ok(only_of_instance(found))
+}
+
+/// The order of that name among those of the binding.
+#[tactic(auto, using(crate::proofs::NamedLemmas::shows_again))]
+fn named_of_binding<S: Alter>(
+    tx: &mut Transaction<'_, S>,
+    alloc: Global,
+    instance: &str,
+    binding: &str,
+    operation: Option<&Text>,
+) -> Result<Option<Order>, StoreFault>
+    requires { ShowsRecords (state S.Store tx.old.conn.now) }
+    ensures same_reference { tx.new.conn.ghost_name ≡ tx.old.conn.ghost_name }
+    ensures ok { HasCleanDisk (state S.Store tx.new.conn.now) → IsTrue (state S.Store tx.old.conn.now).is_open → IfOk result (λ order. order ≡ named_by (option_copied operation.entry) (filter (is_of_binding binding.now) (life_of (stored (state S.Store tx.old.conn.now)) instance.now))) }
+    ensures same { HasCleanDisk (state S.Store tx.new.conn.now) → IsTrue (state S.Store tx.old.conn.now).is_open → OnOk result (IsUnchanged (state S.Store tx.old.conn.now) (state S.Store tx.new.conn.now)) }
+    ensures shows { OnOk result (ShowsRecords (state S.Store tx.new.conn.now)) }
+    ensures kept { HasCleanDisk (state S.Store tx.new.conn.now) → IsTrue (state S.Store tx.old.conn.now).in_transaction → KeepsCommit (state S.Store tx.old.conn.now) (state S.Store tx.new.conn.now) }
+    ensures survives { Survives (state S.Store tx.old.conn.now) (state S.Store tx.new.conn.now) (λ _. ⊥) }
+{
+    let Some(name) = operation else {
+        return Ok(None);
+    };
+    let found = order_named(tx, alloc, instance, name.as_str())?;
+    Ok(only_of_binding(found, binding))
+}
+
+/// The order that the ask names.
+#[tactic(auto, using(crate::proofs::NamedLemmas::shows_again))]
+fn read_named<S: Alter>(
+    tx: &mut Transaction<'_, S>,
+    alloc: Global,
+    instance: &str,
+    ask: &Ask,
+) -> Result<Option<Order>, StoreFault>
+    requires { ShowsRecords (state S.Store tx.old.conn.now) }
+    ensures same_reference { tx.new.conn.ghost_name ≡ tx.old.conn.ghost_name }
+    ensures ok { HasCleanDisk (state S.Store tx.new.conn.now) → IsTrue (state S.Store tx.old.conn.now).is_open → IfOk result (λ order. order ≡ named_in ask.now (life_of (stored (state S.Store tx.old.conn.now)) instance.now)) }
+    ensures same { HasCleanDisk (state S.Store tx.new.conn.now) → IsTrue (state S.Store tx.old.conn.now).is_open → OnOk result (IsUnchanged (state S.Store tx.old.conn.now) (state S.Store tx.new.conn.now)) }
+    ensures shows { OnOk result (ShowsRecords (state S.Store tx.new.conn.now)) }
+    ensures kept { HasCleanDisk (state S.Store tx.new.conn.now) → IsTrue (state S.Store tx.old.conn.now).in_transaction → KeepsCommit (state S.Store tx.old.conn.now) (state S.Store tx.new.conn.now) }
+    ensures survives { Survives (state S.Store tx.old.conn.now) (state S.Store tx.new.conn.now) (λ _. ⊥) }
+{
+    match ask {
+        Ask::InstanceOp(poll) => named_of_instance(tx, alloc, instance, poll.operation.as_ref()),
+        Ask::BindingOp(poll) => named_of_binding(
+            tx,
+            alloc,
+            instance,
+            poll.binding.as_str(),
+            poll.operation.as_ref(),
+        ),
+        Ask::Report(report) => order_numbered(tx, instance, report.number),
+        Ask::Catalog
+        | Ask::Provision(_)
+        | Ask::Fetch(_)
+        | Ask::Update(_)
+        | Ask::Deprovision(_)
+        | Ask::Bind(_)
+        | Ask::FetchBinding(_)
+        | Ask::Unbind(_)
+        | Ask::Orders(_) => Ok(None),
+    }
+}
+
+/// The last of the orders that a poll is about.
+#[tactic(auto, using(crate::proofs::NamedLemmas::shows_again))]
+fn read_subject<S: Alter>(
+    tx: &mut Transaction<'_, S>,
+    instance: &str,
+    ask: &Ask,
+) -> Result<Option<Order>, StoreFault>
+    requires { ShowsRecords (state S.Store tx.old.conn.now) }
+    ensures same_reference { tx.new.conn.ghost_name ≡ tx.old.conn.ghost_name }
+    ensures ok { HasCleanDisk (state S.Store tx.new.conn.now) → IsTrue (state S.Store tx.old.conn.now).is_open → IfOk result (λ order. order ≡ last_of (subject ask.now (life_of (stored (state S.Store tx.old.conn.now)) instance.now))) }
+    ensures same { HasCleanDisk (state S.Store tx.new.conn.now) → IsTrue (state S.Store tx.old.conn.now).is_open → OnOk result (IsUnchanged (state S.Store tx.old.conn.now) (state S.Store tx.new.conn.now)) }
+    ensures shows { OnOk result (ShowsRecords (state S.Store tx.new.conn.now)) }
+    ensures kept { HasCleanDisk (state S.Store tx.new.conn.now) → IsTrue (state S.Store tx.old.conn.now).in_transaction → KeepsCommit (state S.Store tx.old.conn.now) (state S.Store tx.new.conn.now) }
+    ensures survives { Survives (state S.Store tx.old.conn.now) (state S.Store tx.new.conn.now) (λ _. ⊥) }
+{
+    match ask {
+        Ask::InstanceOp(_) => last_of_instance(tx, instance),
+        Ask::BindingOp(poll) => last_of_binding(tx, instance, poll.binding.as_str()),
+        Ask::Catalog
+        | Ask::Provision(_)
+        | Ask::Fetch(_)
+        | Ask::Update(_)
+        | Ask::Deprovision(_)
+        | Ask::Bind(_)
+        | Ask::FetchBinding(_)
+        | Ask::Unbind(_)
+        | Ask::Orders(_)
+        | Ask::Report(_) => Ok(None),
+    }
+}
+
+/// The row of the binding that the ask names, and whether one remains.
+fn read_bindings<S: Alter>(
+    tx: &mut Transaction<'_, S>,
+    alloc: Global,
+    instance: &str,
+    ask: &Ask,
+) -> Result<(Option<BindingNow>, bool), StoreFault>
+    requires { ShowsRecords (state S.Store tx.old.conn.now) }
+    ensures same_reference { tx.new.conn.ghost_name ≡ tx.old.conn.ghost_name }
+    ensures ok { HasCleanDisk (state S.Store tx.new.conn.now) → IfOk result (λ found. (found.0 ≡ option_and_then (λ id. get (bindings_of (life_of (stored (state S.Store tx.old.conn.now)) instance.now)) id) (binding_in ask.now)) × (found.1 ≡ has_rows (bindings_of (life_of (stored (state S.Store tx.old.conn.now)) instance.now)))) }
+    ensures same { HasCleanDisk (state S.Store tx.new.conn.now) → OnOk result (IsUnchanged (state S.Store tx.old.conn.now) (state S.Store tx.new.conn.now)) }
+    ensures shows { OnOk result (ShowsRecords (state S.Store tx.new.conn.now)) }
+    ensures kept { HasCleanDisk (state S.Store tx.new.conn.now) → IsTrue (state S.Store tx.old.conn.now).in_transaction → KeepsCommit (state S.Store tx.old.conn.now) (state S.Store tx.new.conn.now) }
+    ensures survives { Survives (state S.Store tx.old.conn.now) (state S.Store tx.new.conn.now) (λ _. ⊥) }
+{
+    let bound = read_bound(tx, instance)?;
+    let binding = read_binding_for(tx, alloc, instance, ask)?;
+    Ok((binding, bound))
+}
+
+/// The order that the ask names, and the last of those that a poll is about.
+fn read_polled<S: Alter>(
+    tx: &mut Transaction<'_, S>,
+    alloc: Global,
+    instance: &str,
+    ask: &Ask,
+) -> Result<(Option<Order>, Option<Order>), StoreFault>
+    requires { ShowsRecords (state S.Store tx.old.conn.now) }
+    ensures same_reference { tx.new.conn.ghost_name ≡ tx.old.conn.ghost_name }
+    ensures ok { HasCleanDisk (state S.Store tx.new.conn.now) → IsTrue (state S.Store tx.old.conn.now).is_open → IfOk result (λ found. (found.0 ≡ named_in ask.now (life_of (stored (state S.Store tx.old.conn.now)) instance.now)) × (found.1 ≡ last_of (subject ask.now (life_of (stored (state S.Store tx.old.conn.now)) instance.now)))) }
+    ensures same { HasCleanDisk (state S.Store tx.new.conn.now) → IsTrue (state S.Store tx.old.conn.now).is_open → OnOk result (IsUnchanged (state S.Store tx.old.conn.now) (state S.Store tx.new.conn.now)) }
+    ensures shows { OnOk result (ShowsRecords (state S.Store tx.new.conn.now)) }
+    ensures kept { HasCleanDisk (state S.Store tx.new.conn.now) → IsTrue (state S.Store tx.old.conn.now).is_open → IsTrue (state S.Store tx.old.conn.now).in_transaction → KeepsCommit (state S.Store tx.old.conn.now) (state S.Store tx.new.conn.now) }
+    ensures survives { Survives (state S.Store tx.old.conn.now) (state S.Store tx.new.conn.now) (λ _. ⊥) }
+{
+    let named = read_named(tx, alloc, instance, ask)?;
+    let subject_last = read_subject(tx, instance, ask)?;
+    Ok((named, subject_last))
+}
+
+/// What is read for the ask beside the row of its instance and the last order.
+#[derive(Drop)]
+struct Asked {
+    binding: Option<BindingNow>,
+    bound: bool,
+    named: Option<Order>,
+    subject_last: Option<Order>,
+}
+
+/// What the ask names.
+fn read_asked<S: Alter>(
+    tx: &mut Transaction<'_, S>,
+    alloc: Global,
+    instance: &str,
+    ask: &Ask,
+) -> Result<Asked, StoreFault>
+    requires { ShowsRecords (state S.Store tx.old.conn.now) }
+    ensures same_reference { tx.new.conn.ghost_name ≡ tx.old.conn.ghost_name }
+    ensures ok { HasCleanDisk (state S.Store tx.new.conn.now) → IfOk result (λ asked. ((asked.binding ≡ option_and_then (λ id. get (bindings_of (life_of (stored (state S.Store tx.old.conn.now)) instance.now)) id) (binding_in ask.now)) × (asked.bound ≡ has_rows (bindings_of (life_of (stored (state S.Store tx.old.conn.now)) instance.now)))) × ((asked.named ≡ named_in ask.now (life_of (stored (state S.Store tx.old.conn.now)) instance.now)) × (asked.subject_last ≡ last_of (subject ask.now (life_of (stored (state S.Store tx.old.conn.now)) instance.now))))) }
+    ensures same { HasCleanDisk (state S.Store tx.new.conn.now) → OnOk result (IsUnchanged (state S.Store tx.old.conn.now) (state S.Store tx.new.conn.now)) }
+    ensures shows { OnOk result (ShowsRecords (state S.Store tx.new.conn.now)) }
+    ensures kept { HasCleanDisk (state S.Store tx.new.conn.now) → IsTrue (state S.Store tx.old.conn.now).in_transaction → KeepsCommit (state S.Store tx.old.conn.now) (state S.Store tx.new.conn.now) }
+    ensures survives { Survives (state S.Store tx.old.conn.now) (state S.Store tx.new.conn.now) (λ _. ⊥) }
+{
+    let (binding, bound) = read_bindings(tx, alloc, instance, ask)?;
+    let (named, subject_last) = read_polled(tx, alloc, instance, ask)?;
+    Ok(Asked {
+        binding,
+        bound,
+        named,
+        subject_last,
+    })
+}
+
+/// What is read for an ask that names the instance.
+pub(crate) fn read_for<S: Alter>(
+    tx: &mut Transaction<'_, S>,
+    alloc: Global,
+    instance: &str,
+    ask: &Ask,
+) -> Result<Read, StoreFault>
+    requires { ShowsRecords (state S.Store tx.old.conn.now) }
+    ensures same_reference { tx.new.conn.ghost_name ≡ tx.old.conn.ghost_name }
+    ensures ok { HasCleanDisk (state S.Store tx.new.conn.now) → IfOk result (λ read. IsReadOf (life_of (stored (state S.Store tx.old.conn.now)) instance.now) [] ask.now read) }
+    ensures same { HasCleanDisk (state S.Store tx.new.conn.now) → OnOk result (IsUnchanged (state S.Store tx.old.conn.now) (state S.Store tx.new.conn.now)) }
+    ensures shows { OnOk result (ShowsRecords (state S.Store tx.new.conn.now)) }
+    ensures kept { HasCleanDisk (state S.Store tx.new.conn.now) → IsTrue (state S.Store tx.old.conn.now).in_transaction → KeepsCommit (state S.Store tx.old.conn.now) (state S.Store tx.new.conn.now) }
+    ensures survives { Survives (state S.Store tx.old.conn.now) (state S.Store tx.new.conn.now) (λ _. ⊥) }
+{
+    let (row, last) = read_standing(tx, instance)?;
+    let asked = read_asked(tx, alloc, instance, ask)?;
+    Ok(Read {
+        row,
+        last,
+        binding: asked.binding,
+        named: asked.named,
+        subject_last: asked.subject_last,
+        bound: asked.bound,
+        listing: Vec::new(alloc),
+    })
+}
+
+/// The view for an ask that names the instance.
+#[tactic(auto, using(crate::proofs::AskLemmas::ready_shows))]
+pub(crate) fn view_of_instance<S: Alter>(
+    conn: &mut Connection<S>,
+    alloc: Global,
+    instance: &str,
+    ask: &Ask,
+) -> Result<View, StoreFault>
+    requires { IsReady (state S.Store conn.old) }
+    ensures ready { IsReady (state S.Store conn.new) }
+    ensures ok { HasCleanDisk (state S.Store conn.new) → instance_in ask.now ≡ Some instance.now → IfOk result (λ view. facts view ≡ view_of (stored (state S.Store conn.old)) ask.now) }
+    ensures same { HasCleanDisk (state S.Store conn.new) → IsTrue (state S.Store conn.new).is_open → (state S.Store conn.new).now ≡ (state S.Store conn.old).now }
+    ensures crash { Survives (state S.Store conn.old) (state S.Store conn.new) (λ _. ⊥) }
+{
+    let mut tx = conn.transaction();
+    let read = read_for(&mut tx, alloc, instance, ask)?;
+    tx.rollback();
+    Ok(view_by(read))
+}
+
+fn view_of_listing(listing: Vec<(Text, Order)>) -> View
+    ensures { facts result ≡ listed_facts listing.items }
+{
+    View {
+        standing: None,
+        last: None,
+        binding: None,
+        named: None,
+        subject_last: None,
+        count: 0,
+        bound: false,
+        listing,
+    }
+}
+
+/// The id after which the listing begins.
+fn listed_after(orders: &Orders) -> &str
+    ensures { result.now ≡ unwrap_or orders.now.after [] }
+{
+    match &orders.after {
+        Some(after) => after.as_str(),
+        None => "",
+    }
+}
+
+fn view_of_running<S: Alter>(
+    conn: &mut Connection<S>,
+    alloc: Global,
+    orders: &Orders,
+) -> Result<View, StoreFault>
+    requires { IsReady (state S.Store conn.old) }
+    ensures ready { IsReady (state S.Store conn.new) }
+    ensures ok { HasCleanDisk (state S.Store conn.new) → IfOk result (λ view. facts view ≡ view_of (stored (state S.Store conn.old)) (asks.Orders orders.now)) }
+    ensures same { HasCleanDisk (state S.Store conn.new) → IsTrue (state S.Store conn.new).is_open → (state S.Store conn.new).now ≡ (state S.Store conn.old).now }
+    ensures crash { Survives (state S.Store conn.old) (state S.Store conn.new) (λ _. ⊥) }
+{
+    let rows = read_running(conn, listed_after(orders), LISTED)?;
+    let listing = entries_in(alloc, &rows)?;
+    Ok(view_of_listing(listing))
+}
+
+/// The view for an ask that names no instance.
+pub(crate) fn view_without_instance<S: Alter>(
+    conn: &mut Connection<S>,
+    alloc: Global,
+    ask: &Ask,
+) -> Result<View, StoreFault>
+    requires { IsReady (state S.Store conn.old) }
+    ensures ready { IsReady (state S.Store conn.new) }
+    ensures ok { HasCleanDisk (state S.Store conn.new) → instance_in ask.now ≡ None → IfOk result (λ view. facts view ≡ view_of (stored (state S.Store conn.old)) ask.now) }
+    ensures same { HasCleanDisk (state S.Store conn.new) → IsTrue (state S.Store conn.new).is_open → (state S.Store conn.new).now ≡ (state S.Store conn.old).now }
+    ensures crash { Survives (state S.Store conn.old) (state S.Store conn.new) (λ _. ⊥) }
+{
+    match ask {
+        Ask::Orders(orders) => view_of_running(conn, alloc, orders),
+        Ask::Catalog
+        | Ask::Provision(_)
+        | Ask::Fetch(_)
+        | Ask::Update(_)
+        | Ask::Deprovision(_)
+        | Ask::InstanceOp(_)
+        | Ask::Bind(_)
+        | Ask::FetchBinding(_)
+        | Ask::Unbind(_)
+        | Ask::BindingOp(_)
+        | Ask::Report(_) => Ok(view_of_listing(Vec::new(alloc))),
+    }
+}
