@@ -3,3 +3,5 @@ mod LoopLemmas
 mod HoldLemmas
 mod RunsLemmas
 mod TextLemmas
+mod StepLemmas
+mod HandleLemmas

@@ -6,10 +6,13 @@ use Rattle.osb_machine.specs.declared.step.Answer as code
 use Rattle.osb_catalog.specs.Rules as catalog
 use Rattle.osb_broker.specs.Machine.{Answer}
 use Rattle.osb_orders.specs.Lives.{Lives}
+use Rattle.sqlite.specs.Held.{state}
+use Rattle.sqlite.specs.Steps.{over_memory}
+use Rattle.osb_records.specs.Steps.{stored}
 
--- the lives of all instances
-abbrev pub lives_of : Broker → Lives
-lives_of broker = broker.lives
+-- the lives of all instances, as its records store them
+unfoldable pub lives_of : Broker → Lives
+lives_of broker = stored (state over_memory broker.records)
 
 -- how many requests of a connection it takes
 abbrev pub most_of : Broker → ℕ

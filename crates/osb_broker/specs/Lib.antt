@@ -6,5 +6,6 @@ pub mod Answering
 pub mod Faults
 pub mod Steps
 pub mod Kept
+pub mod Prepared
 pub mod Room
 pub mod Laws

@@ -1,104 +1,157 @@
 //! The broker.
 
-ghost use Rattle.std.specs.Prelude.{◌≡◌, ◌≤◌, true, false, IfOk, OnOk, OnErr, Ok};
-ghost use Rattle.std.specs.FinMap.{empty};
+ghost use Rattle.std.specs.Prelude.{◌≡◌, ◌≢◌, ◌≤◌, true, false, IfOk, OnOk, OnErr, None, Ok};
+ghost use Rattle.sqlite.specs.Held.{state};
+ghost use Rattle.sqlite.specs.Steps.{over_memory};
 ghost use Rattle.osb_frames.specs.Steps.{message};
 ghost use Rattle.osb_replies.specs.Parts.{parts};
 ghost use Rattle.osb_catalog.specs.Rules as catalog;
+ghost use Rattle.osb_catalog.specs.Sound.{AreSound};
 ghost use Rattle.osb_asks.specs.Asks.{ask_of, is_early};
-ghost use Rattle.osb_asks.specs.Subjects.{instance_of};
-ghost use Rattle.osb_orders.specs.Changed.{after_change};
+ghost use Rattle.osb_asks.specs.Worded.{IsWorded};
+ghost use Rattle.osb_orders.specs.Lives.{Lives, life_of};
+ghost use Rattle.osb_orders.specs.Facts.{facts, view_of};
+ghost use Rattle.osb_orders.specs.Changed.{lives_changed};
+ghost use Rattle.osb_orders.specs.IsLife.{IsLives};
+ghost use Rattle.osb_records.specs.Commit.{FinishesLast};
+ghost use Rattle.osb_records.specs.Steps.{stored};
 ghost use Rattle.osb_machine.specs.Machine.{answer_to};
 ghost use Rattle.osb_machine.specs.Steps.{reaction};
-ghost use Rattle.osb_broker.specs.Machine.{Handled};
+ghost use Rattle.osb_broker.specs.Machine.{Answered, Handled};
 ghost use Rattle.osb_broker.specs.Steps.{step_of, step_for, machine};
+ghost use Rattle.osb_broker.specs.Prepared.{settled, IsSettleable, Prepares};
 
-use crate::answer::fault_answer;
+use crate::answer::{fault_answer, reply_to};
+use crate::prepared::{Pending, Prepared, pending_for};
 use osb_asks::{Ask, AskFault, read_ask};
 use osb_catalog::Settings;
 use osb_frames::Request;
 use osb_machine::{Answer, Step, decide};
-use osb_orders::{Change, PlainLives};
+use osb_orders::{Change, View};
+use osb_records::{Records, StoreFault, memory};
 use osb_replies::{Body, REFUSED, Reply, Status};
+use sqlite::MemStore;
 use std::alloc::{AllocError, Global};
 
-/// The broker: the settings that it was given, the lives of all instances, and how many requests a
-/// connection may have.
+/// The broker: the settings that it was given, the records of all instances, and how many requests
+/// a connection may have.
 #[derive(Drop)]
 pub struct Broker<'s> {
     alloc: Global,
     settings: &'s Settings,
-    lives: PlainLives,
+    records: Records<MemStore>,
     pub(crate) per_connection: u32,
+}
+
+/// Settings that were accepted are sound. It takes no memory.
+fn look_at(settings: &Settings)
+    ensures { AreSound (catalog.rules_of settings.now) }
+{
+    let _ = settings.order_limit();
+}
+
+/// What the table has for an ask by the facts of a view, for all lives that have it.
+fn decide_by<'s>(
+    alloc: Global,
+    settings: &'s Settings,
+    view: View,
+    ask: &Ask,
+) -> Result<Step<'s>, AllocError>
+    ensures { IfOk result (λ step. (lives : Lives) → facts view ≡ view_of lives ask.now → reaction step ≡ answer_to (catalog.rules_of settings.now) lives ask.now) }
+{
+    decide(alloc, settings, &view, ask)
 }
 
 impl<'s> Broker<'s> {
     ghost use Rattle.osb_broker.specs.Kept.{lives_of, most_of, rules_of, answer_parts};
 
-    /// A broker over these settings that has no orders yet, and takes up to `per_connection`
-    /// requests of a connection. It takes no memory.
-    pub fn new(alloc: Global, settings: &'s Settings, per_connection: u32) -> Broker<'s>
+    /// A broker over these settings and records, which takes up to `per_connection` requests of a
+    /// connection. It takes no memory.
+    #[tactic(auto, unfolding(crate::specs::Kept::lives_of))]
+    pub fn new(
+        alloc: Global,
+        settings: &'s Settings,
+        records: Records<MemStore>,
+        per_connection: u32,
+    ) -> Broker<'s>
         requires some { 1 ≤ per_connection }
         requires few { per_connection ≤ 1000 }
-        ensures lives { lives_of result ≡ empty }
+        ensures lives { lives_of result ≡ stored (state over_memory records) }
         ensures most { most_of result ≡ per_connection }
         ensures rules { rules_of result ≡ catalog.rules_of settings.now }
     {
         Broker {
             alloc,
             settings,
-            lives: PlainLives::new(alloc),
+            records,
             per_connection,
         }
     }
 
-    /// Makes the change to the life that the ask names. Where memory is refused, the lives stay.
-    fn change(&mut self, ask: &Ask, change: Change) -> Result<(), AllocError>
-        ensures ok { OnOk result (lives_of self.new ≡ after_change change (lives_of self.old) (instance_of ask.now)) }
-        ensures err { OnErr result (lives_of self.new ≡ lives_of self.old) }
+    /// The records, as the last reply left them. It takes no memory.
+    #[tactic(auto, unfolding(crate::specs::Kept::lives_of))]
+    pub fn into_records(self) -> Records<MemStore>
+        ensures { stored (state over_memory result) ≡ lives_of self.entry }
+    {
+        self.records
+    }
+
+    /// The facts that an ask needs.
+    #[tactic(auto, unfolding(crate::specs::Kept::lives_of))]
+    fn view(&mut self, ask: &Ask) -> Result<View, AllocError>
+        ensures ok { IfOk result (λ view. facts view ≡ view_of (lives_of self.old) ask.now) }
+        ensures same { lives_of self.new ≡ lives_of self.old }
+        ensures whole { IsLives (lives_of self.old) }
         ensures most { most_of self.new ≡ most_of self.old }
         ensures rules { rules_of self.new ≡ rules_of self.old }
     {
-        match ask.instance() {
-            Some(instance) => self.lives.apply(self.alloc, instance.as_str(), change),
-            None => Ok(()),
+        match memory::view(&mut self.records, self.alloc, ask) {
+            Ok(view) => Ok(view),
+            Err(StoreFault::Refused) => Err(AllocError),
         }
     }
 
     /// What the table has for an ask.
-    fn decided(&self, ask: &Ask) -> Result<Step<'s>, AllocError>
-        ensures { IfOk result (λ step. reaction step ≡ answer_to (rules_of self.now) (lives_of self.now) ask.now) }
-    {
-        let view = self.lives.view(self.alloc, ask)?;
-        decide(self.alloc, self.settings, &view, ask)
-    }
-
-    /// Takes the machine's step for an ask. Where memory is refused, the lives stay.
-    fn step(&mut self, ask: &Ask) -> Result<Answer<'s>, AllocError>
-        ensures ok { IfOk result (λ answer.
-            (answer_parts answer, lives_of self.new) ≡ step_of (rules_of self.old) (lives_of self.old) ask.now) }
-        ensures err { OnErr result (lives_of self.new ≡ lives_of self.old) }
+    fn decided(&mut self, ask: &Ask) -> Result<Step<'s>, AllocError>
+        ensures ok { IfOk result (λ step. reaction step ≡ answer_to (rules_of self.old) (lives_of self.old) ask.now) }
+        ensures same { lives_of self.new ≡ lives_of self.old }
+        ensures whole { IsLives (lives_of self.old) }
         ensures most { most_of self.new ≡ most_of self.old }
         ensures rules { rules_of self.new ≡ rules_of self.old }
     {
-        let Step { answer, change } = self.decided(ask)?;
-        self.change(ask, change)?;
-        Ok(answer)
+        let view = self.view(ask)?;
+        decide_by(self.alloc, self.settings, view, ask)
     }
 
-    /// The answer to an ask. Where memory is refused, the lives stay; the catalog needs none.
-    fn answer(&mut self, ask: &Ask) -> Result<Answer<'s>, AllocError>
-        ensures ok { IfOk result (λ answer.
-            (answer_parts answer, lives_of self.new) ≡ step_of (rules_of self.old) (lives_of self.old) ask.now) }
-        ensures err { OnErr result ((is_early (Ok ask.now) ≡ false) × (lives_of self.new ≡ lives_of self.old)) }
+    /// The machine's step for an ask, up to its change.
+    fn step(&mut self, ask: &Ask) -> Result<Prepared<'s>, AllocError>
+        requires { IsWorded ask.now }
+        ensures ok { IfOk result (λ prepared. Prepares (lives_of self.old) prepared (step_of (rules_of self.old) (lives_of self.old) ask.now)) }
+        ensures same { lives_of self.new ≡ lives_of self.old }
+        ensures most { most_of self.new ≡ most_of self.old }
+        ensures rules { rules_of self.new ≡ rules_of self.old }
+    {
+        look_at(self.settings);
+        let Step { answer, change } = self.decided(ask)?;
+        let pending = pending_for(ask, change)?;
+        Ok(Prepared { answer, pending })
+    }
+
+    /// The answer to an ask, up to its change. The catalog takes no memory and no view.
+    fn asked(&mut self, ask: &Ask) -> Result<Prepared<'s>, AllocError>
+        requires { IsWorded ask.now }
+        ensures ok { IfOk result (λ prepared. Prepares (lives_of self.old) prepared (step_of (rules_of self.old) (lives_of self.old) ask.now)) }
+        ensures quiet { IfOk result (λ prepared. is_early (Ok ask.now) ≡ true → prepared.pending ≡ None) }
+        ensures late { OnErr result (is_early (Ok ask.now) ≡ false) }
+        ensures same { lives_of self.new ≡ lives_of self.old }
         ensures most { most_of self.new ≡ most_of self.old }
         ensures rules { rules_of self.new ≡ rules_of self.old }
     {
         match ask {
-            Ask::Catalog => Ok(Answer {
+            Ask::Catalog => Ok(Prepared::quiet(Answer {
                 status: Status::Ok,
                 body: Body::Lent(self.settings.catalog_text()),
-            }),
+            })),
             Ask::Provision(_)
             | Ask::Fetch(_)
             | Ask::Update(_)
@@ -113,20 +166,68 @@ impl<'s> Broker<'s> {
         }
     }
 
-    /// The answer to a request: to its ask, or to the fault for which it has none.
-    fn answered(&mut self, request: &Request<'_>) -> Result<Answer<'s>, AllocError>
-        ensures ok { IfOk result (λ answer.
-            (answer_parts answer, lives_of self.new) ≡ step_for (rules_of self.old) (lives_of self.old) (ask_of (rules_of self.old) (message request.now))) }
-        ensures err { OnErr result ((is_early (ask_of (rules_of self.old) (message request.now)) ≡ false)
-            × (lives_of self.new ≡ lives_of self.old)) }
+    /// The answer to a request, to its ask or to the fault for which it has none, up to its change.
+    fn prepared(&mut self, request: &Request<'_>) -> Result<Prepared<'s>, AllocError>
+        ensures ok { IfOk result (λ prepared. Prepares (lives_of self.old) prepared
+            (step_for (rules_of self.old) (lives_of self.old) (ask_of (rules_of self.old) (message request.now)))) }
+        ensures quiet { IfOk result (λ prepared.
+            is_early (ask_of (rules_of self.old) (message request.now)) ≡ true → prepared.pending ≡ None) }
+        ensures late { OnErr result (is_early (ask_of (rules_of self.old) (message request.now)) ≡ false) }
+        ensures same { lives_of self.new ≡ lives_of self.old }
         ensures most { most_of self.new ≡ most_of self.old }
         ensures rules { rules_of self.new ≡ rules_of self.old }
     {
         match read_ask(self.alloc, request, self.settings) {
-            Ok(ask) => self.answer(&ask),
+            Ok(ask) => self.asked(&ask),
             Err(AskFault::Memory) => Err(AllocError),
-            Err(fault) => Ok(fault_answer(fault)),
+            Err(fault) => Ok(Prepared::quiet(fault_answer(fault))),
         }
+    }
+
+    /// Makes a change to the life of an instance.
+    #[tactic(auto, unfolding(crate::specs::Kept::lives_of))]
+    fn commit(&mut self, instance: &str, change: &Change) -> Result<(), AllocError>
+        requires whole { IsLives (lives_changed change.now instance.now (lives_of self.old)) }
+        requires finishes { FinishesLast (life_of (lives_of self.old) instance.now) change.now }
+        ensures ok { OnOk result (lives_of self.new ≡ lives_changed change.now instance.now (lives_of self.old)) }
+        ensures err { OnErr result (lives_of self.new ≡ lives_of self.old) }
+        ensures most { most_of self.new ≡ most_of self.old }
+        ensures rules { rules_of self.new ≡ rules_of self.old }
+    {
+        match memory::commit(&mut self.records, instance, change) {
+            Ok(()) => Ok(()),
+            Err(StoreFault::Refused) => Err(AllocError),
+        }
+    }
+
+    /// Makes the change that is pending. Where the records refuse it, the lives stay.
+    fn settle(&mut self, pending: &Option<Pending>) -> Result<(), AllocError>
+        requires { IsSettleable pending.now (lives_of self.old) }
+        ensures ok { OnOk result (lives_of self.new ≡ settled pending.now (lives_of self.old)) }
+        ensures err { OnErr result ((pending.now ≢ None) × (lives_of self.new ≡ lives_of self.old)) }
+        ensures most { most_of self.new ≡ most_of self.old }
+        ensures rules { rules_of self.new ≡ rules_of self.old }
+    {
+        match pending {
+            Some(pending) => self.commit(pending.instance.as_str(), &pending.change),
+            None => Ok(()),
+        }
+    }
+
+    /// The reply to a request, once its change is made.
+    fn replied<'a>(&mut self, request: &Request<'a>, last: bool) -> Result<Reply<'a>, AllocError>
+    where
+        's: 'a,
+        ensures ok { IfOk result (λ reply. Answered (machine (rules_of self.old)) (message request.now) last false (lives_of self.old) (parts reply) (lives_of self.new)) }
+        ensures late { OnErr result (is_early (ask_of (rules_of self.old) (message request.now)) ≡ false) }
+        ensures err { OnErr result (lives_of self.new ≡ lives_of self.old) }
+        ensures most { most_of self.new ≡ most_of self.old }
+        ensures rules { rules_of self.new ≡ rules_of self.old }
+    {
+        let Prepared { answer, pending } = self.prepared(request)?;
+        let reply = reply_to(request, last, answer);
+        self.settle(&pending)?;
+        Ok(reply)
     }
 
     /// Answers a request, by one step of the machine. `last` says that no further request of its
@@ -140,13 +241,8 @@ impl<'s> Broker<'s> {
         ensures most { most_of self.new ≡ most_of self.old }
         ensures rules { rules_of self.new ≡ rules_of self.old }
     {
-        match self.answered(request) {
-            Ok(answer) => Reply {
-                status: answer.status,
-                body: answer.body,
-                echo: request.field(b"x-broker-api-request-identity"),
-                close: request.closes() || last,
-            },
+        match self.replied(request, last) {
+            Ok(reply) => reply,
             Err(_) => REFUSED,
         }
     }

@@ -10,6 +10,7 @@ mod broker;
 mod buffer;
 mod fault;
 mod laws;
+mod prepared;
 mod refuse;
 mod room;
 mod serve;

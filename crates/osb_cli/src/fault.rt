@@ -5,6 +5,7 @@ ghost use Rattle.std.specs.Prelude.{◌≤◌};
 use itoa::Buffer;
 use osb_catalog::SettingsFault;
 use osb_frames::{Sink, send_all};
+use osb_records::StoreFault;
 use std::alloc::AllocError;
 
 /// Why a command ends with another status than 0.
@@ -16,6 +17,8 @@ pub(crate) enum Fault<'a> {
     TooLarge(&'a str),
     /// Memory was refused.
     OutOfMemory,
+    /// The database refused.
+    Database,
     /// Standard output doesn't take what is written.
     CannotWrite,
     /// Connections can't be taken at that address.
@@ -36,6 +39,17 @@ impl From<AllocError> for Fault<'_> {
 
     fn from(_error: AllocError) -> Self {
         Fault::OutOfMemory
+    }
+}
+
+impl From<StoreFault> for Fault<'_> {
+    ghost use Rattle.std.specs.Prelude.{◌≡◌};
+    ghost use Rattle.osb_cli.specs.declared.fault.Fault.TheVariants.{Database};
+
+    ghost from_gives = { λ _ fault. fault ≡ Database };
+
+    fn from(_error: StoreFault) -> Self {
+        Fault::Database
     }
 }
 
@@ -78,6 +92,7 @@ impl Fault<'_> {
             Fault::CannotRead(_)
             | Fault::TooLarge(_)
             | Fault::OutOfMemory
+            | Fault::Database
             | Fault::CannotWrite
             | Fault::CannotListen(_)
             | Fault::CannotAccept => 1,
@@ -92,6 +107,7 @@ impl Fault<'_> {
             Fault::CannotRead(file) => say(errors, &["osb-broker: cannot read ", file, "\n"]),
             Fault::TooLarge(file) => say(errors, &["osb-broker: too large ", file, "\n"]),
             Fault::OutOfMemory => say(errors, &["osb-broker: out of memory\n"]),
+            Fault::Database => say(errors, &["database: 1 Refused\n"]),
             Fault::CannotWrite => say(errors, &["osb-broker: cannot write\n"]),
             Fault::CannotListen(address) => say(
                 errors,

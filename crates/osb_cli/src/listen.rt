@@ -5,6 +5,7 @@ use crate::settings::read_settings;
 use crate::words::Listen;
 use osb_broker::{Broker, Buffer, ServeFault};
 use osb_frames::{Counted, Limits, Sink, send_all};
+use osb_records::open_memory;
 use std::io::Read;
 use std::net::{Shutdown, SocketAddr, TcpListener, TcpStream};
 use std::time::Duration;
@@ -101,7 +102,13 @@ pub(crate) fn listen<'a, W: Sink, E: Sink>(
     errors: &mut E,
 ) -> Result<(), Fault<'a>> {
     let settings = read_settings(rt, asked.settings)?;
-    let mut broker = Broker::new(rt.alloc(), &settings, asked.per_connection.number());
+    let records = open_memory(rt.alloc())?;
+    let mut broker = Broker::new(
+        rt.alloc(),
+        &settings,
+        records,
+        asked.per_connection.number(),
+    );
     let mut buffer = Buffer::new(rt.alloc(), &Limits::STANDARD)?;
     let listener = listen_at(rt, asked.address)?;
     tell_listening(asked.address, output)?;

@@ -10,6 +10,7 @@ use crate::per_connection::PerConnection;
 use osb_broker::{Broker, Buffer, ServeFault};
 use osb_catalog::Settings;
 use osb_frames::{Counted, Limits, Sink, Source};
+use osb_records::open_memory;
 use std::alloc::Global;
 
 /// Serves the bytes as one connection: what is written is exactly the texts of that connection,
@@ -24,7 +25,8 @@ fn serve_bytes<W: Sink>(
 ) -> Result<(), Fault<'static>>
     ensures { OnOk result (IsReplayed (rules_of settings.now) per_connection.number limits.now bytes.now (W.taken output.old) (W.taken output.new)) }
 {
-    let mut broker = Broker::new(alloc, settings, per_connection.number());
+    let records = open_memory(alloc)?;
+    let mut broker = Broker::new(alloc, settings, records, per_connection.number());
     let mut buffer = Buffer::new(alloc, limits)?;
     let mut source = Counted::new(bytes);
     match broker.serve(&mut buffer, &mut source, output) {

@@ -8,6 +8,7 @@ ghost use Rattle.osb_orders.specs.Facts.{facts, view_of};
 ghost use Rattle.osb_orders.specs.Listing.{listing};
 ghost use Rattle.osb_orders.specs.Changed.{lives_changed};
 ghost use Rattle.osb_orders.specs.IsLife.{IsLives};
+ghost use Rattle.osb_orders.specs.Facts.{facts, view_of};
 ghost use Rattle.osb_records.specs.Steps.{stored};
 ghost use Rattle.osb_records.specs.Commit.{FinishesLast};
 
@@ -44,11 +45,13 @@ pub fn running(
     records.running(alloc, after, limit)
 }
 
-/// As `Records::view`.
+/// As `Records::view`; and the lives are well formed.
 pub fn view(records: &mut Records<MemStore>, alloc: Global, ask: &Ask) -> Result<View, StoreFault>
     ensures ok { IfOk result (λ view. facts view ≡ view_of (stored (state over_memory records.old)) ask.now) }
     ensures same { stored (state over_memory records.new) ≡ stored (state over_memory records.old) }
+    ensures whole { IsLives (stored (state over_memory records.new)) }
 {
+    records.are_whole();
     records.view(alloc, ask)
 }
 

@@ -56,6 +56,13 @@ pub fn open_memory(alloc: Global) -> Result<Records<MemStore>, StoreFault>
 }
 
 impl<S: Alter> Records<S> {
+    /// The lives are well formed. It does nothing when it runs.
+    pub fn are_whole(&self)
+        ensures { HasCleanDisk (state S.Store self.now) → IsTrue (state S.Store self.now).is_open → IsLives (stored (state S.Store self.now)) }
+    {
+        let _ = &self.conn;
+    }
+
     /// All orders of the instance.
     #[tactic(auto, using(crate::proofs::ReadLemmas::life_told))]
     pub fn life(&mut self, alloc: Global, instance: &str) -> Result<Vec<Order>, StoreFault>

@@ -5,6 +5,7 @@ ghost use Rattle.std.specs.Prelude.{◌≤◌};
 use super::{CATALOG_TEXT, NO_HEAD, answers, built_in, joined, served};
 use crate::Broker;
 use osb_catalog::Settings;
+use osb_records::open_memory;
 use std::alloc::Global;
 use std::test::Fail;
 
@@ -71,7 +72,7 @@ fn meets(
 /// otherwise.
 fn met(alloc: Global, fields: &str, exchanges: &[Exchange]) -> Result<usize, Fail> {
     let settings = built_in(alloc)?;
-    let mut broker = Broker::new(alloc, &settings, 1);
+    let mut broker = Broker::new(alloc, &settings, open_memory(alloc)?, 1);
     for (i, exchange) in exchanges.iter().enumerate() {
         if !meets(alloc, &mut broker, fields, *exchange)? {
             return Ok(i);
@@ -95,7 +96,7 @@ pub(super) fn conversed(
     settings: &Settings,
     exchanges: &[Exchange],
 ) -> Result<usize, Fail> {
-    let mut broker = Broker::new(alloc, settings, 1);
+    let mut broker = Broker::new(alloc, settings, open_memory(alloc)?, 1);
     for (i, exchange) in exchanges.iter().enumerate() {
         if !meets(alloc, &mut broker, fields_for(exchange.0), *exchange)? {
             return Ok(i);

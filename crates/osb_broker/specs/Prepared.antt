@@ -1,0 +1,33 @@
+-- An answer that is ready, before its change is made.
+use Rattle.std.specs.Prelude.{◌≡◌, ℕ, List, Option, None, Some}
+use Rattle.osb_orders.specs.declared.order.Change.{Change}
+use Rattle.osb_orders.specs.Lives.{Lives, life_of}
+use Rattle.osb_orders.specs.Changed.{lives_changed}
+use Rattle.osb_orders.specs.IsLife.{IsLives}
+use Rattle.osb_records.specs.Commit.{FinishesLast}
+use Rattle.osb_broker.specs.declared.prepared.Pending.{Pending}
+use Rattle.osb_broker.specs.declared.prepared.Prepared.{Prepared}
+use Rattle.osb_broker.specs.Machine.{Answer}
+use Rattle.osb_broker.specs.Kept.{answer_parts}
+
+-- the change of an ask that names an instance, or none
+abbrev pub pending_for : Option (List ℕ) → Change → Option Pending
+pending_for None change = None
+pending_for (Some id) change = Some (record { instance = id; change = change })
+
+-- the lives once the change is made
+abbrev pub settled : Option Pending → Lives → Lives
+settled None lives = lives
+settled (Some pending) lives = lives_changed pending.change pending.instance lives
+
+-- the change may be made: it leaves well-formed lives, and ends no order but the running last one
+abbrev pub IsSettleable : Option Pending → Lives → Type 0
+IsSettleable None lives = Unit {0}
+IsSettleable (Some pending) lives =
+    IsLives (lives_changed pending.change pending.instance lives) × FinishesLast (life_of lives pending.instance) pending.change
+
+-- the answer is that of the step; the change may be made, and leaves the lives of the step
+pub record Prepares (lives : Lives) (prepared : Prepared) (step : Answer × Lives) : Type 0 where
+  pub answer : answer_parts prepared.answer ≡ step.0
+  pub allowed : IsSettleable prepared.pending lives
+  pub lives_are : settled prepared.pending lives ≡ step.1
