@@ -8,7 +8,6 @@ ghost use Rattle.osb_orders.specs.Facts.{facts, view_of};
 ghost use Rattle.osb_orders.specs.Listing.{listing};
 ghost use Rattle.osb_orders.specs.Changed.{lives_changed};
 ghost use Rattle.osb_orders.specs.IsLife.{IsLives};
-ghost use Rattle.osb_orders.specs.Facts.{facts, view_of};
 ghost use Rattle.osb_records.specs.Steps.{stored};
 ghost use Rattle.osb_records.specs.Commit.{FinishesLast};
 
