@@ -36,7 +36,7 @@ use Rattle.osb_records.specs.Standing.{BindingsStand}
 use Rattle.osb_records.specs.Steps.{HasTables, Steps, content}
 use Rattle.osb_records.proofs.TestLemmas.{same_bytes, bytes_itself, bytes_back, text_itself}
 use Rattle.osb_records.proofs.SortLemmas.{binding_total}
-use Rattle.osb_records.proofs.StoresLemmas.{none_hit}
+use Rattle.osb_records.proofs.StoresLemmas.{none_changed, none_deleted}
 use Rattle.osb_records.proofs.LivesLemmas.{key_is, insert_other, filter_update}
 
 abbrev Kept : Type 0
@@ -250,13 +250,13 @@ module _ (id : List ℕ) (life : Life) (bindings : List BindingEntry) (rising : 
             ∙ filter-map (λ entry. not (hit entry)) (binding_entry id) (entries rows)
             ∙ ap (map (binding_entry id)) (filter_same (λ e. not (hit (binding_entry id e))) (λ e. not (eq_by_cmp by_bytes binding e.0)) (λ e. ap not (test_is id binding e ∙ sym (key_is binding e.0))) (entries rows))
             ∙ ap (map (binding_entry id)) (sym (entries_removed rows binding));
-        others = λ other differs. filters_swap (is_bound other) (λ entry. not (hit entry)) bindings ∙ (none_hit binding_cmp binding_total hit (λ entry. entry) (filter (is_bound other) bindings) (apart hit (bound_key id binding) other differs)).0;
+        others = λ other differs. filters_swap (is_bound other) (λ entry. not (hit entry)) bindings ∙ none_deleted hit (filter (is_bound other) bindings) (apart hit (bound_key id binding) other differs);
       }
 
   cleared : PutsBindings id empty bindings (delete_where (is_bound id) bindings)
   cleared = record {
     here = none_of (is_bound id) (λ entry. not (is_bound id entry)) (λ entry hit. ap not hit) bindings ∙ ap (map (binding_entry id)) (sym no_rows);
-    others = λ other differs. filters_swap (is_bound other) (λ entry. not (is_bound id entry)) bindings ∙ (none_hit binding_cmp binding_total (is_bound id) (λ entry. entry) (filter (is_bound other) bindings) (apart (is_bound id) (λ entry hit. hit) other differs)).0;
+    others = λ other differs. filters_swap (is_bound other) (λ entry. not (is_bound id entry)) bindings ∙ none_deleted (is_bound id) (filter (is_bound other) bindings) (apart (is_bound id) (λ entry hit. hit) other differs);
   }
 
   put_row : (binding : List ℕ) (row : BindingNow) (found : Option BindingNow) → found ≡ get rows binding → PutsBindings id (insert rows binding row) bindings (binding_put id binding row found bindings)
@@ -274,7 +274,7 @@ module _ (id : List ℕ) (life : Life) (bindings : List BindingEntry) (rising : 
             ∙ ap (update_where hit (with_binding row)) stands
             ∙ put_old id binding row (entries rows) (entries_sorted rows) (ap is_some (sym (get-entries rows binding) ∙ sym some))
             ∙ ap (map (binding_entry id)) (sym (entries-insert nat_list_cmp_total rows binding row));
-        others = λ other differs. filter_update (is_bound other) hit (with_binding row) (λ _. refl) bindings ∙ (none_hit binding_cmp binding_total hit (with_binding row) (filter (is_bound other) bindings) (apart hit (bound_key id binding) other differs)).1;
+        others = λ other differs. filter_update (is_bound other) hit (with_binding row) (λ _. refl) bindings ∙ none_changed hit (with_binding row) (filter (is_bound other) bindings) (apart hit (bound_key id binding) other differs);
       }
 
   -- the rows after an edit are those of the edited bindings

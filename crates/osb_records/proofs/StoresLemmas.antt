@@ -11,7 +11,7 @@ use Rattle.sqlite_trees.specs.View.{is_int}
 use Rattle.sqlite_trees.proofs.ListLemmas.{all-permutation}
 use Rattle.sqlite_rules.specs.Edit.{without_all, is_taken}
 use Rattle.sqlite_keyed.specs.Lists.{insert_sorted, delete_where, update_where}
-use Rattle.sqlite_keyed.proofs.ListLemmas.{all_kept, all_weaker, ascending-filter, ascending-map, ascending_weaker, filter-map, filter_none, filter_same, IsPermutation-filter}
+use Rattle.sqlite_keyed.proofs.ListLemmas.{all_kept, filter_all, all_weaker, ascending-filter, ascending-map, ascending_weaker, filter-map, filter_none, filter_same, IsPermutation-filter}
 use Rattle.osb_records.specs.Rows.{AreRows, Stores}
 use Rattle.osb_records.proofs.RowLemmas.{put_shows, left_shows, id_of}
 
@@ -22,8 +22,12 @@ module _ {E : Type 0} (hit : E → Bool) where
   all_hit [] = tt
   all_hit (e ∷ es) = elim (cases_Bool (hit e)) [ inl is ↦ rw is (is, all_hit es) | inr other ↦ rw other (all_hit es) ]
 
-  none_hit : (es : List E) → filter hit es ≡ [] → AllByRecursion (λ e. hit e ≡ false) es
-  none_hit es none = all_weaker _ _ (λ e never. false_from_ne_true (hit e) never) es (all_kept (λ _. ⊥) hit es (subst (AllByRecursion (λ _. ⊥)) (sym none) tt))
+  missed : (es : List E) → filter hit es ≡ [] → AllByRecursion (λ e. hit e ≡ false) es
+  missed es none = all_weaker _ _ (λ e never. false_from_ne_true (hit e) never) es (all_kept (λ _. ⊥) hit es (subst (AllByRecursion (λ _. ⊥)) (sym none) tt))
+
+  -- where none is hit, nothing goes
+  pub none_deleted : (es : List E) → filter hit es ≡ [] → delete_where hit es ≡ es
+  none_deleted es none = filter_all (λ e. not (hit e)) es (all_weaker _ _ (λ e misses. ap not misses) es (missed es none))
 
   module _ (change : E → E) where
     stays : (es : List E) → AllByRecursion (λ e. hit e ≡ false) es → update_where hit change es ≡ es
@@ -32,7 +36,7 @@ module _ {E : Type 0} (hit : E → Bool) where
 
     -- where none is hit, nothing changes
     pub none_changed : (es : List E) → filter hit es ≡ [] → update_where hit change es ≡ es
-    none_changed es none = stays es (none_hit es none)
+    none_changed es none = stays es (missed es none)
 
     -- where one is hit, the changed one stands beside the others
     pub one_changed : (es : List E) (e : E) → filter hit es ≡ e ∷ [] → IsPermutation (change e ∷ delete_where hit es) (update_where hit change es)
