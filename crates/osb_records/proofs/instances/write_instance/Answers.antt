@@ -1,13 +1,7 @@
-use Rattle.std.proofs.Common.{ap, subst, ◌≡◌, ◌∙◌, sym, Some}
+use Rattle.std.proofs.Common.{ap, ◌∙◌}
 use Rattle.sqlite.specs.Held.{state}
 use Rattle.sqlite.specs.Effect.{Database}
-use Rattle.osb_orders.specs.declared.order.Change.{Change}
-use Rattle.osb_orders.specs.Lives.{life_of}
-use Rattle.osb_orders.specs.Changed.{changed}
-use Rattle.osb_standing.specs.Rows.{row_of}
-use Rattle.osb_standing.specs.Written.{IsWritten}
 use Rattle.osb_records.specs.Stored.{instances_in}
-use Rattle.osb_records.specs.Steps.{stored}
 use Rattle.osb_records.proofs.StepLemmas.{clean_before}
 use Rattle.osb_records.proofs.PutLemmas.{written_stands}
 use Rattle.osb_records.proofs.instances.write_instance.Goals as goal
