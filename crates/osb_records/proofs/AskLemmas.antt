@@ -1,10 +1,10 @@
 -- The view for an ask.
-use Rattle.std.proofs.Common.{◌≡◌, ℕ, List, [], Some, None, Option, sym, ap, subst, refl, ◌∙◌}
+use Rattle.std.proofs.Common.{◌≡◌, ℕ, List, [], Some, None, sym, ap, subst, refl}
 use Rattle.sqlite.specs.State.{State}
 use Rattle.osb_asks.specs.declared.ask.Ask.{Ask}
 use Rattle.osb_asks.specs.declared.ask.Ask.TheVariants as the
 use Rattle.osb_orders.specs.declared.order.Order.{Order}
-use Rattle.osb_orders.specs.Facts.{Facts, view_of}
+use Rattle.osb_orders.specs.Facts.{view_of}
 use Rattle.osb_orders.specs.Life.{Life}
 use Rattle.osb_orders.specs.Lives.{Lives, life_of, named_life}
 use Rattle.osb_orders.specs.Named.{instance_in}
@@ -12,7 +12,7 @@ use Rattle.osb_orders.specs.Listing.{listing_for}
 use Rattle.osb_standing.specs.declared.read.Read.{Read}
 use Rattle.osb_standing.specs.Read.{IsReadOf, IsReadFor}
 use Rattle.osb_records.specs.Queries.{ShowsRecords, listed_facts}
-use Rattle.osb_records.specs.Steps.{IsReady, stored}
+use Rattle.osb_records.specs.Steps.{IsReady}
 
 pub ready_shows : (s : State) → IsReady s → ShowsRecords s
 ready_shows s ready clean live = record { tables = ready.tables clean live; lives = ready.lives clean live; standing = ready.standing clean live }

@@ -1,11 +1,10 @@
 -- What the statements do to the rows of bindings, and what the queries answer.
-use Rattle.std.proofs.Common.{◌≡◌, ℕ, ◌==◌, pos, List, [], ◌∷◌, length, map, filter, take, codes, bytes_eq, Bool, true, false, not, cond, ◌&&◌, ◌||◌, Some, None, Option, option_map, slice_get, Ok, Ordering, Less, Equal, Greater, nat_cmp, refl, sym, ap, subst, ◌∙◌, arith}
+use Rattle.std.proofs.Common.{◌≡◌, ℕ, ◌==◌, pos, List, [], ◌∷◌, length, map, filter, take, codes, bytes_eq, Bool, true, false, not, cond, ◌&&◌, ◌||◌, Some, option_map, slice_get, Ok, Ordering, Less, Equal, Greater, nat_cmp, refl, sym, ap, subst, ◌∙◌, arith}
 use Rattle.std.specs.List.{AllByRecursion, list_all, list_any}
 use Rattle.std.specs.Ordering.{is_eq, ordering_then}
 use Rattle.std.specs.Cmp.Lexicographic.{slice_cmp}
 use Rattle.std.proofs.lemmas.Bool.{and_parts}
 use Rattle.std.proofs.lemmas.Map.Text.{is_eq-slice_cmp}
-use Rattle.sqlite.specs.declared.types.Value.{Value}
 use Rattle.sqlite.specs.declared.types.Value.TheVariants.{Null, Int, Text}
 use Rattle.sqlite.specs.Order.{Row, column}
 use Rattle.sqlite.specs.Term.{eval_all, holds}
@@ -23,7 +22,7 @@ use Rattle.osb_orders.specs.declared.view.BindingNow.{BindingNow}
 use Rattle.osb_records.specs.Rows.{Stores}
 use Rattle.osb_records.specs.Tables.{binding_columns, record_schema}
 use Rattle.osb_records.specs.Instances.{InstanceEntry, instance_cells, instance_row, instance_cmp}
-use Rattle.osb_records.specs.Bindings.{BindingEntry, binding_entry, binding_now, binding_cells, binding_row, binding_cmp, binding_told, binding_phase_number, is_bound, is_binding}
+use Rattle.osb_records.specs.Bindings.{BindingEntry, binding_entry, binding_now, binding_cells, binding_row, binding_cmp, binding_phase_number, is_bound, is_binding}
 use Rattle.osb_records.specs.BindingRows.{binding_found, first_binding, with_binding}
 use Rattle.osb_records.specs.Stored.{Entry, entry_row, entry_cmp, order_cells, version_row, version_cells, entries_in, instances_in, bindings_in}
 use Rattle.osb_records.specs.Steps.{HasTables}

@@ -1,5 +1,5 @@
 -- What a change writes, and what stands after it.
-use Rattle.std.proofs.Common.{◌≡◌, ℕ, ◌+◌, ◌<◌, List, [], ◌∷◌, ◌++◌, length, Option, Some, None, refl, sym, ap, subst, ◌∙◌, arith}
+use Rattle.std.proofs.Common.{◌≡◌, ℕ, ◌+◌, List, [], ◌∷◌, ◌++◌, length, Some, refl, sym, ap, subst, ◌∙◌, arith}
 use Rattle.std.specs.Prelude.{IfSome}
 use Rattle.std.specs.List.{AllByRecursion}
 use Rattle.std.specs.Cmp.Lexicographic.{nat_list_cmp_total}
@@ -19,7 +19,7 @@ use Rattle.osb_orders.specs.IsLife.{IsNext, IsLifeAfter, IsWorded, IsLife, IsIns
 use Rattle.osb_orders.specs.Allowed.{IsFinishable}
 use Rattle.osb_standing.specs.Written.{order_written, IsWritten}
 use Rattle.osb_standing.proofs.ReadLemmas.{life_found}
-use Rattle.osb_records.specs.Stored.{Content, content_in, lives_stored, with_lives}
+use Rattle.osb_records.specs.Stored.{content_in, lives_stored, with_lives}
 use Rattle.osb_records.specs.Standing.{IsStanding}
 use Rattle.osb_records.specs.Steps.{Steps, Writes, stored, content}
 use Rattle.osb_records.proofs.TestLemmas.{bytes_itself}

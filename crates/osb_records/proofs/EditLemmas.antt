@@ -1,11 +1,11 @@
 -- What an edit makes of the rows of the bindings.
-use Rattle.std.proofs.Common.{◌≡◌, ℕ, ◌==◌, List, [], ◌∷◌, length, map, filter, bytes_eq, Bool, true, false, not, cond, ◌&&◌, true≢false, Some, None, Option, option_map, is_some, slice_get, Ok, Result, IsTrue, Ordering, Less, Equal, Greater, is_eq, is_gt, is_lt, T, refl, sym, ap, subst, ◌∙◌, arith, nat_cmp}
+use Rattle.std.proofs.Common.{◌≡◌, ℕ, List, [], ◌∷◌, length, map, filter, bytes_eq, Bool, true, false, not, cond, ◌&&◌, true≢false, Some, None, Option, option_map, is_some, slice_get, Ok, IsTrue, Ordering, Less, Equal, Greater, is_eq, is_gt, is_lt, T, refl, sym, ap, subst, ◌∙◌, arith, nat_cmp}
 use Rattle.std.specs.List.{AllByRecursion}
-use Rattle.std.specs.Ordering.{ordering_then, eq_by_cmp}
+use Rattle.std.specs.Ordering.{eq_by_cmp}
 use Rattle.std.specs.Cmp.{IsTotalOrder}
 use Rattle.std.proofs.lemmas.Map.Text.{is_eq-slice_cmp}
 use Rattle.std.specs.Cmp.Lexicographic.{slice_cmp, nat_list_cmp_total}
-use Rattle.std.specs.FinMap.{FinMap, empty, get, insert, remove, entries, entries_sorted, entries-insert, get-entries, get-remove, len-entries, len-empty, slice_cmp-IsAntisymmetric, nat_cmp-IsAntisymmetric}
+use Rattle.std.specs.FinMap.{empty, get, insert, remove, entries, entries_sorted, entries-insert, get-entries, get-remove, len-entries, len-empty, slice_cmp-IsAntisymmetric, nat_cmp-IsAntisymmetric}
 use Rattle.std.specs.FinMap.Entries.{find, put, by_order, below_all, is_sorted, where_key, find-where_key, is_sorted-where_key, same_entries}
 use Rattle.sqlite_trees.specs.Tree.{IsAscending}
 use Rattle.sqlite_keyed.specs.Lists.{insert_sorted, update_where, delete_where}
@@ -34,7 +34,7 @@ use Rattle.osb_records.specs.BindingRows.{binding_found, with_binding, binding_p
 use Rattle.osb_records.specs.Stored.{with_bindings, lives_stored, instances_in, bindings_in}
 use Rattle.osb_records.specs.Standing.{BindingsStand}
 use Rattle.osb_records.specs.Steps.{HasTables, Steps, content}
-use Rattle.osb_records.proofs.TestLemmas.{same_bytes, bytes_itself, bytes_back, text_itself}
+use Rattle.osb_records.proofs.TestLemmas.{same_bytes, bytes_itself, text_itself}
 use Rattle.osb_records.proofs.SortLemmas.{binding_total}
 use Rattle.osb_records.proofs.StoresLemmas.{none_changed, none_deleted}
 use Rattle.osb_records.proofs.LivesLemmas.{key_is, insert_other, filter_update}

@@ -1,12 +1,9 @@
 -- What the statements do to the rows of instances, and what the query answers.
-use Rattle.std.proofs.Common.{◌≡◌, ◌⊎◌, inl, inr, ℕ, pos, List, [], ◌∷◌, map, filter, codes, bytes_eq, Bool, true, false, cond, true≢false, Some, None, Option, Ok, Ordering, Less, Equal, nat_cmp, refl, sym, ap, subst, ◌∙◌, arith}
-use Rattle.std.specs.Prelude.{option_map, slice_get}
-use Rattle.std.specs.Option.{option_to_list}
+use Rattle.std.proofs.Common.{◌≡◌, ◌⊎◌, inl, inr, ℕ, pos, List, [], ◌∷◌, map, filter, codes, Bool, true, false, cond, Ok, Equal, nat_cmp, refl, sym, ap, subst, ◌∙◌, arith}
 use Rattle.std.specs.List.{AllByRecursion, list_all}
 use Rattle.std.specs.Ordering.{is_eq}
 use Rattle.std.specs.Cmp.Lexicographic.{slice_cmp}
 use Rattle.std.proofs.lemmas.Map.Text.{is_eq-slice_cmp}
-use Rattle.sqlite.specs.declared.types.Value.{Value}
 use Rattle.sqlite.specs.declared.types.Value.TheVariants.{Null, Int, Text}
 use Rattle.sqlite.specs.Order.{Row, column}
 use Rattle.sqlite.specs.Term.{eval_all, holds}
@@ -23,7 +20,7 @@ use Rattle.sqlite_keyed.specs.Lists.{insert_sorted, update_where}
 use Rattle.osb_standing.specs.declared.row.InstanceRow.{InstanceRow}
 use Rattle.osb_records.specs.Rows.{Stores}
 use Rattle.osb_records.specs.Tables.{instance_columns, record_schema}
-use Rattle.osb_records.specs.Instances.{InstanceEntry, instance_cmp, instance_row, instance_cells, instance_told, instance_row_told, is_instance, with_row, standing_number, attributes_shown, busy_number, first_told}
+use Rattle.osb_records.specs.Instances.{InstanceEntry, instance_cmp, instance_row, instance_cells, instance_row_told, is_instance, with_row, standing_number, attributes_shown, busy_number, first_told}
 use Rattle.osb_records.specs.Bindings.{BindingEntry, binding_cells, binding_row, binding_cmp}
 use Rattle.osb_records.specs.Stored.{Entry, entry_row, entry_cmp, order_cells, version_row, version_cells, entries_in, instances_in, bindings_in}
 use Rattle.osb_records.specs.Standing.{IsRowOf}
@@ -34,7 +31,7 @@ use Rattle.osb_records.proofs.SelectLemmas.{then_equal}
 use Rattle.osb_records.proofs.StatementLemmas.{insert_does, update_does}
 use Rattle.osb_records.proofs.StoresLemmas.{one_hit}
 use Rattle.osb_records.proofs.TableLemmas.{cast_int, insert_stores, update_stores}
-use Rattle.osb_records.proofs.TestLemmas.{same_text, and_true, same_bytes, bytes_itself, bytes_back, text_itself}
+use Rattle.osb_records.proofs.TestLemmas.{same_text, and_true, same_bytes, bytes_back, text_itself}
 use Rattle.osb_records.proofs.ChangeLemmas.{Gives}
 use Rattle.osb_records.proofs.Texts.{insert_instance, insert_instance_terms, insert_instance_is, update_instance, update_instance_query, update_instance_is, updated_cells, select_instance, select_instance_is, instance_cells_read, by_instance, every, is_at}
 

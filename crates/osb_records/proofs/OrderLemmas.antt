@@ -1,5 +1,5 @@
 -- What the queries for one order answer of a life.
-use Rattle.std.proofs.Common.{◌≡◌, ℕ, ◌==◌, pos, List, [], ◌∷◌, map, filter, take, find, Bool, true, false, not, cond, ◌&&◌, bytes_eq, Some, None, Option, option_map, slice_get, Less, refl, sym, ap, ◌∙◌}
+use Rattle.std.proofs.Common.{◌≡◌, ℕ, ◌==◌, pos, List, [], ◌∷◌, map, filter, take, Bool, true, false, not, cond, ◌&&◌, bytes_eq, Some, option_map, slice_get, refl, sym, ap, ◌∙◌}
 use Rattle.std.specs.List.{list_all}
 use Rattle.std.specs.Ordering.{nat_cmp, is_lt, is_gt, flip_args}
 use Rattle.std.proofs.lemmas.Cmp.{back_total}
@@ -21,7 +21,7 @@ use Rattle.osb_orders.specs.Orders.{kind_number, is_about_binding, is_a, is_of_i
 use Rattle.osb_orders.specs.Lives.{life_of}
 use Rattle.osb_orders.specs.Named.{order_numbered}
 use Rattle.osb_records.specs.Tables.{record_schema}
-use Rattle.osb_records.specs.Stored.{Entry, entry_row, entry_cmp, order_cells, order_told, entries_in, is_of, is_keyed, lives_in}
+use Rattle.osb_records.specs.Stored.{Entry, entry_row, entry_cmp, order_cells, entries_in, is_of, is_keyed}
 use Rattle.osb_records.specs.Steps.{HasTables, stored}
 use Rattle.osb_records.specs.Queries.{first_order}
 use Rattle.osb_records.proofs.TestLemmas.{truth_back, same_text, same_number, and_true, number_cmp, at_key}
@@ -30,7 +30,7 @@ use Rattle.osb_records.proofs.AnswerLemmas.{over, one_answer}
 use Rattle.osb_records.proofs.SelectLemmas.{by_both}
 use Rattle.osb_records.proofs.LivesLemmas.{life_in, life_of_lives}
 use Rattle.osb_records.proofs.BackLemmas.{back, stores_back, filter_back, first_back, last_map}
-use Rattle.osb_records.proofs.Texts.{all_cells, by_key, every, is_at}
+use Rattle.osb_records.proofs.Texts.{all_cells, by_key, every}
 use Rattle.osb_records.proofs.OrderTexts.{Reads, by_key_back, one, select_order, order_tests, select_order_is, select_creation, creation_tests, select_creation_is, select_of_instance, instance_tests, select_of_instance_is, select_of_binding, binding_tests, select_of_binding_is}
 
 -- ---- the first row

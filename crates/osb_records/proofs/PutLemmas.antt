@@ -1,12 +1,11 @@
 -- An instance gets a row, and the rows of the lives that it changes.
-use Rattle.std.proofs.Common.{◌≡◌, ℕ, List, [], ◌∷◌, ◌++◌, map, filter, bytes_eq, Bool, true, false, cond, true≢false, Option, Some, None, Less, IsTrue, refl, sym, ap, subst, ◌∙◌}
+use Rattle.std.proofs.Common.{◌≡◌, ℕ, List, [], ◌∷◌, ◌++◌, map, filter, bytes_eq, Bool, true, false, cond, true≢false, Option, Some, None, Less, refl, sym, ap, subst, ◌∙◌}
 use Rattle.std.specs.Prelude.{unwrap_or}
 use Rattle.std.specs.List.{AllByRecursion}
 use Rattle.std.specs.Option.{option_to_list}
-use Rattle.std.specs.Ordering.{nat_cmp}
-use Rattle.std.specs.Cmp.Lexicographic.{slice_cmp, nat_list_cmp_total}
+use Rattle.std.specs.Cmp.Lexicographic.{nat_list_cmp_total}
 use Rattle.std.specs.FinMap.{get, insert, get-insert}
-use Rattle.sqlite.specs.State.{State, IsUnchanged}
+use Rattle.sqlite.specs.State.{State}
 use Rattle.sqlite_trees.specs.Tree.{IsAscending}
 use Rattle.sqlite_keyed.specs.Lists.{insert_sorted, update_where}
 use Rattle.osb_orders.specs.declared.order.Order.{Order}
@@ -20,7 +19,7 @@ use Rattle.osb_standing.specs.Rows.{row_of}
 use Rattle.osb_standing.specs.Written.{IsWritten}
 use Rattle.osb_records.specs.Instances.{InstanceEntry, instance_cmp, is_instance, with_row}
 use Rattle.sqlite.specs.Tree.{Trees}
-use Rattle.osb_records.specs.Stored.{Content, with_instances, instances_in, lives_stored}
+use Rattle.osb_records.specs.Stored.{with_instances, instances_in, lives_stored}
 use Rattle.osb_records.specs.Standing.{IsRowOf, InstancesStand, Puts}
 use Rattle.osb_records.specs.Steps.{HasTables, Steps, PutsInstance, content}
 use Rattle.osb_records.proofs.TestLemmas.{same_bytes, bytes_itself, bytes_back}

@@ -1,6 +1,5 @@
 -- What stands of instances and bindings once an order is written.
-use Rattle.std.proofs.Common.{◌≡◌, ℕ, List, map, filter, bytes_eq, Bool, true, false, refl, sym, ap, subst, ◌∙◌}
-use Rattle.std.specs.FinMap.{entries}
+use Rattle.std.proofs.Common.{◌≡◌, ℕ, List, bytes_eq, Bool, true, false, refl, sym, subst, ◌∙◌}
 use Rattle.sqlite.specs.State.{State}
 use Rattle.osb_orders.specs.declared.order.Order.{Order}
 use Rattle.osb_orders.specs.declared.order.Change.{Change}
@@ -9,7 +8,7 @@ use Rattle.osb_orders.specs.Lives.{Lives, life_of}
 use Rattle.osb_orders.specs.Changed.{changed, lives_changed}
 use Rattle.osb_standing.specs.Rows.{bindings_of}
 use Rattle.osb_standing.specs.Written.{IsWritten}
-use Rattle.osb_records.specs.Bindings.{BindingEntry, binding_entry, is_bound}
+use Rattle.osb_records.specs.Bindings.{BindingEntry}
 use Rattle.osb_records.specs.BindingRows.{PutsBindings, FollowsOrder}
 use Rattle.osb_records.specs.Stored.{with_lives, with_instances}
 use Rattle.osb_records.specs.Standing.{BindingsStand, InstancesStand, AllBindingsStand, IsStanding}

@@ -1,5 +1,5 @@
 -- What is read of the rows is what the lives say.
-use Rattle.std.proofs.Common.{◌≡◌, ℕ, ◌+◌, ◌<◌, ◌==◌, List, [], ◌∷◌, map, filter, bytes_eq, Bool, true, false, not, cond, ◌||◌, Some, None, Option, Ok, Err, Result, IfOk, OnOk, IsTrue, refl, sym, ap, subst, ◌∙◌, arith}
+use Rattle.std.proofs.Common.{◌≡◌, ℕ, ◌+◌, ◌<◌, ◌==◌, List, [], ◌∷◌, map, filter, Bool, true, false, not, cond, ◌||◌, Some, None, Option, Ok, Err, Result, IfOk, OnOk, refl, sym, ap, ◌∙◌, arith}
 use Rattle.std.specs.List.{list_any}
 use Rattle.std.specs.Option.{option_to_list}
 use Rattle.std.specs.FinMap.{entries}

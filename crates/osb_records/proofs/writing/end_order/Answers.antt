@@ -1,6 +1,4 @@
-use Rattle.std.proofs.Common.{subst, ap}
 use Rattle.sqlite.specs.Held.{state}
-use Rattle.sqlite.specs.Effect.{Database}
 use Rattle.osb_orders.specs.declared.order.Change.TheVariants.{Finish}
 use Rattle.osb_records.specs.Steps.{stored}
 use Rattle.osb_records.proofs.StepLemmas.{clean_before}
