@@ -17,7 +17,6 @@ use Rattle.osb_machine.specs.Machine.{answer_to}
 use Rattle.osb_machine.specs.Steps.{reaction}
 use Rattle.osb_records.specs.Commit.{FinishesLast}
 use Rattle.osb_laws.proofs.MapLemmas.{steps_are_allowed, steps_keep_lives}
-use Rattle.osb_broker.specs.declared.prepared.Pending.{Pending}
 use Rattle.osb_broker.specs.declared.prepared.Prepared.{Prepared}
 use Rattle.osb_broker.specs.Prepared.{pending_for, settled, IsSettleable, Prepares}
 use Rattle.osb_broker.specs.Kept.{answer_parts}

@@ -1,5 +1,5 @@
 -- The broker's machine: it answers by the table of answers, from the lives of all instances.
-use Rattle.std.specs.Prelude.{not, Result, Ok, Err}
+use Rattle.std.specs.Prelude.{true, not, Result, Ok, Err}
 use Rattle.osb_catalog.specs.Rules.{Rules}
 use Rattle.osb_asks.specs.declared.ask.Ask.{Ask}
 use Rattle.osb_asks.specs.declared.ask_fault.AskFault.{AskFault}
@@ -30,3 +30,7 @@ machine rules = record {
   step = λ lives q. step_for rules lives (ask_of rules q);
   takes_memory = λ q. not (is_early (ask_of rules q));
 }
+
+-- the same where any reply may find no room
+abbrev pub crowded : Rules → Machine Lives
+crowded rules = record (machine rules) { takes_memory = λ q. true }

@@ -1,10 +1,11 @@
 //! The broker.
 
-ghost use Rattle.std.specs.Prelude.{◌≡◌, ◌≢◌, ◌≤◌, true, false, IfOk, OnOk, OnErr, None, Ok};
+ghost use Rattle.std.specs.Prelude.{◌≡◌, ◌≢◌, ◌≤◌, ◌+◌, ◌⊎◌, length, true, false, IfOk, OnOk, OnErr, None, Ok};
 ghost use Rattle.sqlite.specs.Held.{state};
 ghost use Rattle.sqlite.specs.Steps.{over_memory};
 ghost use Rattle.osb_frames.specs.Steps.{message};
-ghost use Rattle.osb_replies.specs.Parts.{parts};
+ghost use Rattle.osb_replies.specs.Parts.{parts, refused};
+ghost use Rattle.osb_replies.specs.Text.{reply_text};
 ghost use Rattle.osb_catalog.specs.Rules as catalog;
 ghost use Rattle.osb_catalog.specs.Sound.{AreSound};
 ghost use Rattle.osb_asks.specs.Asks.{ask_of, is_early};
@@ -18,11 +19,12 @@ ghost use Rattle.osb_records.specs.Steps.{stored};
 ghost use Rattle.osb_machine.specs.Machine.{answer_to};
 ghost use Rattle.osb_machine.specs.Steps.{reaction};
 ghost use Rattle.osb_broker.specs.Machine.{Answered, Handled};
-ghost use Rattle.osb_broker.specs.Steps.{step_of, step_for, machine};
+ghost use Rattle.osb_broker.specs.Steps.{step_of, step_for, machine, crowded};
 ghost use Rattle.osb_broker.specs.Prepared.{settled, IsSettleable, Prepares};
 
 use crate::answer::{fault_answer, reply_to};
 use crate::prepared::{Pending, Prepared, pending_for};
+use crate::rooms::{Room, make_room};
 use osb_asks::{Ask, AskFault, read_ask};
 use osb_catalog::Settings;
 use osb_frames::Request;
@@ -245,5 +247,70 @@ impl<'s> Broker<'s> {
             Ok(reply) => reply,
             Err(_) => REFUSED,
         }
+    }
+
+    /// The reply to a request, once there is room for it and `spare` bytes, and its change is made.
+    fn replied_in<'a, R: Room>(
+        &mut self,
+        request: &Request<'a>,
+        last: bool,
+        room: &mut R,
+        spare: usize,
+    ) -> Result<Reply<'a>, AllocError>
+    where
+        's: 'a,
+        ensures ok { IfOk result (λ reply. Answered (machine (rules_of self.old)) (message request.now) last false (lives_of self.old) (parts reply) (lives_of self.new)) }
+        ensures err { OnErr result (lives_of self.new ≡ lives_of self.old) }
+        ensures room { IfOk result (λ reply. length (reply_text (parts reply)) + spare ≤ R.free room.new) }
+        ensures spare { OnErr result (spare ≤ R.free room.old → spare ≤ R.free room.new) }
+        ensures most { most_of self.new ≡ most_of self.old }
+        ensures rules { rules_of self.new ≡ rules_of self.old }
+    {
+        let Prepared { answer, pending } = self.prepared(request)?;
+        let reply = reply_to(request, last, answer);
+        make_room(room, &reply, spare)?;
+        self.settle(&pending)?;
+        Ok(reply)
+    }
+
+    /// As `answer`, with room for `spare` bytes more. Where those were there, they are there still.
+    pub(crate) fn answer_in<'a, R: Room>(
+        &mut self,
+        request: &Request<'a>,
+        last: bool,
+        room: &mut R,
+        spare: usize,
+    ) -> Reply<'a>
+    where
+        's: 'a,
+        ensures handled { Handled (crowded (rules_of self.old)) (message request.now) last (lives_of self.old) (parts result) (lives_of self.new) }
+        ensures room { (parts result ≡ refused) ⊎ (length (reply_text (parts result)) + spare ≤ R.free room.new) }
+        ensures spare { spare ≤ R.free room.old → spare ≤ R.free room.new }
+        ensures most { most_of self.new ≡ most_of self.old }
+        ensures rules { rules_of self.new ≡ rules_of self.old }
+    {
+        match self.replied_in(request, last, room, spare) {
+            Ok(reply) => reply,
+            Err(_) => REFUSED,
+        }
+    }
+
+    /// Answers a request as [`Broker::handle`] does, once there is room for the reply: it is asked
+    /// for before the change is made, and nothing after the change can be refused. Where there is
+    /// no room the reply is the fixed 500 and the lives stay, whatever the request is.
+    pub fn answer<'a, R: Room>(
+        &mut self,
+        request: &Request<'a>,
+        last: bool,
+        room: &mut R,
+    ) -> Reply<'a>
+    where
+        's: 'a,
+        ensures handled { Handled (crowded (rules_of self.old)) (message request.now) last (lives_of self.old) (parts result) (lives_of self.new) }
+        ensures room { (parts result ≡ refused) ⊎ (length (reply_text (parts result)) ≤ R.free room.new) }
+        ensures most { most_of self.new ≡ most_of self.old }
+        ensures rules { rules_of self.new ≡ rules_of self.old }
+    {
+        self.answer_in(request, last, room, 0)
     }
 }

@@ -9,10 +9,11 @@ mod answer;
 mod broker;
 mod buffer;
 mod fault;
+mod filling;
 mod laws;
 mod prepared;
 mod refuse;
-mod room;
+mod rooms;
 mod serve;
 #[cfg(test)]
 mod tests;
@@ -21,3 +22,4 @@ pub use broker::Broker;
 pub use buffer::Buffer;
 pub use fault::ServeFault;
 pub use laws::{runs_go_on, texts_are_of_the_cut};
+pub use rooms::Room;

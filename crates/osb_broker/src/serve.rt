@@ -10,8 +10,8 @@ ghost use Rattle.osb_broker.specs.Serving.{HasCause, Gave, Looked, Outcome};
 use crate::broker::Broker;
 use crate::buffer::Buffer;
 use crate::fault::ServeFault;
+use crate::filling::{fill, shift};
 use crate::refuse::refuse;
-use crate::room::{fill, shift};
 use osb_frames::{Limits, Request, Sink, Source, Step, next};
 use osb_replies::{WriteFault, write_reply};
 
