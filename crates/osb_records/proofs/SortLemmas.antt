@@ -1,5 +1,5 @@
 -- The entries of trees are those that they hold.
-use Rattle.std.proofs.Common.{◌≡◌, ◌==◌, Bool, true, Option, None, Some, zero, suc, add-one, List, [], ◌∷◌, map, false, Ordering, Less, Equal, Greater, is_eq, is_lt, refl, sym, ap, subst, ◌∙◌, arith, IsPermutation, IsSorted}
+use Rattle.std.proofs.Common.{◌≡◌, ◌==◌, Bool, true, Option, None, Some, zero, suc, add-one, List, [], ◌∷◌, map, false, Ordering, Less, is_eq, is_lt, refl, sym, ap, subst, ◌∙◌, arith, IsPermutation, IsSorted}
 use Rattle.std.specs.Ordering.{ordering_reverse}
 use Rattle.std.specs.Cmp.{IsTotalOrder}
 use Rattle.std.proofs.lemmas.Cmp.{nat_list_cmp_total, nat_cmp_total, on_total, then_total}
