@@ -263,7 +263,7 @@ fn no_beginning_of_a_request_is_one(rt: HostRuntime) -> Result<(), Fail> {
     let alloc = rt.alloc();
     let settings = built_in(alloc)?;
     for length in 1..GET_CATALOG.len() {
-        let mut broker = Broker::new(alloc, &settings, 1);
+        let mut broker = Broker::new(alloc, &settings, open_memory(alloc)?, 1);
         let text = served(alloc, &mut broker, &GET_CATALOG[..length], 100_000)?;
         assert_eq!(rt; text.as_slice(), NO_HEAD);
     }
@@ -274,7 +274,7 @@ fn no_beginning_of_a_request_is_one(rt: HostRuntime) -> Result<(), Fail> {
 /// that read is made.
 fn answers_before_a_failure(alloc: Global, bytes: &[u8], text: &[u8]) -> Result<bool, Fail> {
     let settings = built_in(alloc)?;
-    let mut broker = Broker::new(alloc, &settings, 1);
+    let mut broker = Broker::new(alloc, &settings, open_memory(alloc)?, 1);
     let mut buffer = Buffer::new(alloc, &Limits::STANDARD)?;
     let mut source = Counted::new(Reader {
         bytes,
@@ -295,32 +295,37 @@ fn nothing_is_read_once_the_answer_stands(rt: HostRuntime) -> Result<(), Fail> {
     Ok(())
 }
 
+/// How many bytes a read gives, or a write takes, before one that fails.
+const PIECE: usize = 7;
+
 #[test]
 fn a_read_that_fails_leaves_whole_replies(rt: HostRuntime) -> Result<(), Fail> {
     let alloc = rt.alloc();
     let bytes = joined(alloc, &[PUT_I, PUT_I])?;
     let settings = built_in(alloc)?;
     let mut buffer = Buffer::new(alloc, &Limits::STANDARD)?;
-    for reads in 0..2 * PUT_I.len() {
+    // The last piece is the rest of both requests.
+    for reads in 0..bytes.len().div_ceil(PIECE) {
+        let first_is_whole = reads * PIECE >= PUT_I.len();
         let mut broker = Broker::new(alloc, &settings, open_memory(alloc)?, 2);
         let mut source = Counted::new(Reader {
             bytes: bytes.as_slice(),
-            piece: 1,
+            piece: PIECE,
             reads_before_failure: reads,
         });
         let mut sink = Counted::new(Vec::new(alloc));
         let result = broker.serve(&mut buffer, &mut source, &mut sink);
         assert_eq!(rt; result, Err(ServeFault::Read));
         let text = sink.into_inner();
-        let expected = if reads < PUT_I.len() {
-            b"".as_slice()
-        } else {
+        let expected = if first_is_whole {
             CREATED
+        } else {
+            b"".as_slice()
         };
         assert_eq!(rt; text.as_slice(), expected);
         // What is kept is what the written replies say.
         let later = served(alloc, &mut broker, PUT_I, 100)?;
-        assert_eq!(rt; later.starts_with(b"HTTP/1.1 200"), reads >= PUT_I.len());
+        assert_eq!(rt; later.starts_with(b"HTTP/1.1 200"), first_is_whole);
     }
     Ok(())
 }
@@ -332,7 +337,7 @@ fn a_write_that_fails_leaves_a_prefix(rt: HostRuntime) -> Result<(), Fail> {
     let text = joined(alloc, &[CREATED, KNOWN_LAST])?;
     let settings = built_in(alloc)?;
     let mut buffer = Buffer::new(alloc, &Limits::STANDARD)?;
-    for writes in 0..text.len() {
+    for writes in 0..text.len().div_ceil(PIECE) {
         for last in [Last::Fails, Last::TakesNothing] {
             let mut broker = Broker::new(alloc, &settings, open_memory(alloc)?, 2);
             let mut source = Counted::new(Reader {
@@ -342,7 +347,7 @@ fn a_write_that_fails_leaves_a_prefix(rt: HostRuntime) -> Result<(), Fail> {
             });
             let mut sink = Counted::new(Writer {
                 taken: Vec::new(alloc),
-                piece: 1,
+                piece: PIECE,
                 writes_before_last: writes,
                 last,
             });
@@ -350,7 +355,7 @@ fn a_write_that_fails_leaves_a_prefix(rt: HostRuntime) -> Result<(), Fail> {
             assert_eq!(rt; result, Err(ServeFault::Write));
             assert_eq!(rt;
                 Some(sink.into_inner().taken.as_slice()),
-                text.get(..writes)
+                text.get(..writes * PIECE)
             );
             // The first request's instance is kept, although its reply was cut.
             assert!(rt; served(alloc, &mut broker, PUT_I, 100)?.starts_with(b"HTTP/1.1 200"));

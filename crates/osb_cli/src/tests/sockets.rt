@@ -6,6 +6,7 @@ use crate::listen::{serve_listener, serve_stream};
 use osb_broker::{Broker, Buffer};
 use osb_catalog::{BUILT_IN, Settings};
 use osb_frames::Limits;
+use osb_records::open_memory;
 use std::net::{Shutdown, TcpListener, TcpStream};
 use std::time::Duration;
 
@@ -36,7 +37,7 @@ fn connected(rt: &HostRuntime, bytes: &[u8]) -> io::Result<(TcpStream, TcpStream
 fn told(rt: &HostRuntime, stream: &TcpStream) -> Result<Vec<u8>, Fail> {
     let alloc = rt.alloc();
     let settings = built_in(alloc)?;
-    let mut broker = Broker::new(alloc, &settings, 2);
+    let mut broker = Broker::new(alloc, &settings, open_memory(alloc)?, 2);
     let mut buffer = Buffer::new(alloc, &Limits::STANDARD)?;
     let mut errors = Counted::new(Vec::new(alloc));
     serve_stream(&mut broker, &mut buffer, stream, &mut errors);
@@ -78,7 +79,7 @@ fn a_write_that_fails_is_told(rt: HostRuntime) -> Result<(), Fail> {
 fn no_connection_can_be_accepted(rt: HostRuntime) -> Result<(), Fail> {
     let alloc = rt.alloc();
     let settings = built_in(alloc)?;
-    let mut broker = Broker::new(alloc, &settings, 1);
+    let mut broker = Broker::new(alloc, &settings, open_memory(alloc)?, 1);
     let mut buffer = Buffer::new(alloc, &Limits::STANDARD)?;
     let mut errors = Counted::new(Vec::new(alloc));
     // A listener that doesn't wait has nobody to accept.
