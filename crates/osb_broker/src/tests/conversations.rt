@@ -94,7 +94,11 @@ fn settings_with(alloc: Global, from: &str, to: &str) -> Result<Settings, Fail> 
 }
 
 /// Fails with the number of the first exchange that goes otherwise.
-pub(super) fn converses(alloc: Global, settings: &Settings, exchanges: &[Exchange]) -> Result<(), Fail> {
+pub(super) fn converses(
+    alloc: Global,
+    settings: &Settings,
+    exchanges: &[Exchange],
+) -> Result<(), Fail> {
     let met = conversed(alloc, settings, exchanges)?;
     if met < exchanges.len() {
         let (line, body, status, _) = exchanges[met];

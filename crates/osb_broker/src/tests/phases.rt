@@ -70,8 +70,7 @@ const UPDATE_TO_OLD: &str = r#"{"service_id":"svc","maintenance_info":{"version"
 
 const BINDING: &str = r#"{"service_id":"svc","plan_id":"p-async"}"#;
 
-const OTHER_BINDING: &str =
-    r#"{"service_id":"svc","plan_id":"p-async","parameters":{"n":1}}"#;
+const OTHER_BINDING: &str = r#"{"service_id":"svc","plan_id":"p-async","parameters":{"n":1}}"#;
 
 const OTHER_PLAN: &str = r#"{"service_id":"svc","plan_id":"p-sync"}"#;
 
@@ -192,10 +191,7 @@ const IN_READY: [Exchange; 25] = [
     (END_2, SUCCEEDED, NOT_FOUND, "{}"),
 ];
 
-const FAILED_ONE: [Exchange; 2] = [
-    (MAKE, ASYNC, ACCEPTED, CREATE_1),
-    (END_1, FAILED, OK, "{}"),
-];
+const FAILED_ONE: [Exchange; 2] = [(MAKE, ASYNC, ACCEPTED, CREATE_1), (END_1, FAILED, OK, "{}")];
 
 const IN_FAILED: [Exchange; 16] = [
     (MAKE, ASYNC, CONFLICT, "{}"),
