@@ -302,19 +302,6 @@ not_about Delete Failed order old other = refl
 not_about Bind state order old other = absurd (true≢false other)
 not_about Unbind state order old other = absurd (true≢false other)
 
-never_put : (kind : OrderKind) (state : OrderState) (order : Order) (row : BindingNow) → is_about_binding kind ≡ false → edit_over kind state order None ≡ Put row → ⊥
-never_put Create state order row other is = cc
-never_put Update state order row other is = cc
-never_put Delete Running order row other is = cc
-never_put Delete Succeeded order row other is = cc
-never_put Delete Failed order row other is = cc
-never_put Bind state order row other is = absurd (true≢false other)
-never_put Unbind state order row other is = absurd (true≢false other)
-
--- an order that isn't about a binding puts none
-pub puts_none : (order : Order) (edit : BindingEdit) (row : BindingNow) → is_about_binding order.kind ≡ false → edit ≡ edit_of order None → edit ≡ Put row → ⊥
-puts_none order edit row other is put = never_put order.kind order.outcome.state order row other (sym is ∙ put)
-
 -- what is known of an edit
 abbrev pub IsEditOf : List ℕ → Order → BindingEdit → List BindingEntry → Type 0
 IsEditOf id order edit bindings = (life : Life) (change : Change) → IsWritten life change order → BindingsStand id life bindings → bindings_of (changed change life) ≡ edited edit order.binding (bindings_of life)

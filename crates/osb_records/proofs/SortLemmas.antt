@@ -24,7 +24,7 @@ use Rattle.osb_orders.specs.declared.view.BindingPhase.TheVariants as binding
 use Rattle.osb_orders.specs.declared.view.BindingPhase.TheVariants.{Binding, Bound, Unbinding}
 use Rattle.osb_orders.specs.Orders.{kind_number, state_number}
 use Rattle.osb_records.specs.Rows.{Stores}
-use Rattle.osb_records.specs.Instances.{InstanceEntry, instance_cmp, instance_row, instance_told, instance_cells, instance_phase_number, instance_phase_numbered, standing_number, standing_told, attributes_shown, busy_number}
+use Rattle.osb_records.specs.Instances.{InstanceEntry, instance_cmp, instance_row, instance_told, instance_cells, instance_phase_number, standing_number, standing_told, attributes_shown, busy_number}
 use Rattle.osb_records.specs.Bindings.{BindingEntry, binding_cmp, binding_row, binding_told, binding_cells, binding_phase_number, binding_phase_numbered}
 use Rattle.osb_records.specs.Stored.{Entry, Holds, HoldsEntries, entry_row, entry_cmp, entry_told, order_cells, kind_numbered, state_numbered, entries_in, instances_in, bindings_in}
 use Rattle.osb_records.proofs.RowLemmas.{ascending_permuted, untied_back}
@@ -53,13 +53,6 @@ instance_total = on_total (λ (entry : InstanceEntry). entry.0) nat_list_cmp_tot
 
 pub binding_total : IsTotalOrder binding_cmp
 binding_total = then_total (on_total (λ (entry : BindingEntry). entry.instance) nat_list_cmp_total) (on_total (λ (entry : BindingEntry). entry.binding) nat_list_cmp_total)
-
-pub instance_phase_back : (phase : InstancePhase) → instance_phase_numbered (instance_phase_number phase) ≡ phase
-instance_phase_back Creating = refl
-instance_phase_back Ready = refl
-instance_phase_back instance.Failed = refl
-instance_phase_back Updating = refl
-instance_phase_back Deleting = refl
 
 some_standing : (phase : InstancePhase) (attributes : Attributes) → standing_told (instance_phase_number phase) attributes ≡ Some (record { phase = phase; attributes = attributes })
 some_standing Creating attributes = refl

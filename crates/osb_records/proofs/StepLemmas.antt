@@ -97,7 +97,3 @@ IsKept new = HasTables new.now × IsLives (stored new) × IsStanding (content ne
 pub ready_of : (new : State) (r : Result (Unit {0}) Error) → new.in_transaction ≡ false → (HasCleanDisk new → IsTrue new.is_open → OnOk r (IsKept new)) → (HasCleanDisk new → IsTrue new.is_open → OnErr r (IsKept new)) → IsReady new
 ready_of new (Ok _) ended ok err = record { autocommit = ended; tables = λ clean live. (ok clean live).0; lives = λ clean live. (ok clean live).1; standing = λ clean live. (ok clean live).2; committed = λ clean live. (ok clean live).3 }
 ready_of new (Err _) ended ok err = record { autocommit = ended; tables = λ clean live. (err clean live).0; lives = λ clean live. (err clean live).1; standing = λ clean live. (err clean live).2; committed = λ clean live. (err clean live).3 }
-
--- after a rollback
-pub ready_back : (new : State) → new.in_transaction ≡ false → (HasCleanDisk new → IsTrue new.is_open → IsKept new) → IsReady new
-ready_back new ended undone = record { autocommit = ended; tables = λ clean live. (undone clean live).0; lives = λ clean live. (undone clean live).1; standing = λ clean live. (undone clean live).2; committed = λ clean live. (undone clean live).3 }
