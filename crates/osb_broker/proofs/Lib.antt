@@ -2,6 +2,8 @@ mod RunLemmas
 mod LoopLemmas
 mod HoldLemmas
 mod RunsLemmas
+mod WholeLemmas
+mod FixedLemmas
 mod TextLemmas
 mod StepLemmas
 mod HandleLemmas

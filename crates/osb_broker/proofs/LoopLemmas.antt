@@ -17,7 +17,7 @@ pub record AtRequest {S : Type 0} (machine : Machine S) (limits : Limits) (k : �
   pub front : IsFront limits rest (whole q n)
   pub fewer : left ≡ suc j
 
-one_reply : {S : Type 0} (machine : Machine S) (limits : Limits) (left : ℕ) (u : S) (rest : List ℕ) (q : Message) (n j : ℕ) (mark : Bool) (reply : ReplyParts) (t : S) (close : Bool) → IsFront limits rest (whole q n) → left ≡ suc j → Answered machine q (j == 0) mark u reply t → close ≡ reply.close → OneReply machine limits left u rest mark (reply_text reply) close j t (drop n rest)
+pub one_reply : {S : Type 0} (machine : Machine S) (limits : Limits) (left : ℕ) (u : S) (rest : List ℕ) (q : Message) (n j : ℕ) (mark : Bool) (reply : ReplyParts) (t : S) (close : Bool) → IsFront limits rest (whole q n) → left ≡ suc j → Answered machine q (j == 0) mark u reply t → close ≡ reply.close → OneReply machine limits left u rest mark (reply_text reply) close j t (drop n rest)
 one_reply machine limits left u rest q n j mark reply t close front fewer marked closes = record {
   q = q;
   n = n;

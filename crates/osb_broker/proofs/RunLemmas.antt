@@ -104,3 +104,7 @@ broken machine limits k s bytes old left now u rest text t n new reached first i
 pub not_marked : {S : Type 0} (machine : Machine S) (mark : Bool) (q : Message) (last : Bool) (s : S) (reply : ReplyParts) (t : S) → Answered machine q last mark s reply t → reply.close ≡ false → Answered machine q last false s reply t
 not_marked machine false q last s reply t m e = m
 not_marked machine true q last s reply t m e = let f : reply.close ≡ true = ap (λ r. r.close) m.1 in let g : true ≡ false = sym f ∙ e in cc
+
+-- nothing was answered yet
+pub reached_start : {S : Type 0} (machine : Machine S) (limits : Limits) (k : ℕ) (s : S) (bytes old : List ℕ) → Reached machine limits k s bytes old k old s bytes
+reached_start machine limits k s bytes old = record { texts = []; is = (refl, refl, refl); written = sym (append-nil old) }

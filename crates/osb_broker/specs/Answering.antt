@@ -21,3 +21,8 @@ WritesReply base before now after (Err f) reply =
 abbrev pub Answers : {S : Type 0} → Machine S → Message → Bool → S → S → List ℕ → ℕ → List ℕ → ℕ → Result Bool WriteFault → Type 0
 Answers machine q last s t base before now after result =
     (mark : Bool) × (reply : ReplyParts) × Answered machine q last mark s reply t × WritesReply base before now after result reply
+
+-- a request was answered by a reply that was written whole, and closes or doesn't
+abbrev pub AnswersWhole : {S : Type 0} → Machine S → Message → Bool → S → S → List ℕ → List ℕ → Bool → Type 0
+AnswersWhole machine q last s t base now close =
+    (mark : Bool) × (reply : ReplyParts) × Answered machine q last mark s reply t × (now ≡ base ++ reply_text reply) × (close ≡ reply.close)

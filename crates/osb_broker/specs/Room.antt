@@ -1,6 +1,15 @@
--- The limits that a buffer has room for.
+-- The room that connections are read into and written into.
+use Rattle.std.specs.Prelude.{◌≡◌, ℕ, ◌≤◌, [], vec_len, vec_capacity}
+use Rattle.std.specs.Global.{Vec}
 use Rattle.osb_frames.specs.declared.limits.Limits.{Limits}
 use Rattle.osb_broker.specs.declared.buffer.Buffer.{Buffer}
 
+-- the limits that a buffer has room for
 abbrev pub limits_of : Buffer → Limits
 limits_of buffer = buffer.limits
+
+-- nothing is in the output, and there is room for a fixed reply
+pub record IsBlank (output : Vec ℕ) : Type 0 where
+  pub empty : output.items ≡ []
+  pub unused : vec_len output ≡ 0
+  pub room : 512 ≤ vec_capacity output

@@ -1,9 +1,9 @@
 -- What serving a connection did, of the bytes as a whole.
-use Rattle.std.specs.Prelude.{◌≡◌, ℕ, ◌≤◌, Bool, List, ◌++◌, length, take}
+use Rattle.std.specs.Prelude.{◌≡◌, ℕ, ◌≤◌, Bool, List, ◌++◌, length, map, take}
 use Rattle.std.specs.List.{concat}
 use Rattle.osb_frames.specs.declared.limits.Limits.{Limits}
 use Rattle.osb_broker.specs.Machine.{Machine}
-use Rattle.osb_broker.specs.Connection.{ConnectionText, After, FirstText}
+use Rattle.osb_broker.specs.Connection.{ConnectionText, Run, After, FirstText}
 
 -- what was written is the texts of the connection, for some marks
 pub record Served {S : Type 0} (machine : Machine S) (limits : Limits) (k : ℕ) (s : S) (bytes old new : List ℕ) (t : S) : Type 0 where
@@ -30,3 +30,14 @@ pub record BrokenOff {S : Type 0} (machine : Machine S) (limits : Limits) (k : �
   pub count : ℕ
   pub inside : count ≤ length text
   pub written : new ≡ old ++ (concat texts ++ take count text)
+
+-- a head of 8,192 bytes with 64 field lines, and a body of 65,536 bytes
+abbrev pub AreStandard : Limits → Type 0
+AreStandard limits = (limits.head ≡ 8192) × (limits.fields ≡ 64) × (limits.body ≡ 65536)
+
+-- the outputs of connections are the texts of a run, for some marks
+pub record RunServed {S : Type 0} (machine : Machine S) (limits : Limits) (k : ℕ) (s : S) (connections outputs : List (List ℕ)) (t : S) : Type 0 where
+  pub marks : List (List Bool)
+  pub texts : List (List (List ℕ))
+  pub is : Run machine limits k s connections marks texts t
+  pub written : outputs ≡ map concat texts

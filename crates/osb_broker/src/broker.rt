@@ -39,7 +39,7 @@ use std::alloc::{AllocError, Global};
 /// a connection may have.
 #[derive(Drop)]
 pub struct Broker<'s> {
-    alloc: Global,
+    pub(crate) alloc: Global,
     settings: &'s Settings,
     records: Records<MemStore>,
     pub(crate) per_connection: u32,
@@ -250,19 +250,20 @@ impl<'s> Broker<'s> {
     }
 
     /// The reply to a request, once there is room for it and `spare` bytes, and its change is made.
-    fn replied_in<'a, R: Room>(
+    fn replied_in<'a, W: Room>(
         &mut self,
         request: &Request<'a>,
         last: bool,
-        room: &mut R,
+        room: &mut W,
         spare: usize,
     ) -> Result<Reply<'a>, AllocError>
     where
         's: 'a,
         ensures ok { IfOk result (λ reply. Answered (machine (rules_of self.old)) (message request.now) last false (lives_of self.old) (parts reply) (lives_of self.new)) }
         ensures err { OnErr result (lives_of self.new ≡ lives_of self.old) }
-        ensures room { IfOk result (λ reply. length (reply_text (parts reply)) + spare ≤ R.free room.new) }
-        ensures spare { OnErr result (spare ≤ R.free room.old → spare ≤ R.free room.new) }
+        ensures room { IfOk result (λ reply. length (reply_text (parts reply)) + spare ≤ W.room room.new) }
+        ensures spare { OnErr result (spare ≤ W.room room.old → spare ≤ W.room room.new) }
+        ensures taken { W.taken room.new ≡ W.taken room.old }
         ensures most { most_of self.new ≡ most_of self.old }
         ensures rules { rules_of self.new ≡ rules_of self.old }
     {
@@ -274,18 +275,19 @@ impl<'s> Broker<'s> {
     }
 
     /// As `answer`, with room for `spare` bytes more. Where those were there, they are there still.
-    pub(crate) fn answer_in<'a, R: Room>(
+    pub(crate) fn answer_in<'a, W: Room>(
         &mut self,
         request: &Request<'a>,
         last: bool,
-        room: &mut R,
+        room: &mut W,
         spare: usize,
     ) -> Reply<'a>
     where
         's: 'a,
         ensures handled { Handled (crowded (rules_of self.old)) (message request.now) last (lives_of self.old) (parts result) (lives_of self.new) }
-        ensures room { (parts result ≡ refused) ⊎ (length (reply_text (parts result)) + spare ≤ R.free room.new) }
-        ensures spare { spare ≤ R.free room.old → spare ≤ R.free room.new }
+        ensures room { (parts result ≡ refused) ⊎ (length (reply_text (parts result)) + spare ≤ W.room room.new) }
+        ensures spare { spare ≤ W.room room.old → spare ≤ W.room room.new }
+        ensures taken { W.taken room.new ≡ W.taken room.old }
         ensures most { most_of self.new ≡ most_of self.old }
         ensures rules { rules_of self.new ≡ rules_of self.old }
     {
@@ -297,17 +299,19 @@ impl<'s> Broker<'s> {
 
     /// Answers a request as [`Broker::handle`] does, once there is room for the reply: it is asked
     /// for before the change is made, and nothing after the change can be refused. Where there is
-    /// no room the reply is the fixed 500 and the lives stay, whatever the request is.
-    pub fn answer<'a, R: Room>(
+    /// no room the reply is the fixed 500 and the lives stay, whatever the request is. The reply
+    /// isn't written.
+    pub fn answer<'a, W: Room>(
         &mut self,
         request: &Request<'a>,
         last: bool,
-        room: &mut R,
+        room: &mut W,
     ) -> Reply<'a>
     where
         's: 'a,
         ensures handled { Handled (crowded (rules_of self.old)) (message request.now) last (lives_of self.old) (parts result) (lives_of self.new) }
-        ensures room { (parts result ≡ refused) ⊎ (length (reply_text (parts result)) ≤ R.free room.new) }
+        ensures room { (parts result ≡ refused) ⊎ (length (reply_text (parts result)) ≤ W.room room.new) }
+        ensures taken { W.taken room.new ≡ W.taken room.old }
         ensures most { most_of self.new ≡ most_of self.old }
         ensures rules { rules_of self.new ≡ rules_of self.old }
     {

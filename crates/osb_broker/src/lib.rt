@@ -14,6 +14,7 @@ mod laws;
 mod prepared;
 mod refuse;
 mod rooms;
+mod runs;
 mod serve;
 #[cfg(test)]
 mod tests;

@@ -1,6 +1,6 @@
 //! The replies to framing faults.
 
-ghost use Rattle.std.specs.Prelude.{◌≡◌};
+ghost use Rattle.std.specs.Prelude.{◌≡◌, ◌<◌, length, OnErr};
 ghost use Rattle.osb_replies.specs.Parts.{parts};
 ghost use Rattle.osb_replies.specs.Text.{reply_text};
 ghost use Rattle.osb_broker.specs.Machine.{error_of, fault_reply};
@@ -32,7 +32,8 @@ fn fault_reply(kind: StopKind) -> Reply<'static>
 
 /// Writes the reply to a framing fault.
 pub(crate) fn refuse<W: Sink>(sink: &mut W, kind: StopKind) -> Result<(), WriteFault>
-    ensures { WritesText (W.taken sink.old) (W.fruitless sink.old) (W.taken sink.new) (W.fruitless sink.new) result (reply_text (fault_reply kind)) }
+    ensures short { OnErr result (W.room sink.old < length (reply_text (fault_reply kind))) }
+    ensures writes { WritesText (W.taken sink.old) (W.fruitless sink.old) (W.taken sink.new) (W.fruitless sink.new) result (reply_text (fault_reply kind)) }
 {
     write_reply(sink, &fault_reply(kind))
 }

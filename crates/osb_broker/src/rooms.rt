@@ -1,31 +1,37 @@
-//! Room that replies are written into.
+//! Writers that room can be made in, before anything is written.
 
-ghost use Rattle.std.specs.Prelude.{◌≡◌, ◌≤◌, ◌+◌, ℕ, OnOk, OnErr, length};
+ghost use Rattle.std.specs.Prelude.{◌≡◌, ◌≤◌, ◌+◌, length, OnOk, OnErr};
 ghost use Rattle.osb_replies.specs.Parts.{parts};
 ghost use Rattle.osb_replies.specs.Text.{reply_text};
 
+use osb_frames::{Kept, Sink};
 use osb_replies::Reply;
 use std::alloc::AllocError;
 
-/// What a reply is written into, as far as it can make room.
-pub trait Room {
-    /// How many bytes it surely takes.
-    ghost free: { Self → ℕ };
-
-    /// Makes room for so many bytes, or refuses and stays as it was.
+/// A writer that can make room before it is written to.
+pub trait Room: Sink {
+    /// Makes room for so many bytes, or refuses and has as much as before. It writes nothing.
     fn make(&mut self, bytes: usize) -> Result<(), AllocError>
-        ensures ok { OnOk result (bytes ≤ free self.new) }
-        ensures err { OnErr result (free self.new ≡ free self.old) };
+        ensures ok { OnOk result (bytes ≤ Self.room self.new) }
+        ensures err { OnErr result (Self.room self.new ≡ Self.room self.old) }
+        ensures taken { Self.taken self.new ≡ Self.taken self.old };
+}
+
+impl Room for Kept {
+    fn make(&mut self, bytes: usize) -> Result<(), AllocError> {
+        self.reserve(bytes)
+    }
 }
 
 /// Makes room for the text of a reply, and `spare` bytes after it.
-pub(crate) fn make_room<R: Room>(
-    room: &mut R,
+pub(crate) fn make_room<W: Room>(
+    room: &mut W,
     reply: &Reply<'_>,
     spare: usize,
 ) -> Result<(), AllocError>
-    ensures ok { OnOk result (length (reply_text (parts reply.now)) + spare ≤ R.free room.new) }
-    ensures err { OnErr result (R.free room.new ≡ R.free room.old) }
+    ensures ok { OnOk result (length (reply_text (parts reply.now)) + spare ≤ W.room room.new) }
+    ensures err { OnErr result (W.room room.new ≡ W.room room.old) }
+    ensures taken { W.taken room.new ≡ W.taken room.old }
 {
     let length = reply.length();
     if length == usize::MAX {

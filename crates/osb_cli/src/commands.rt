@@ -5,12 +5,12 @@ ghost use Rattle.std.specs.Prelude.{◌≤◌};
 use crate::check::check;
 use crate::fault::Fault;
 use crate::listen::listen;
-use crate::replay::replay;
+use crate::replay::{replay_files, replay_input};
 use crate::settings::settings_or_built_in;
-use crate::words::{Order, read};
+use crate::words::{Order, Replay, read};
 use clap::Error;
 use clap::error::ErrorKind;
-use osb_frames::{Limits, Sink, Source, send_all};
+use osb_frames::{Sink, Source, send_all};
 use std::alloc::Global;
 
 /// The text of clap's answer to words that aren't those of a command: an error, or the help that
@@ -33,6 +33,28 @@ fn answer_words<W: Sink>(
     }
 }
 
+/// Serves the connections that the words name, or standard input.
+fn replay<'a, R: Source, W: Sink>(
+    rt: &HostRuntime,
+    asked: &Replay<'a>,
+    input: &mut R,
+    output: &mut W,
+) -> Result<(), Fault<'a>> {
+    let settings = settings_or_built_in(rt, asked.settings)?;
+    let names = asked.connections.as_slice();
+    if names.is_empty() {
+        replay_input(
+            rt.alloc(),
+            &settings,
+            asked.per_connection,
+            input,
+            output,
+        )
+    } else {
+        replay_files(rt, &settings, asked.per_connection, names, output)
+    }
+}
+
 fn perform<'a, R: Source, W: Sink>(
     rt: &HostRuntime,
     words: &'a [String],
@@ -45,20 +67,7 @@ fn perform<'a, R: Source, W: Sink>(
     };
     match order {
         Order::Check { settings } => check(rt, settings, output),
-        Order::Replay {
-            settings,
-            per_connection,
-        } => {
-            let settings = settings_or_built_in(rt, settings)?;
-            replay(
-                rt.alloc(),
-                &settings,
-                per_connection,
-                &Limits::STANDARD,
-                input,
-                output,
-            )
-        }
+        Order::Replay(asked) => replay(rt, &asked, input, output),
         Order::Serve(_) => other_command(rt.alloc(), "serve is a command of its own\n"),
     }
 }
@@ -81,7 +90,7 @@ fn perform_serve<'a, W: Sink, E: Sink>(
     };
     match order {
         Order::Serve(asked) => listen(rt, &asked, output, errors),
-        Order::Check { .. } | Order::Replay { .. } => other_command(
+        Order::Check { .. } | Order::Replay(_) => other_command(
             rt.alloc(),
             "the command is not serve\n",
         ),

@@ -94,3 +94,16 @@ pub(crate) fn read_file<'a>(rt: &HostRuntime, name: &'a str) -> Result<Vec<u8>, 
         Err(fault) => Err(fault.of(name)),
     }
 }
+
+/// Reads files, in the order of their names.
+pub(crate) fn read_files<'a>(
+    rt: &HostRuntime,
+    names: &[&'a str],
+) -> Result<Vec<Vec<u8>>, Fault<'a>> {
+    let mut files = Vec::with_capacity(rt.alloc(), names.len())?;
+    for name in names {
+        let bytes = read_file(rt, name)?;
+        files.push(bytes).map_err(AllocError::from)?;
+    }
+    Ok(files)
+}

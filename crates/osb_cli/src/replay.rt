@@ -1,60 +1,76 @@
-//! `replay`: a connection's bytes, and the replies to them.
+//! `replay`: the bytes of connections, and the replies to them.
 
-ghost use Rattle.std.specs.Prelude.{IfSome, OnOk};
+ghost use Rattle.std.specs.Prelude.{◌≡◌, ◌∷◌, [], ◌++◌, map, vec_items, IfSome, OnOk};
+ghost use Rattle.std.specs.List.{concat};
 ghost use Rattle.osb_catalog.specs.Rules.{rules_of};
 ghost use Rattle.osb_cli.specs.Replay.{IsReplayed};
 
 use crate::fault::Fault;
-use crate::input::read_input;
+use crate::input::{read_files, read_input};
 use crate::per_connection::PerConnection;
-use osb_broker::{Broker, Buffer, ServeFault};
+use osb_broker::Broker;
 use osb_catalog::Settings;
-use osb_frames::{Counted, Limits, Sink, Source};
+use osb_frames::{Sink, Source, send_all};
 use osb_records::open_memory;
 use std::alloc::Global;
 
-/// Serves the bytes as one connection: what is written is exactly the texts of that connection,
-/// from a broker that keeps nothing.
-fn serve_bytes<W: Sink>(
+/// Writes the outputs one after the other, with nothing between.
+fn write_outputs<W: Sink>(outputs: &[Vec<u8>], output: &mut W) -> Result<(), Fault<'static>>
+    ensures { OnOk result (W.taken output.new ≡ W.taken output.old ++ concat (map vec_items outputs.now)) }
+{
+    for bytes in outputs {
+        if send_all(output, bytes.as_slice()).is_err() {
+            return Err(Fault::CannotWrite);
+        }
+    }
+    Ok(())
+}
+
+/// Serves each as one connection, from a broker that has no orders yet.
+fn serve_connections<W: Sink>(
     alloc: Global,
     settings: &Settings,
     per_connection: PerConnection,
-    limits: &Limits,
-    bytes: &[u8],
+    connections: &[Vec<u8>],
     output: &mut W,
 ) -> Result<(), Fault<'static>>
-    ensures { OnOk result (IsReplayed (rules_of settings.now) per_connection.number limits.now bytes.now (W.taken output.old) (W.taken output.new)) }
+    ensures { OnOk result (IsReplayed (rules_of settings.now) per_connection.number (map vec_items connections.now) (W.taken output.old) (W.taken output.new)) }
 {
     let records = open_memory(alloc)?;
     let mut broker = Broker::new(alloc, settings, records, per_connection.number());
-    let mut buffer = Buffer::new(alloc, limits)?;
-    let mut source = Counted::new(bytes);
-    match broker.serve(&mut buffer, &mut source, output) {
-        Ok(()) => Ok(()),
-        Err(ServeFault::Read) => Err(Fault::CannotRead("standard input")),
-        Err(ServeFault::Write) => Err(Fault::CannotWrite),
-    }
+    let outputs = broker.serve_all(connections)?;
+    write_outputs(outputs.as_slice(), output)
 }
 
 /// Serves an input as one connection, once it was read to its end.
-pub(crate) fn replay<R: Source, W: Sink>(
+pub(crate) fn replay_input<R: Source, W: Sink>(
     alloc: Global,
     settings: &Settings,
     per_connection: PerConnection,
-    limits: &Limits,
     input: &mut R,
     output: &mut W,
 ) -> Result<(), Fault<'static>>
     ensures { OnOk result (IfSome (R.rest input.old) (λ all.
-        IsReplayed (rules_of settings.now) per_connection.number limits.now all (W.taken output.old) (W.taken output.new))) }
+        IsReplayed (rules_of settings.now) per_connection.number (all ∷ []) (W.taken output.old) (W.taken output.new))) }
 {
     let bytes = read_input(alloc, input)?;
-    serve_bytes(
-        alloc,
+    serve_connections(alloc, settings, per_connection, &[bytes], output)
+}
+
+/// Serves each file as one connection, once all of them were read.
+pub(crate) fn replay_files<'a, W: Sink>(
+    rt: &HostRuntime,
+    settings: &Settings,
+    per_connection: PerConnection,
+    names: &[&'a str],
+    output: &mut W,
+) -> Result<(), Fault<'a>> {
+    let connections = read_files(rt, names)?;
+    serve_connections(
+        rt.alloc(),
         settings,
         per_connection,
-        limits,
-        bytes.as_slice(),
+        connections.as_slice(),
         output,
     )
 }

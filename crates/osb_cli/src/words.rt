@@ -1,8 +1,8 @@
 //! What the words of a command line ask for.
 
 use crate::per_connection::PerConnection;
-use clap::{Arg, ArgMatches, Command, Error, value_parser};
-use std::alloc::Global;
+use clap::{Arg, ArgAction, ArgMatches, Command, Error, value_parser};
+use std::alloc::{AllocError, Global};
 
 /// Where connections are taken, and how many.
 #[derive(Clone, Copy, Debug)]
@@ -15,19 +15,25 @@ pub(crate) struct Listen<'a> {
     pub(crate) connections: u32,
 }
 
+/// Which connections are replayed, and how.
+#[derive(Debug, Drop)]
+pub(crate) struct Replay<'a> {
+    /// The name of the settings file; without it the built-in settings serve.
+    pub(crate) settings: Option<&'a str>,
+    pub(crate) per_connection: PerConnection,
+    /// The names of the files, one for each connection. Without any it is standard input.
+    pub(crate) connections: Vec<&'a str>,
+}
+
 /// What the words ask for.
-#[derive(Clone, Copy, Debug)]
+#[derive(Debug, Drop)]
 pub(crate) enum Order<'a> {
     /// Check the settings file of that name.
     Check {
         settings: &'a str,
     },
-    /// Serve standard input as one connection, with the settings of that file or the built-in
-    /// ones.
-    Replay {
-        settings: Option<&'a str>,
-        per_connection: PerConnection,
-    },
+    /// Serve connections whose bytes are all there.
+    Replay(Replay<'a>),
     /// Serve TCP connections.
     Serve(Listen<'a>),
 }
@@ -50,11 +56,13 @@ const CHECK_MORE: &str = "Prints the number of services and of plans in the cata
 `services 1, plans 2`; or on standard error the first fault of the settings,
 as `settings: 2 Missing id`. docs/SETTINGS.md lists the fields and the faults.";
 
-const REPLAY: &str = "Answer the requests on standard input";
+const REPLAY: &str = "Answer the requests in files or on standard input";
 
-const REPLAY_MORE: &str = "Reads standard input to its end, at most 16777216 bytes, serves it as one
-connection and writes the replies to standard output. The broker keeps what it
-is told for as long as it runs.";
+const REPLAY_MORE: &str = "Each file is one connection; without any, standard input is one. They are
+all read to their ends, at most 16777216 bytes each, before the first request.
+Then they are served one after the other, and the replies are written to
+standard output with nothing between. The broker keeps what it is told for as
+long as it runs.";
 
 const SERVE: &str = "Serve connections at an address";
 
@@ -97,13 +105,21 @@ fn replay_command<'a>(alloc: Global) -> Result<Command<'a>, Error> {
         .long("settings")
         .value_name("FILE")
         .help("The settings file; without it the built-in settings serve");
+    let connections = Arg::new(alloc, "connections")
+        .value_name("CONNECTION")
+        .help("A file with the bytes of one connection")
+        .num_args(0..)
+        .action(ArgAction::Append);
     Ok(
         Command::new(alloc, "replay")
             .about(REPLAY)
             .after_help(REPLAY_MORE)
-            .override_usage("osb-broker replay [--settings FILE] [--per-connection N] < FILE")
+            .override_usage(
+                "osb-broker replay [--settings FILE] [--per-connection N] [CONNECTION..]",
+            )
             .arg(settings)?
-            .arg(per_connection_word(alloc))?,
+            .arg(per_connection_word(alloc))?
+            .arg(connections)?,
     )
 }
 
@@ -158,12 +174,22 @@ fn per_connection_of(found: &ArgMatches<'_>) -> PerConnection {
     }
 }
 
+/// The files that the words after `replay` name.
+fn connections_of<'a>(alloc: Global, found: &ArgMatches<'a>) -> Result<Vec<&'a str>, AllocError> {
+    let mut names = Vec::new(alloc);
+    if let Some(words) = found.get_strs("connections") {
+        names.extend_from_slice(words)?;
+    }
+    Ok(names)
+}
+
 /// The order to replay, as the words after `replay` say it.
-fn replay_order<'a>(found: &ArgMatches<'a>) -> Order<'a> {
-    Order::Replay {
+fn replay_order<'a>(alloc: Global, found: &ArgMatches<'a>) -> Result<Order<'a>, AllocError> {
+    Ok(Order::Replay(Replay {
         settings: found.get_str("settings"),
         per_connection: per_connection_of(found),
-    }
+        connections: connections_of(alloc, found)?,
+    }))
 }
 
 /// The order to serve, as the words after `serve` say it.
@@ -186,10 +212,11 @@ pub(crate) fn read<'a>(alloc: Global, words: &'a [String]) -> Result<Order<'a>, 
             settings: found.get_str("settings").unwrap_or(""),
         }),
         Some(("serve", found)) => Ok(serve_order(found)),
-        Some((_, found)) => Ok(replay_order(found)),
-        None => Ok(Order::Replay {
+        Some((_, found)) => Ok(replay_order(alloc, found)?),
+        None => Ok(Order::Replay(Replay {
             settings: None,
             per_connection: PerConnection::ONE,
-        }),
+            connections: Vec::new(alloc),
+        })),
     }
 }

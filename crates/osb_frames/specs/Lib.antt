@@ -6,3 +6,4 @@ pub mod Steps
 pub mod Found
 pub mod Calls
 pub mod Counted
+pub mod Kept

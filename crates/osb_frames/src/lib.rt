@@ -10,6 +10,7 @@ mod calls;
 mod counted;
 mod field;
 mod head;
+mod kept;
 mod laws;
 mod limits;
 mod request;
@@ -22,6 +23,7 @@ mod tests;
 
 pub use counted::Counted;
 pub use field::Field;
+pub use kept::Kept;
 pub use laws::{one_cut, one_front, one_head};
 pub use limits::{Limits, MOST_FIELDS};
 pub use request::Request;

@@ -303,3 +303,15 @@ fn with_connection(value: &str) -> bool {
     };
     request.closes()
 }
+
+#[test]
+fn keeps_what_it_takes(rt: HostRuntime) -> Result<(), Fail> {
+    let alloc = rt.alloc();
+    let mut bytes = Vec::new(alloc);
+    bytes.extend_from_slice(b"cat")?;
+    let mut kept = Kept::new(bytes);
+    kept.reserve(4)?;
+    assert!(rt; matches!(kept.write(b"alog"), Ok(4)));
+    assert_eq!(rt; kept.into_bytes().as_slice(), b"catalog".as_slice());
+    Ok(())
+}

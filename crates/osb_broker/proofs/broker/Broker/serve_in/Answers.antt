@@ -78,7 +78,7 @@ returns-in-Ok-clause-outcome g c =
       c.loop-left.invariant.holding.1,
       looked (machine (rules_of c.args.self.now)) c.args.limits.now (most_of c.args.self.now) _ got _ c.loop-left.left _ _ c.loop-left.room c.loop-left.filled _ _ _ c.loop-left.invariant.holding.2 (omega (arith, c.loop-left.auto.room)) (few_so_far _ _ c.loop-left.ended c.loop-left.invariant.holding.3),
       refusing_ok (machine (rules_of c.args.self.now)) c.args.limits.now (most_of c.args.self.now) _ got _ c.loop-left.left _ _ held c.in-Stop.kind c.loop-left.ended _ (c.loop-left.left - 1) _ _ _ _
-          c.loop-left.invariant.holding.2 c.in-Stop.ensures.stays c.loop-left.invariant.over (omega arith) c.in-Ok.ensures,
+          c.loop-left.invariant.holding.2 c.in-Stop.ensures.stays c.loop-left.invariant.over (omega arith) c.in-Ok.ensures.writes,
     )
 
 pub returns-in-Err-refuse-clause-outcome : goal.returns-in-Err-refuse-clause-outcome
@@ -89,7 +89,7 @@ returns-in-Err-refuse-clause-outcome g c =
       c.loop-left.invariant.holding.1,
       looked (machine (rules_of c.args.self.now)) c.args.limits.now (most_of c.args.self.now) _ got _ c.loop-left.left _ _ c.loop-left.room c.loop-left.filled _ _ _ c.loop-left.invariant.holding.2 (omega (arith, c.loop-left.auto.room)) (few_so_far _ _ c.loop-left.ended c.loop-left.invariant.holding.3),
       refusing_err (machine (rules_of c.args.self.now)) c.args.limits.now (most_of c.args.self.now) _ got _ c.loop-left.left _ _ held c.in-Stop.kind c.loop-left.ended _ (c.loop-left.left - 1) _ _ _ c.in-Err-refuse.field-0
-          c.loop-left.invariant.holding.2 c.in-Stop.ensures.stays c.loop-left.invariant.over (omega arith) c.in-Err-refuse.ensures,
+          c.loop-left.invariant.holding.2 c.in-Stop.ensures.stays c.loop-left.invariant.over (omega arith) c.in-Err-refuse.ensures.writes,
     )
 
 pub returns-in-Ended-clause-outcome : goal.returns-in-Ended-clause-outcome

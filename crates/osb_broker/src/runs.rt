@@ -1,0 +1,143 @@
+//! Lists of connections, served from memory into memory.
+
+ghost use Rattle.std.specs.Prelude.{◌≡◌, ◌≤◌, [], ◌++◌, false, length, map, vec_items, IfOk, OnErr};
+ghost use Rattle.std.specs.List.{AllByRecursion};
+ghost use Rattle.osb_frames.specs.Kept.{bytes_of, room_of};
+ghost use Rattle.osb_frames.specs.Steps.{message};
+ghost use Rattle.osb_replies.specs.Text.{reply_text};
+ghost use Rattle.osb_broker.specs.Machine.{fault_reply};
+ghost use Rattle.osb_broker.specs.Steps.{crowded};
+ghost use Rattle.osb_broker.specs.Answering.{AnswersWhole};
+ghost use Rattle.osb_broker.specs.Served.{Served, AreStandard, RunServed};
+ghost use Rattle.osb_broker.specs.Room.{IsBlank};
+
+use crate::broker::Broker;
+use crate::refuse::refuse;
+use osb_frames::{Kept, Limits, Request, Step, StopKind, next};
+use osb_replies::write_reply;
+use std::alloc::{AllocError, Global};
+
+/// The room in which each fixed reply fits: the largest has 145 bytes.
+const SPARE: usize = 512;
+
+/// Outputs with nothing in them yet. In each there is room for a fixed reply.
+fn blank_outputs(alloc: Global, count: usize) -> Result<Vec<Vec<u8>>, AllocError>
+    ensures count { IfOk result (λ outputs. length outputs.items ≡ count) }
+    ensures blank { IfOk result (λ outputs. AllByRecursion IsBlank outputs.items) }
+{
+    let mut outputs = Vec::with_capacity(alloc, count)?;
+    for _ in 0..count {
+        outputs.push(Vec::with_capacity(alloc, SPARE)?)?;
+    }
+    Ok(outputs)
+}
+
+/// Writes the fixed reply to a framing fault. There is room for it.
+fn refuse_into(output: &mut Kept, kind: StopKind)
+    requires { 512 ≤ room_of output.old }
+    ensures { bytes_of output.new ≡ bytes_of output.old ++ reply_text (fault_reply kind) }
+{
+    let _ = refuse(output, kind);
+}
+
+impl Broker<'_> {
+    ghost use Rattle.osb_broker.specs.Kept.{lives_of, most_of, rules_of};
+
+    /// Answers a request into an output that has room for a fixed reply. Whether the connection
+    /// closes; where it doesn't, there still is that room.
+    fn reply_into(&mut self, request: &Request<'_>, last: bool, output: &mut Kept) -> bool
+        requires { 512 ≤ room_of output.old }
+        ensures answers { AnswersWhole (crowded (rules_of self.old)) (message request.now) last (lives_of self.old) (lives_of self.new) (bytes_of output.old) (bytes_of output.new) result }
+        ensures room { result ≡ false → 512 ≤ room_of output.new }
+        ensures most { most_of self.new ≡ most_of self.old }
+        ensures rules { rules_of self.new ≡ rules_of self.old }
+    {
+        let reply = self.answer_in(request, last, output, SPARE);
+        let _ = write_reply(output, &reply);
+        reply.close
+    }
+
+    /// Serves a connection whose bytes are all there.
+    fn serve_into(&mut self, limits: &Limits, bytes: &[u8], output: &mut Kept)
+        requires { 512 ≤ room_of output.old }
+        ensures served { Served (crowded (rules_of self.old)) limits.now (most_of self.old) (lives_of self.old) bytes.now (bytes_of output.old) (bytes_of output.new) (lives_of self.new) }
+        ensures most { most_of self.new ≡ most_of self.old }
+        ensures rules { rules_of self.new ≡ rules_of self.old }
+    {
+        let mut rest = bytes;
+        let mut left = self.per_connection;
+        while left > 0 {
+            match next(rest, true, limits) {
+                Step::Whole(request, used) => {
+                    left -= 1;
+                    if self.reply_into(&request, left == 0, output) {
+                        return;
+                    }
+                    rest = &rest[used..];
+                }
+                Step::Stop(kind) => {
+                    refuse_into(output, kind);
+                    return;
+                }
+                // The input has ended, so no more of it is asked for.
+                Step::Ended => return,
+                Step::More => return,
+            }
+        }
+    }
+
+    /// The output of a connection whose bytes are all there, in an output that was blank.
+    fn output_of(&mut self, limits: &Limits, bytes: &[u8], blank: Vec<u8>) -> Vec<u8>
+        requires { IsBlank blank }
+        ensures served { Served (crowded (rules_of self.old)) limits.now (most_of self.old) (lives_of self.old) bytes.now [] result.items (lives_of self.new) }
+        ensures most { most_of self.new ≡ most_of self.old }
+        ensures rules { rules_of self.new ≡ rules_of self.old }
+    {
+        let mut output = Kept::new(blank);
+        self.serve_into(limits, bytes, &mut output);
+        output.into_bytes()
+    }
+
+    /// As `serve_all`, within any limits.
+    fn serve_each(
+        &mut self,
+        limits: &Limits,
+        connections: &[Vec<u8>],
+    ) -> Result<Vec<Vec<u8>>, AllocError>
+        ensures ok { IfOk result (λ outputs.
+            RunServed (crowded (rules_of self.old)) limits.now (most_of self.old) (lives_of self.old) (map vec_items connections.now) (map vec_items outputs.items) (lives_of self.new)) }
+        ensures err { OnErr result (lives_of self.new ≡ lives_of self.old) }
+        ensures most { most_of self.new ≡ most_of self.old }
+        ensures rules { rules_of self.new ≡ rules_of self.old }
+    {
+        let mut blanks = blank_outputs(self.alloc, connections.len())?;
+        let mut outputs = Vec::with_capacity(self.alloc, connections.len())?;
+        for connection in connections {
+            if let Some(blank) = blanks.pop() {
+                let output = self.output_of(limits, connection, blank);
+                outputs.push(output)?;
+            }
+        }
+        Ok(outputs)
+    }
+
+    /// Serves connections whose bytes are all there, one after the other and within
+    /// [`Limits::STANDARD`], and gives the output of each.
+    ///
+    /// Each output first gets room for a fixed reply, and only there want of memory is an error,
+    /// with nothing changed. Later each reply asks for its room before its change is made; where
+    /// that is refused it is the fixed 500, whatever the request is, and the connection ends.
+    pub fn serve_all(&mut self, connections: &[Vec<u8>]) -> Result<Vec<Vec<u8>>, AllocError>
+        ensures ok { IfOk result (λ outputs.
+            (limits : Limits) × AreStandard limits
+            × RunServed (crowded (rules_of self.old)) limits (most_of self.old) (lives_of self.old) (map vec_items connections.now) (map vec_items outputs.items) (lives_of self.new)) }
+        ensures err { OnErr result (lives_of self.new ≡ lives_of self.old) }
+        ensures most { most_of self.new ≡ most_of self.old }
+        ensures rules { rules_of self.new ≡ rules_of self.old }
+    {
+        self.serve_each(&Limits::STANDARD, connections)
+    }
+}
+
+#[cfg(test)]
+mod tests;
