@@ -43,13 +43,7 @@ fn replay<'a, R: Source, W: Sink>(
     let settings = settings_or_built_in(rt, asked.settings)?;
     let names = asked.connections.as_slice();
     if names.is_empty() {
-        replay_input(
-            rt.alloc(),
-            &settings,
-            asked.per_connection,
-            input,
-            output,
-        )
+        replay_input(rt.alloc(), &settings, asked.per_connection, input, output)
     } else {
         replay_files(rt, &settings, asked.per_connection, names, output)
     }

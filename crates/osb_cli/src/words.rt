@@ -29,9 +29,7 @@ pub(crate) struct Replay<'a> {
 #[derive(Debug, Drop)]
 pub(crate) enum Order<'a> {
     /// Check the settings file of that name.
-    Check {
-        settings: &'a str,
-    },
+    Check { settings: &'a str },
     /// Serve connections whose bytes are all there.
     Replay(Replay<'a>),
     /// Serve TCP connections.
