@@ -43,7 +43,7 @@ at_id id more entry = rw (same_text entry.0 id) (and_true _)
 one_id : (id : List ℕ) (a b : InstanceEntry) → is_instance id a ≡ true → is_instance id b ≡ true → instance_cmp a b ≡ Equal
 one_id id a b p q = rw (same_bytes a.0 id p ∙ sym (same_bytes b.0 id q)) (text_itself b.0)
 
-by_id : (a b : InstanceEntry) → key_cmp 0 (ascending Binary ∷ []) (Text a.0 ∷ []) (Text b.0 ∷ []) ≡ instance_cmp a b
+pub by_id : (a b : InstanceEntry) → key_cmp 0 (ascending Binary ∷ []) (Text a.0 ∷ []) (Text b.0 ∷ []) ≡ instance_cmp a b
 by_id a b = rw (value_cmp-Text a.0 b.0, then_equal (slice_cmp nat_cmp a.0 b.0)) refl
 
 row_keeps : (hit : InstanceEntry → Bool) (row : InstanceRow) (a b : InstanceEntry) → instance_cmp (cond (hit a) (with_row row a) a) (cond (hit b) (with_row row b) b) ≡ instance_cmp a b

@@ -15,8 +15,8 @@ pub mod StepLemmas
 pub mod WriteLemmas
 pub mod SelectLemmas
 pub mod ReadLemmas
-pub mod ListingLemmas
 pub mod InstanceLemmas
+pub mod ListingLemmas
 pub mod BackLemmas
 pub mod OrderTexts
 pub mod OrderLemmas

@@ -1,162 +1,217 @@
--- The running orders among the entries are the listing of the lives.
-use Rattle.std.proofs.Common.{◌≡◌, ◌⊎◌, inl, inr, ℕ, List, [], ◌∷◌, ◌++◌, map, filter, take, bytes_eq, Bool, true, false, cond, Ordering, Less, Equal, Greater, is_eq, nat_cmp, Option, Some, None, refl, sym, ap, subst, ◌∙◌, arith, length}
-use Rattle.std.specs.Prelude.{IfSome, filter_map}
-use Rattle.std.specs.List.{AllByRecursion}
-use Rattle.std.specs.Ordering.{ordering_then}
-use Rattle.std.specs.Option.{option_map_or}
+-- The busy rows, each with the order that it names, are the listing of the lives.
+use Rattle.std.proofs.Common.{◌≡◌, inl, ℕ, zero, suc, ◌+◌, ◌<◌, pos, List, [], ◌∷◌, ◌++◌, length, get_or, map, filter, take, Bool, true, false, cond, ◌&&◌, ◌==◌, T, Option, Some, None, Ordering, Less, Equal, Greater, is_eq, is_gt, is_lt, nat_cmp, refl, sym, ap, subst, ◌∙◌, IsTrue, arith}
+use Rattle.std.specs.Prelude.{filter_map, option_map, unwrap_or}
+use Rattle.std.specs.Option.{option_to_list}
+use Rattle.std.specs.List.{AllByRecursion, cons_option, list_all}
 use Rattle.std.specs.Cmp.Lexicographic.{slice_cmp, nat_list_cmp_total}
-use Rattle.std.specs.FinMap.{empty, get, entries, entries-insert, len-entries, len-empty, slice_cmp-IsAntisymmetric, nat_cmp-IsAntisymmetric}
-use Rattle.std.specs.FinMap.Entries.{put}
-use Rattle.std.proofs.lemmas.Map.Text.{is_eq-slice_cmp}
+use Rattle.std.specs.FinMap.{entries, entries_sorted, get-entries, slice_cmp-IsAntisymmetric, nat_cmp-IsAntisymmetric}
+use Rattle.std.specs.FinMap.Entries.{find, below_all, is_sorted, same_entries}
+use Rattle.std.proofs.lemmas.List.{take-map, map-append}
+use Rattle.sqlite.specs.declared.types.Value.TheVariants.{Null, Int, Text}
+use Rattle.sqlite.specs.Order.{Row}
+use Rattle.sqlite.specs.Program.{overlay}
+use Rattle.sqlite.specs.Term.{col, holds}
+use Rattle.sqlite.specs.Effect.{Database}
+use Rattle.sqlite.specs.State.{State, HasCleanDisk, Shown, IsUnchanged, Survives}
+use Rattle.sqlite.proofs.Callers.{reads_as, unchanged_then}
+use Rattle.sqlite.proofs.StateLemmas.{unchanged, survives_then}
 use Rattle.sqlite_trees.specs.Tree.{IsAscending}
-use Rattle.sqlite_keyed.proofs.ListLemmas.{filter_none}
-use Rattle.osb_orders.specs.declared.order.OrderState.TheVariants.{Running}
 use Rattle.osb_orders.specs.declared.order.Order.{Order}
-use Rattle.osb_orders.specs.Lists.{last_of, last_from}
-use Rattle.osb_orders.specs.Orders.{is_now}
 use Rattle.osb_orders.specs.Life.{Life}
 use Rattle.osb_orders.specs.Lives.{Lives, life_of}
-use Rattle.osb_orders.specs.IsLife.{IsLifeAfter, IsInstance, IsLives}
-use Rattle.osb_orders.specs.Listing.{with_last, is_listed, listing}
-use Rattle.osb_records.specs.Stored.{Entry, entry_cmp, lives_in, is_of}
-use Rattle.osb_records.proofs.TestLemmas.{bytes_itself, bytes_back}
-use Rattle.osb_records.proofs.LivesLemmas.{life_in, life_of_lives}
+use Rattle.osb_orders.specs.Listing.{listing}
+use Rattle.osb_orders.specs.IsLife.{IsLives}
+use Rattle.osb_standing.specs.declared.row.InstanceRow.{InstanceRow}
+use Rattle.osb_standing.specs.Rows.{row_of}
+use Rattle.osb_standing.specs.Listing.{with_row, with_order, is_listed, instance_rows}
+use Rattle.osb_standing.specs.Laws.{ListedByRows}
+use Rattle.osb_records.specs.Tables.{record_schema}
+use Rattle.osb_records.specs.Instances.{InstanceEntry, instance_cmp, instance_cells, instance_row, is_instance, busy_number}
+use Rattle.osb_records.specs.Stored.{instances_in, lives_stored}
+use Rattle.osb_records.specs.Standing.{InstancesStand}
+use Rattle.osb_records.specs.Queries.{ShowsRecords, busy_row, order_for}
+use Rattle.osb_records.specs.Steps.{HasTables, stored}
+use Rattle.osb_records.proofs.AnswerLemmas.{one_answer}
+use Rattle.osb_records.proofs.InstanceLemmas.{by_id}
+use Rattle.osb_records.proofs.LivesLemmas.{key_is}
+use Rattle.osb_records.proofs.ReadLemmas.{told_push}
+use Rattle.osb_records.proofs.SortLemmas.{instance_total}
+use Rattle.osb_records.proofs.StepLemmas.{clean_before}
+use Rattle.osb_records.proofs.TestLemmas.{same_number, later_text, and_true}
+use Rattle.osb_records.proofs.Texts.{select_busy, select_busy_is, busy_tests, busy_cells, by_instance}
 
--- ---- a life runs at its end alone
+-- ---- the query
 
-abbrev pub RunsLast : Life → Type 0
-RunsLast [] = Unit {0}
-RunsLast (order ∷ []) = Unit {0}
-RunsLast (order ∷ next ∷ later) = (is_now Running order ≡ false) × RunsLast (next ∷ later)
+busy_again : (busy : Bool) → (busy_number busy == 1) ≡ busy
+busy_again true = refl
+busy_again false = refl
 
-last_from_one : (given order : Order) (life : Life) → last_from given (life ++ order ∷ []) ≡ order
-last_from_one given order [] = refl
-last_from_one given order (first ∷ life) = last_from_one first order life
+at_busy : (after : List ℕ) (more : Row) (entry : InstanceEntry) → list_all (holds ((Text after ∷ more) ∷ (Null ∷ instance_row entry) ∷ [])) busy_tests ≡ is_listed after entry
+at_busy after more entry = rw (same_number (busy_number entry.1.busy) 1, busy_again entry.1.busy, later_text entry.0 after, and_true (is_gt (slice_cmp nat_cmp entry.0 after))) refl
 
-last_of_one : (life : Life) (order : Order) → last_of (life ++ order ∷ []) ≡ Some order
-last_of_one [] order = refl
-last_of_one (first ∷ life) order = ap Some (last_from_one first order life)
+-- the busy rows of greater ids, up to a limit
+pub shows_busy : (old new : State) (tables : HasTables old.now) (after : List ℕ) (limit : ℕ) (rows : List Row) → Shown select_busy (Text after ∷ Int (pos limit) ∷ []) old new rows
+    → rows ≡ map busy_row (take limit (filter (is_listed after) (instances_in old.now.trees)))
+shows_busy old new tables after limit rows h =
+    let params = Text after ∷ Int (pos limit) ∷ [] in
+    let read = reads_as select_busy params old new record_schema tables.schema _ select_busy_is.0 select_busy_is.2 select_busy_is.1 rows h in
+    one_answer 3 busy_tests busy_cells by_instance (col 0 1) (overlay old.now.trees []) params instance_cells instance_row instance_cmp instance_total (is_listed after)
+    (λ _. refl) (λ _. refl) (at_busy after (Int (pos limit) ∷ [])) (λ a b less. by_id a b ∙ less) (instances_in old.now.trees) rows tables.holds.instances (read.answer Null)
+    ∙ take-map busy_row limit _
 
-runs_last_after : (before life : Life) → IsLifeAfter before life → RunsLast life
-runs_last_after before [] h = tt
-runs_last_after before (order ∷ []) h = tt
-runs_last_after before (order ∷ next ∷ later) h =
-    (subst (λ last. option_map_or (is_now Running) last false ≡ false) (last_of_one before order) h.1.0.ended, runs_last_after (before ++ order ∷ []) (next ∷ later) h.1)
+-- ---- the rows of the table are those of the lives, in the order of their ids
 
-runs_last : (lives : Lives) (id : List ℕ) → IsLives lives → RunsLast (life_of lives id)
-runs_last lives id whole = go (get lives id) refl (whole id)
+abbrev by_bytes : List ℕ → List ℕ → Ordering
+by_bytes = slice_cmp nat_cmp
+
+both : (a b : Bool) → T a → T b → T (a && b)
+both true b p q = q
+both false b p q = p
+
+first : (a b : Bool) → T (a && b) → T a
+first true b p = tt
+first false b p = p
+
+second : (a b : Bool) → T (a && b) → T b
+second true b p = p
+second false b p = absurd p
+
+less : (o : Ordering) → T (is_lt o) → o ≡ Less
+less Less p = refl
+less Equal p = absurd p
+less Greater p = absurd p
+
+rises : (instances : List InstanceEntry) → IsAscending (λ a b. instance_cmp a b ≡ Less) instances → T (is_sorted by_bytes instances)
+rises [] up = tt
+rises (entry ∷ instances) up = both _ _ (below instances up.0) (rises instances up.1)
   where
-    go : (found : Option Life) → get lives id ≡ found → IfSome found (IsInstance id) → RunsLast (life_of lives id)
-    go None is h = rw is tt
-    go (Some life) is h = rw is (runs_last_after [] life h.life.orders)
+    below : (others : List InstanceEntry) → AllByRecursion (λ other. instance_cmp entry other ≡ Less) others → T (below_all by_bytes entry.0 others)
+    below [] h = tt
+    below (other ∷ others) h = both _ _ (subst (λ o. T (is_lt o)) (sym h.0) tt) (below others h.1)
 
--- ---- the entries of the map, one after another
-
-first_life : (entry : Entry) (rest : List Entry) → life_in entry.0 (entry ∷ rest) ≡ entry.1 ∷ life_in entry.0 rest
-first_life entry rest = rw (bytes_itself entry.0) refl
-
-no_entries : entries (empty {X = Life} {R = slice_cmp nat_cmp}) ≡ []
-no_entries = none _ (sym (len-entries empty) ∙ len-empty (slice_cmp nat_cmp) Life)
+rows_below : (id : List ℕ) (lives : List (List ℕ × Life)) → T (below_all by_bytes id lives) → T (below_all by_bytes id (filter_map with_row lives))
+rows_below id [] h = tt
+rows_below id (entry ∷ lives) h = go (row_of entry.1) (rows_below id lives (second _ _ h))
   where
-    none : {A : Type 0} (items : List A) → length items ≡ 0 → items ≡ []
-    none [] e = refl
-    none (item ∷ items) e = absurd (omega (arith, e))
+    go : (row : Option InstanceRow) → T (below_all by_bytes id (filter_map with_row lives)) → T (below_all by_bytes id (cons_option (option_map (λ (r : InstanceRow). (entry.0, r)) row) (filter_map with_row lives)))
+    go None more = more
+    go (Some row) more = both _ _ (first _ _ h) more
 
--- the first entry of the map is the life of the first instance
-pub record IsHeaded (es : List Entry) (entry : Entry) (rest : List Entry) : Type 0 where
-  pub more : List (List ℕ × Life)
-  pub is : entries (lives_in es) ≡ (entry.0, entry.1 ∷ life_in entry.0 rest) ∷ more
-
-at_or_below : (o p : Ordering) → ordering_then o p ≡ Less → (o ≡ Less) ⊎ (o ≡ Equal)
-at_or_below Less p h = inl refl
-at_or_below Equal p h = inr refl
-at_or_below Greater p h = absurd (cc)
-
-equal_ids : (a b : List ℕ) → slice_cmp nat_cmp a b ≡ Equal → a ≡ b
-equal_ids a b = slice_cmp-IsAntisymmetric nat_cmp-IsAntisymmetric a b
-
-not_same : (a b : List ℕ) → slice_cmp nat_cmp a b ≡ Less → bytes_eq b a ≡ false
-not_same a b less = bytes_back a b (sym (is_eq-slice_cmp a b) ∙ ap is_eq less)
-
--- an id below that of the first entry has no entry
-none_below : (id : List ℕ) (first : Entry) (rest : List Entry) → slice_cmp nat_cmp id first.0 ≡ Less → AllByRecursion (λ other. entry_cmp first other ≡ Less) rest → life_in id (first ∷ rest) ≡ []
-none_below id first rest less up = ap (map (λ (e : Entry). e.1)) (filter_none (is_of id) (first ∷ rest) (not_same id first.0 less, others rest up))
+rows_sorted : (lives : List (List ℕ × Life)) → T (is_sorted by_bytes lives) → T (is_sorted by_bytes (filter_map with_row lives))
+rows_sorted [] h = tt
+rows_sorted (entry ∷ lives) h = go (row_of entry.1) (rows_sorted lives (second _ _ h))
   where
-    others : (es : List Entry) → AllByRecursion (λ other. entry_cmp first other ≡ Less) es → AllByRecursion (λ other. is_of id other ≡ false) es
-    others [] h = tt
-    others (e ∷ es) h = (
-      elim (at_or_below (slice_cmp nat_cmp first.0 e.0) _ h.0) [
-        | inl below ↦ not_same id e.0 (nat_list_cmp_total.trans id first.0 e.0 less below)
-        | inr same ↦ not_same id e.0 (subst (λ other. slice_cmp nat_cmp id other ≡ Less) (equal_ids first.0 e.0 same) less)
-      ],
-      others es h.1,
-    )
+    go : (row : Option InstanceRow) → T (is_sorted by_bytes (filter_map with_row lives)) → T (is_sorted by_bytes (cons_option (option_map (λ (r : InstanceRow). (entry.0, r)) row) (filter_map with_row lives)))
+    go None more = more
+    go (Some row) more = both _ _ (rows_below entry.0 lives (first _ _ h)) more
 
-abbrev Rises : List Entry → Type 0
-Rises = IsAscending (λ a b. entry_cmp a b ≡ Less)
-
--- what one entry more does to the entries of the map
-entries_more : (entry : Entry) (rest : List Entry) → entries (lives_in (entry ∷ rest)) ≡ put (slice_cmp nat_cmp) entry.0 (entry.1 ∷ life_in entry.0 rest) (entries (lives_in rest))
-entries_more entry rest = entries-insert nat_list_cmp_total (lives_in rest) entry.0 _ ∙ ap (λ life. put (slice_cmp nat_cmp) entry.0 (entry.1 ∷ life) (entries (lives_in rest))) (life_of_lives entry.0 rest)
-
-put_below : (id key : List ℕ) (life other : Life) (more : List (List ℕ × Life)) → slice_cmp nat_cmp id key ≡ Less → put (slice_cmp nat_cmp) id life ((key, other) ∷ more) ≡ (id, life) ∷ (key, other) ∷ more
-put_below id key life other more less = rw less refl
-
-put_same : (id key : List ℕ) (life other : Life) (more : List (List ℕ × Life)) → slice_cmp nat_cmp id key ≡ Equal → put (slice_cmp nat_cmp) id life ((key, other) ∷ more) ≡ (key, life) ∷ more
-put_same id key life other more same = rw same refl
-
-abbrev Listed : List ℕ → List (List ℕ × Life) → List Entry
-Listed after groups = filter (is_listed after) (filter_map with_last groups)
-
-not_listed : (after : List ℕ) (entry : Entry) → is_now Running entry.1 ≡ false → is_listed after entry ≡ false
-not_listed after entry ended = rw ended refl
-
--- what an induction over the entries shows
-pub record IsRead (after : List ℕ) (entry : Entry) (rest : List Entry) : Type 0 where
-  pub headed : IsHeaded (entry ∷ rest) entry rest
-  pub listed : filter (is_listed after) (entry ∷ rest) ≡ Listed after (entries (lives_in (entry ∷ rest)))
-
-shorter : (entry : Entry) (rest : List Entry) → ((id : List ℕ) → RunsLast (life_in id (entry ∷ rest))) → (id : List ℕ) → RunsLast (life_in id rest)
-shorter entry rest last id = go (is_of id entry) (last id)
+equal_ids : (a b : List ℕ) → is_eq (by_bytes a b) ≡ true → a ≡ b
+equal_ids a b h = slice_cmp-IsAntisymmetric nat_cmp-IsAntisymmetric a b (equal _ h)
   where
-    drop : (order : Order) (life : Life) → RunsLast (order ∷ life) → RunsLast life
-    drop order [] h = tt
-    drop order (first ∷ life) h = h.1
+    equal : (o : Ordering) → is_eq o ≡ true → o ≡ Equal
+    equal Less h = absurd (cc)
+    equal Equal h = refl
+    equal Greater h = absurd (cc)
 
-    go : (b : Bool) → RunsLast (map (λ (e : Entry). e.1) (cond b (entry ∷ filter (is_of id) rest) (filter (is_of id) rest))) → RunsLast (life_in id rest)
-    go true h = drop entry.1 _ h
-    go false h = h
+-- an id below all has no row
+none_below : (id : List ℕ) (rows : List InstanceEntry) → T (below_all by_bytes id rows) → find by_bytes id rows ≡ None
+none_below id [] h = refl
+none_below id (row ∷ rows) h = ap (λ o. cond (is_eq o) (Some row.1) (find by_bytes id rows)) (less (by_bytes id row.0) (first _ _ h)) ∙ none_below id rows (second _ _ h)
 
-reads_more : (after : List ℕ) (entry next : Entry) (rest : List Entry) → Rises (entry ∷ next ∷ rest) → ((id : List ℕ) → RunsLast (life_in id (entry ∷ next ∷ rest))) → IsRead after next rest → IsRead after entry (next ∷ rest)
-reads_more after entry next rest up last later = elim (at_or_below (slice_cmp nat_cmp entry.0 next.0) _ up.0.0) [
-  | inl below ↦
-      let none : life_in entry.0 (next ∷ rest) ≡ [] = none_below entry.0 next rest below up.1.0 in
-      let is : entries (lives_in (entry ∷ next ∷ rest)) ≡ (entry.0, entry.1 ∷ life_in entry.0 (next ∷ rest)) ∷ entries (lives_in (next ∷ rest)) =
-      entries_more entry (next ∷ rest) ∙ ap (put (slice_cmp nat_cmp) entry.0 (entry.1 ∷ life_in entry.0 (next ∷ rest))) later.headed.is ∙ put_below entry.0 next.0 _ _ later.headed.more below ∙ ap (λ es. (entry.0, entry.1 ∷ life_in entry.0 (next ∷ rest)) ∷ es) (sym later.headed.is) in
-      record {
-        headed = record { more = entries (lives_in (next ∷ rest)); is = is };
-        listed = ap (λ es. cond (is_listed after entry) (entry ∷ es) es) later.listed ∙ sym (ap (Listed after) (is ∙ ap (λ life. (entry.0, entry.1 ∷ life) ∷ entries (lives_in (next ∷ rest))) none));
-      }
-  | inr same ↦
-      let ids : entry.0 ≡ next.0 = equal_ids entry.0 next.0 same in
-      let life : life_in entry.0 (next ∷ rest) ≡ next.1 ∷ life_in next.0 rest = ap (λ id. life_in id (next ∷ rest)) ids ∙ first_life next rest in
-      let is : entries (lives_in (entry ∷ next ∷ rest)) ≡ (entry.0, entry.1 ∷ life_in entry.0 (next ∷ rest)) ∷ later.headed.more =
-      entries_more entry (next ∷ rest) ∙ ap (put (slice_cmp nat_cmp) entry.0 (entry.1 ∷ life_in entry.0 (next ∷ rest))) later.headed.is ∙ put_same entry.0 next.0 _ _ later.headed.more same ∙ ap (λ id. (id, entry.1 ∷ life_in entry.0 (next ∷ rest)) ∷ later.headed.more) (sym ids) in
-      let ended : is_now Running entry.1 ≡ false = (subst RunsLast (first_life entry (next ∷ rest) ∙ ap (λ l. entry.1 ∷ l) life) (last entry.0)).0 in
-      let skipped : filter (is_listed after) (entry ∷ next ∷ rest) ≡ filter (is_listed after) (next ∷ rest) = ap (λ b. cond b (entry ∷ filter (is_listed after) (next ∷ rest)) (filter (is_listed after) (next ∷ rest))) (not_listed after entry ended) in
-      let groups : Listed after ((entry.0, entry.1 ∷ life_in entry.0 (next ∷ rest)) ∷ later.headed.more) ≡ Listed after (entries (lives_in (next ∷ rest))) =
-      ap (λ l. Listed after ((entry.0, entry.1 ∷ l) ∷ later.headed.more)) life ∙ ap (λ id. Listed after ((id, next.1 ∷ life_in next.0 rest) ∷ later.headed.more)) ids ∙ sym (ap (Listed after) later.headed.is) in
-      record { headed = record { more = later.headed.more; is = is }; listed = skipped ∙ later.listed ∙ sym (ap (Listed after) is ∙ groups) }
-]
+abbrev row_of_found : Option Life → Option InstanceRow
+row_of_found found = row_of (unwrap_or found [])
 
-reads : (after : List ℕ) (entry : Entry) (rest : List Entry) → Rises (entry ∷ rest) → ((id : List ℕ) → RunsLast (life_in id (entry ∷ rest))) → IsRead after entry rest
-reads after entry [] up last =
-    let is : entries (lives_in (entry ∷ [])) ≡ (entry.0, entry.1 ∷ []) ∷ [] = entries_more entry [] ∙ ap (put (slice_cmp nat_cmp) entry.0 (entry.1 ∷ [])) no_entries in
-    record { headed = record { more = []; is = is }; listed = sym (ap (Listed after) is) }
-reads after entry (next ∷ rest) up last = reads_more after entry next rest up last (reads after next rest up.1 (shorter entry (next ∷ rest) last))
+-- a look-up in the rows of the lives finds the row of the life
+row_found : (id : List ℕ) (lives : List (List ℕ × Life)) → T (is_sorted by_bytes lives) → find by_bytes id (filter_map with_row lives) ≡ row_of_found (find by_bytes id lives)
+row_found id [] h = refl
+row_found id (entry ∷ lives) h = go (is_eq (by_bytes id entry.0)) refl (row_of entry.1) refl (row_found id lives (second _ _ h))
+  where
+    rest : List InstanceEntry
+    rest = filter_map with_row lives
 
--- the running orders of the instances with greater ids
-pub listing_told : (after : List ℕ) (limit : ℕ) (es : List Entry) → Rises es → IsLives (lives_in es) → take limit (filter (is_listed after) es) ≡ listing (lives_in es) after limit
-listing_told after limit [] up whole = sym (ap (λ groups. take limit (Listed after groups)) no_entries)
-listing_told after limit (entry ∷ rest) up whole =
-    ap (take limit) (reads after entry rest up (λ id. subst RunsLast (life_of_lives id (entry ∷ rest)) (runs_last (lives_in (entry ∷ rest)) id whole))).listed
+    go : (same : Bool) → is_eq (by_bytes id entry.0) ≡ same → (row : Option InstanceRow) → row_of entry.1 ≡ row → find by_bytes id rest ≡ row_of_found (find by_bytes id lives)
+        → find by_bytes id (cons_option (option_map (λ (r : InstanceRow). (entry.0, r)) row) rest) ≡ row_of_found (cond same (Some entry.1) (find by_bytes id lives))
+    go true here (Some row) is more = rw here (sym is)
+    go true here None is more = ap (λ at. find by_bytes at rest) (equal_ids id entry.0 here) ∙ none_below entry.0 rest (rows_below entry.0 lives (first _ _ h)) ∙ sym is
+    go false other (Some row) is more = rw other more
+    go false other None is more = more
+
+abbrev row_in : List InstanceEntry → Option InstanceRow
+row_in [] = None
+row_in (entry ∷ entries) = Some entry.1
+
+found_first : (id : List ℕ) (instances : List InstanceEntry) → find by_bytes id instances ≡ row_in (filter (is_instance id) instances)
+found_first id [] = refl
+found_first id (entry ∷ instances) = ap (λ b. cond b (Some entry.1) (find by_bytes id instances)) (key_is id entry.0) ∙ go (is_instance id entry) (found_first id instances)
+  where
+    go : (b : Bool) → find by_bytes id instances ≡ row_in (filter (is_instance id) instances) → cond b (Some entry.1) (find by_bytes id instances) ≡ row_in (cond b (entry ∷ filter (is_instance id) instances) (filter (is_instance id) instances))
+    go true more = refl
+    go false more = more
+
+row_back : (id : List ℕ) (row : Option InstanceRow) → row_in (map (λ (r : InstanceRow). (id, r)) (option_to_list row)) ≡ row
+row_back id None = refl
+row_back id (Some row) = refl
+
+pub rows_are : (lives : Lives) (instances : List InstanceEntry) → IsAscending (λ a b. instance_cmp a b ≡ Less) instances → InstancesStand lives instances → instances ≡ instance_rows lives
+rows_are lives instances up stand =
+    same_entries by_bytes nat_list_cmp_total (slice_cmp-IsAntisymmetric nat_cmp-IsAntisymmetric) instances (instance_rows lives) (rises instances up) (rows_sorted (entries lives) (entries_sorted lives))
+    (λ id. found_first id instances ∙ ap row_in (stand id) ∙ row_back id (row_of (life_of lives id)) ∙ ap row_of_found (get-entries lives id) ∙ sym (row_found id (entries lives) (entries_sorted lives)))
+
+-- ---- each with the order that it names
+
+found_all : {A B : Type 0} (f : A → Option B) (limit : ℕ) (items : List A) (found : List B) → map Some found ≡ map f (take limit items) → found ≡ take limit (filter_map f items)
+found_all f zero items [] is = refl
+found_all f zero items (x ∷ found) is = absurd (cc)
+found_all f (suc limit) [] [] is = refl
+found_all f (suc limit) [] (x ∷ found) is = absurd (cc)
+found_all f (suc limit) (item ∷ items) [] is = absurd (cc)
+found_all f (suc limit) (item ∷ items) (x ∷ found) is =
+    let here : Some x ≡ f item = cc in
+    let more : map Some found ≡ map f (take limit items) = cc in
+    subst (λ o. x ∷ found ≡ take (suc limit) (cons_option o (filter_map f items))) here (ap (λ xs. x ∷ xs) (found_all f limit items found more))
+
+named_again : (lives : Lives) (entries : List InstanceEntry) → map (order_for lives) (map busy_row entries) ≡ map (with_order lives) entries
+named_again lives [] = refl
+named_again lives (entry ∷ entries) = ap (λ found. with_order lives entry ∷ found) (named_again lives entries)
+
+-- the orders that the busy rows name are the listing
+pub listing_found : ListedByRows → (lives : Lives) (after : List ℕ) (limit : ℕ) (instances : List InstanceEntry) (rows : List Row) (found : List (List ℕ × Order)) → IsLives lives → IsAscending (λ a b. instance_cmp a b ≡ Less) instances → InstancesStand lives instances
+    → rows ≡ map busy_row (take limit (filter (is_listed after) instances)) → map Some found ≡ map (order_for lives) rows → found ≡ listing lives after limit
+listing_found law lives after limit instances rows found whole up stand are named =
+    let busy = filter (is_listed after) instances in
+    found_all (with_order lives) limit busy found (named ∙ ap (map (order_for lives)) are ∙ named_again lives (take limit busy))
+    ∙ ap (λ all. take limit (filter_map (with_order lives) (filter (is_listed after) all))) (rows_are lives instances up stand)
+    ∙ sym (law lives after limit whole)
+
+-- ---- row by row
+
+-- so far these rows were read, and nothing was changed
+pub record HasListed (old now : State) (rows : List Row) (count : ℕ) (found : List (List ℕ × Order)) : Type 0 where
+  pub shows : ShowsRecords now
+  pub survives : Survives old now (λ _. ⊥)
+  pub same : HasCleanDisk now → IsTrue old.is_open → IsUnchanged old now
+  pub named : HasCleanDisk now → IsTrue old.is_open → map Some found ≡ map (order_for (stored old)) (take count rows)
+
+pub none_listed : (s : State) (rows : List Row) (found : List (List ℕ × Order)) → found ≡ [] → ShowsRecords s → HasListed s s rows 0 found
+none_listed s rows found none shows = record {
+  shows = shows;
+  survives = record { clean = omega arith; shield = λ shielded. shielded; counts = omega arith; limit = refl; closes = λ _ live. inl live; crash = λ _ db left. inl left };
+  same = λ _ live. unchanged s live;
+  named = λ _ _. ap (map Some) none;
+}
+
+one_more : {A B : Type 0} (f : A → Option B) (rows : List A) (at : ℕ) (row : A) (found next : List B) (item : B) → at < length rows → row ≡ get_or rows at row → map Some found ≡ map f (take at rows) → Some item ≡ f row → next ≡ found ++ item ∷ []
+    → map Some next ≡ map f (take (at + 1) rows)
+one_more f rows at row found next item low is were tells grown = ap (map Some) grown ∙ map-append Some found (item ∷ []) ∙ told_push f rows at row (map Some found) (map Some found ++ Some item ∷ []) (Some item) low is were refl tells
+
+pub next_listed : (old now next : State) (rows : List Row) (at : ℕ) (row : Row) (found more : List (List ℕ × Order)) (pair : List ℕ × Order) → HasListed old now rows at found → Survives now next (λ _. ⊥)
+    → (HasCleanDisk next → IsUnchanged now next) → ShowsRecords next → (HasCleanDisk next → Some pair ≡ order_for (stored now) row) → at < length rows → row ≡ get_or rows at row → more ≡ found ++ pair ∷ [] → HasListed old next rows (at + 1) more
+next_listed old now next rows at row found more pair so_far survives same shows tells low is grown = record {
+  shows = shows;
+  survives = survives_then old now next (λ _. ⊥) (λ _. ⊥) (λ _. ⊥) (λ _ db none. none) (λ _ db none. none) so_far.survives survives;
+  same = λ clean live. unchanged_then old now next (so_far.same (clean_before now next _ survives clean) live) (same clean);
+  named = λ clean live.
+      let before = clean_before now next _ survives clean in
+      one_more (order_for (stored old)) rows at row found more pair low is (so_far.named before live)
+      (tells clean ∙ ap (λ (d : Database). order_for (lives_stored d.trees) row) (so_far.same before live).0.now_is) grown;
+}

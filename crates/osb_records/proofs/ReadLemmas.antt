@@ -3,7 +3,7 @@ use Rattle.std.proofs.Common.{◌≡◌, ℕ, zero, suc, ◌+◌, ◌<◌, add-o
 use Rattle.sqlite.specs.Order.{Row}
 use Rattle.osb_orders.specs.declared.order.Order.{Order}
 use Rattle.osb_orders.specs.Lives.{life_of}
-use Rattle.osb_records.specs.Stored.{Entry, entry_row, entry_told, order_told, is_of, lives_in}
+use Rattle.osb_records.specs.Stored.{Entry, entry_row, order_told, is_of, lives_in}
 use Rattle.osb_records.proofs.SortLemmas.{told_back}
 use Rattle.osb_records.proofs.LivesLemmas.{life_of_lives}
 
@@ -11,26 +11,18 @@ told_orders : (entries : List Entry) → map order_told (map entry_row entries) 
 told_orders [] = refl
 told_orders (entry ∷ entries) = ap₂ (λ (order : Order) orders. order ∷ orders) (ap (λ (e : Entry). e.1) (told_back entry)) (told_orders entries)
 
-told_entries : (entries : List Entry) → map entry_told (map entry_row entries) ≡ entries
-told_entries [] = refl
-told_entries (entry ∷ entries) = ap₂ (λ (e : Entry) es. e ∷ es) (told_back entry) (told_entries entries)
-
 -- the rows of an instance tell its life
 pub life_told : (id : List ℕ) (entries : List Entry) (rows : List Row) → rows ≡ map entry_row (filter (is_of id) entries) → map order_told rows ≡ life_of (lives_in entries) id
 life_told id entries rows is = ap (map order_told) is ∙ told_orders (filter (is_of id) entries) ∙ sym (life_of_lives id entries)
 
--- the rows of entries tell them
-pub listing_rows : (entries : List Entry) (rows : List Row) → rows ≡ map entry_row entries → map entry_told rows ≡ entries
-listing_rows entries rows is = ap (map entry_told) is ∙ told_entries entries
-
 -- ---- loops over rows
 
-told_next : {A : Type 0} (told : Row → A) (rows : List Row) (i : ℕ) (row : Row) → i < length rows → row ≡ get_or rows i row → map told (take (suc i) rows) ≡ map told (take i rows) ++ told row ∷ []
+told_next : {R A : Type 0} (told : R → A) (rows : List R) (i : ℕ) (row : R) → i < length rows → row ≡ get_or rows i row → map told (take (suc i) rows) ≡ map told (take i rows) ++ told row ∷ []
 told_next told [] i row low is = absurd (omega (arith, low))
 told_next told (first ∷ rows) zero row low is = ap (λ r. told r ∷ []) (sym is)
 told_next told (first ∷ rows) (suc i) row low is = ap (λ items. told first ∷ items) (told_next told rows i row (omega (arith, low)) is)
 
-pub told_push : {A : Type 0} (told : Row → A) (rows : List Row) (i : ℕ) (row : Row) (old new : List A) (item : A) → i < length rows → row ≡ get_or rows i row → old ≡ map told (take i rows) → new ≡ old ++ item ∷ [] → item ≡ told row
+pub told_push : {R A : Type 0} (told : R → A) (rows : List R) (i : ℕ) (row : R) (old new : List A) (item : A) → i < length rows → row ≡ get_or rows i row → old ≡ map told (take i rows) → new ≡ old ++ item ∷ [] → item ≡ told row
     → new ≡ map told (take (i + 1) rows)
 told_push told rows i row old new item low at was grown is =
     grown ∙ ap (λ items. items ++ item ∷ []) was ∙ ap (λ last. map told (take i rows) ++ last ∷ []) is ∙ sym (told_next told rows i row low at) ∙ ap (λ n. map told (take n rows)) (sym (add-one i))

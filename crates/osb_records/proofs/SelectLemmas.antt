@@ -1,14 +1,10 @@
 -- What the queries answer of the entries.
-use Rattle.std.proofs.Common.{◌≡◌, ℕ, pos, List, [], ◌∷◌, map, filter, take, IsTrue, Some, None, Option, Ordering, Less, Equal, Greater, nat_cmp, refl, sym, ap, subst, ◌∙◌}
-use Rattle.std.specs.Ordering.{ordering_then, is_gt}
-use Rattle.std.specs.List.{list_all}
-use Rattle.std.specs.Cmp.Lexicographic.{slice_cmp}
-use Rattle.std.proofs.lemmas.List.{take-map}
+use Rattle.std.proofs.Common.{◌≡◌, ℕ, pos, List, [], ◌∷◌, map, filter, IsTrue, Some, None, Option, Ordering, Less, Equal, Greater, nat_cmp, refl, sym, ap, subst, ◌∙◌}
+use Rattle.std.specs.Ordering.{ordering_then}
 use Rattle.sqlite.specs.declared.types.Value.TheVariants.{Null, Int, Text}
 use Rattle.sqlite.specs.Order.{Row}
 use Rattle.sqlite.specs.Program.{overlay}
 use Rattle.sqlite.specs.Query.{key_cmp}
-use Rattle.sqlite.specs.Term.{col, holds}
 use Rattle.sqlite_value.specs.Keys.{ascending}
 use Rattle.sqlite_value.specs.declared.keys.Collation.TheVariants.{Binary}
 use Rattle.sqlite_value.proofs.OrderLemmas.{value_cmp-Text}
@@ -18,15 +14,13 @@ use Rattle.sqlite_resolve.specs.declared.compiled.Compiled.{Compiled}
 use Rattle.sqlite_schema.specs.declared.command.Returning.{Returning}
 use Rattle.sqlite.specs.State.{State, Shown, ShowsRows, IsUnchanged}
 use Rattle.sqlite.proofs.Callers.{IsPlain, reads_as}
-use Rattle.osb_orders.specs.Orders.{state_number}
-use Rattle.osb_orders.specs.Listing.{is_listed}
 use Rattle.osb_records.specs.Tables.{record_schema}
 use Rattle.osb_records.specs.Stored.{Entry, entry_row, entry_cmp, order_cells, entries_in, is_of}
 use Rattle.osb_records.specs.Steps.{HasTables}
-use Rattle.osb_records.proofs.TestLemmas.{at_instance, same_number, later_text, and_true, number_cmp}
+use Rattle.osb_records.proofs.TestLemmas.{at_instance, number_cmp}
 use Rattle.osb_records.proofs.SortLemmas.{entry_total}
 use Rattle.osb_records.proofs.AnswerLemmas.{one_answer}
-use Rattle.osb_records.proofs.Texts.{select_life, select_life_is, select_running, running_tests, select_running_is, all_cells, by_key, every, is_at}
+use Rattle.osb_records.proofs.Texts.{select_life, select_life_is, all_cells, by_key, every, is_at}
 
 module _ (sql : List ℕ) (params : Row) (old new : State) where
   showed_open : (c : Compiled) (full : Row) (rows : List Row) (returning : Option Returning) → ShowsRows old new sql c full rows returning → IsTrue old.is_open
@@ -54,9 +48,6 @@ then_equal Greater = refl
 pub by_both : (a b : Entry) → key_cmp 0 (ascending Binary ∷ ascending Binary ∷ []) (Text a.0 ∷ Int (pos a.1.number) ∷ []) (Text b.0 ∷ Int (pos b.1.number) ∷ []) ≡ entry_cmp a b
 by_both a b = rw (value_cmp-Text a.0 b.0, number_cmp a.1.number b.1.number, then_equal (nat_cmp a.1.number b.1.number)) refl
 
-at_running : (after : List ℕ) (more : Row) (entry : Entry) → list_all (holds ((Text after ∷ more) ∷ (Null ∷ entry_row entry) ∷ [])) running_tests ≡ is_listed after entry
-at_running after more entry = rw (same_number (state_number entry.1.outcome.state) 0, later_text entry.0 after, and_true (is_gt (slice_cmp nat_cmp entry.0 after))) refl
-
 module _ (old new : State) (tables : HasTables old.now) where
   abbrev entries : List Entry
   entries = entries_in old.now.trees
@@ -68,12 +59,3 @@ module _ (old new : State) (tables : HasTables old.now) where
       let read = reads_as select_life params old new record_schema tables.schema _ select_life_is.0 select_life_is.2 select_life_is.1 rows h in
       one_answer 1 (is_at 1 0 ∷ []) all_cells by_key every (overlay old.now.trees []) params order_cells entry_row entry_cmp entry_total (is_of id)
       (λ _. refl) (λ _. refl) (at_instance id []) (λ a b less. by_both a b ∙ less) entries rows tables.holds.orders (read.answer Null)
-
-  -- the running orders of the instances with greater ids, up to a limit
-  pub shows_running : (after : List ℕ) (limit : ℕ) (rows : List Row) → Shown select_running (Text after ∷ Int (pos limit) ∷ []) old new rows → rows ≡ map entry_row (take limit (filter (is_listed after) entries))
-  shows_running after limit rows h =
-      let params = Text after ∷ Int (pos limit) ∷ [] in
-      let read = reads_as select_running params old new record_schema tables.schema _ select_running_is.0 select_running_is.2 select_running_is.1 rows h in
-      one_answer 1 running_tests all_cells by_key (col 0 1) (overlay old.now.trees []) params order_cells entry_row entry_cmp entry_total (is_listed after)
-      (λ _. refl) (λ _. refl) (at_running after (Int (pos limit) ∷ [])) (λ a b less. by_both a b ∙ less) entries rows tables.holds.orders (read.answer Null)
-      ∙ take-map entry_row limit _

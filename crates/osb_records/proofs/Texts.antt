@@ -4,8 +4,8 @@ use Rattle.sqlite.specs.declared.types.Value.TheVariants.{Null, Int}
 use Rattle.sqlite.specs.Query.{Query}
 use Rattle.sqlite.specs.Term.{Term, lit, col}
 use Rattle.sqlite.specs.Source.TheVariants.{Values}
-use Rattle.sqlite.specs.Command.TheVariants.{Insert, Select, Update, CreateTable}
-use Rattle.sqlite.specs.Compile.{table_defined_by}
+use Rattle.sqlite.specs.Command.TheVariants.{Insert, Select, Update, CreateTable, CreateIndex}
+use Rattle.sqlite.specs.Compile.{table_defined_by, index_defined_by}
 use Rattle.sqlite_sql.specs.Term.{op2}
 use Rattle.sqlite_sql.specs.declared.ops.BinaryOp.TheVariants.{Compare}
 use Rattle.sqlite_sql.specs.declared.ops.CompareOp.TheVariants.{Eq, Gt}
@@ -15,7 +15,7 @@ use Rattle.sqlite_value.specs.Keys.{ascending}
 use Rattle.sqlite_tied.specs.Compute.{everything}
 use Rattle.sqlite.specs.Listing.{understood, reads_listing}
 use Rattle.sqlite.proofs.Callers.{IsPlain, command_of, statement_of}
-use Rattle.osb_records.specs.Tables.{format_table, no_schema, format_schema, orders_schema, instances_schema, record_schema, plain_table, order_columns, instance_columns, binding_columns}
+use Rattle.osb_records.specs.Tables.{format_table, instances_table, busy_index, no_schema, format_schema, orders_schema, instances_schema, tables_schema, record_schema, plain_table, order_columns, instance_columns, binding_columns}
 use Rattle.osb_records.proofs.AnswerLemmas.{over}
 use Rattle.sqlite.specs.Change.{created}
 use Rattle.sqlite.specs.Table.{Table}
@@ -94,9 +94,20 @@ pub create_bindings_plain : IsPlain (understood instances_schema create_bindings
 unfolding understood everything
 create_bindings_plain = (refl, refl)
 
-pub bindings_placed : created instances_schema bindings_made ≡ record_schema
+pub bindings_placed : created instances_schema bindings_made ≡ tables_schema
 unfolding everything
 bindings_placed = refl
+
+abbrev pub create_index : List ℕ
+create_index = codes "CREATE INDEX busy_instances ON instances (busy, instance_id)"
+
+pub create_index_is : (command_of (understood tables_schema create_index) ≡ CreateIndex 2) × (statement_of create_index (understood tables_schema create_index) ≡ create_index) × (index_defined_by instances_table create_index ≡ Ok busy_index)
+unfolding understood everything
+create_index_is = (refl, refl, refl)
+
+pub create_index_plain : IsPlain (understood tables_schema create_index)
+unfolding understood everything
+create_index_plain = (refl, refl)
 
 abbrev pub insert_version : List ℕ
 insert_version = codes "INSERT INTO format (version) VALUES (1)"
@@ -179,19 +190,6 @@ pub select_life_is : (command_of (understood record_schema select_life) ≡ Sele
 unfolding understood everything
 select_life_is = (refl, refl, (refl, refl))
 
-abbrev pub select_running : List ℕ
-select_running = codes "SELECT instance_id, seq, kind, binding_id, service_id, plan_id, place, spot, params, maint, state, note, credentials FROM orders WHERE state = 0 AND instance_id > ?1 ORDER BY instance_id, seq LIMIT ?2"
-
-abbrev pub running_tests : List Term
-running_tests = op2 (Compare Eq Binary) (col 1 11) (lit (Int (pos 0))) ∷ op2 (Compare Gt Binary) (col 1 1) (col 0 0) ∷ []
-
-abbrev pub running_query : Query
-running_query = over 1 running_tests all_cells by_key (col 0 1)
-
-pub select_running_is : (command_of (understood record_schema select_running) ≡ Select (record { lets = []; body = running_query }) all_names) × (reads_listing record_schema select_running ≡ false) × IsPlain (understood record_schema select_running)
-unfolding understood everything
-select_running_is = (refl, refl, (refl, refl))
-
 abbrev pub instance_cells_read : List Term
 instance_cells_read = col 1 1 ∷ col 1 2 ∷ col 1 3 ∷ col 1 4 ∷ col 1 5 ∷ col 1 6 ∷ col 1 7 ∷ col 1 8 ∷ col 1 9 ∷ col 1 10 ∷ []
 
@@ -210,3 +208,19 @@ instance_query = over 3 (is_at 1 0 ∷ []) instance_cells_read by_instance every
 pub select_instance_is : (command_of (understood record_schema select_instance) ≡ Select (record { lets = []; body = instance_query }) instance_names) × (reads_listing record_schema select_instance ≡ false) × IsPlain (understood record_schema select_instance)
 unfolding understood everything
 select_instance_is = (refl, refl, (refl, refl))
+
+abbrev pub select_busy : List ℕ
+select_busy = codes "SELECT instance_id, last_seq FROM instances WHERE busy = 1 AND instance_id > ?1 ORDER BY instance_id LIMIT ?2"
+
+abbrev pub busy_tests : List Term
+busy_tests = op2 (Compare Eq Binary) (col 1 3) (lit (Int (pos 1))) ∷ op2 (Compare Gt Binary) (col 1 1) (col 0 0) ∷ []
+
+abbrev pub busy_cells : List Term
+busy_cells = col 1 1 ∷ col 1 4 ∷ []
+
+abbrev pub busy_query : Query
+busy_query = over 3 busy_tests busy_cells by_instance (col 0 1)
+
+pub select_busy_is : (command_of (understood record_schema select_busy) ≡ Select (record { lets = []; body = busy_query }) (codes "instance_id" ∷ codes "last_seq" ∷ [])) × (reads_listing record_schema select_busy ≡ false) × IsPlain (understood record_schema select_busy)
+unfolding understood everything
+select_busy_is = (refl, refl, (refl, refl))

@@ -1,11 +1,16 @@
 -- What a connection shows to queries, and what the rows of an answer tell.
-use Rattle.std.specs.Prelude.{IsTrue, ℕ, Bool, false, List, Option, None, Some, option_map, slice_get, if◌then◌else◌}
-use Rattle.sqlite.specs.Order.{Row}
+use Rattle.std.specs.Prelude.{IsTrue, ℕ, pos, Bool, false, List, [], ◌∷◌, Option, None, Some, option_map, slice_get, if◌then◌else◌}
+use Rattle.sqlite.specs.declared.types.Value.TheVariants.{Int, Text as Words}
+use Rattle.sqlite.specs.Order.{Row, column, bytes}
 use Rattle.sqlite.specs.Effect.{Database}
 use Rattle.sqlite.specs.State.{State, HasCleanDisk}
 use Rattle.osb_orders.specs.declared.order.Order.{Order}
 use Rattle.osb_orders.specs.Facts.{Facts}
+use Rattle.osb_orders.specs.Lives.{Lives, life_of}
+use Rattle.osb_orders.specs.Named.{order_numbered}
 use Rattle.osb_orders.specs.IsLife.{IsLives}
+use Rattle.osb_records.specs.Columns.{number_in}
+use Rattle.osb_records.specs.Instances.{InstanceEntry}
 use Rattle.osb_records.specs.Stored.{order_told, lives_stored, content_in}
 use Rattle.osb_records.specs.Standing.{IsStanding}
 use Rattle.osb_records.specs.Steps.{HasTables}
@@ -23,6 +28,14 @@ ShowsRecords s = HasCleanDisk s → IsTrue s.is_open → AreRecords s.now
 -- the order that the first row tells, if there is a row
 abbrev pub first_order : List Row → Option Order
 first_order rows = option_map order_told (slice_get rows 0)
+
+-- what the listing reads of an instance
+abbrev pub busy_row : InstanceEntry → Row
+busy_row entry = Words entry.0 ∷ Int (pos entry.1.last_number) ∷ []
+
+-- the order that such cells name, with the id of its instance
+abbrev pub order_for : Lives → Row → Option (List ℕ × Order)
+order_for lives cells = option_map (λ (order : Order). (bytes (column cells 0), order)) (order_numbered (number_in (column cells 1)) (life_of lives (bytes (column cells 0))))
 
 -- the item, if it passes
 abbrev pub only : {A : Type 0} → (A → Bool) → Option A → Option A

@@ -4,9 +4,10 @@ use Rattle.sqlite.specs.Collation.TheVariants.{Binary}
 use Rattle.sqlite.specs.declared.types.Value.TheVariants.{Null}
 use Rattle.sqlite.specs.Table.{Table}
 use Rattle.sqlite.specs.Schema.{Schema}
-use Rattle.sqlite.specs.Change.{created}
+use Rattle.sqlite.specs.Change.{created, indexed}
 use Rattle.sqlite.specs.Kind.TheVariants.{Integer, Text}
 use Rattle.sqlite_schema.specs.declared.schema.Column.{Column}
+use Rattle.sqlite_schema.specs.declared.schema.Index.{Index}
 
 -- a column of texts, ordered by their bytes
 abbrev pub text_column : List ℕ → Column
@@ -106,5 +107,13 @@ orders_schema = created format_schema orders_table
 abbrev pub instances_schema : Schema
 instances_schema = created orders_schema instances_table
 
+abbrev pub tables_schema : Schema
+tables_schema = created instances_schema bindings_table
+
+-- the instances by whether their last order runs, and then by their ids
+abbrev pub busy_index : Index
+busy_index = record { name = codes "busy_instances"; tree = 0; table = 3; columns = 3 ∷ 1 ∷ []; order = record { digits = 0 }; is_unique = false }
+
+-- the four tables and the index
 abbrev pub record_schema : Schema
-record_schema = created instances_schema bindings_table
+record_schema = indexed tables_schema instances_table busy_index

@@ -16,7 +16,7 @@ ghost use Rattle.osb_records.specs.Commit.{FinishesLast};
 use crate::commits::{append, finish};
 use crate::fault::StoreFault;
 use crate::reading::{read_life, read_running};
-use crate::row::{entries_in, orders_in};
+use crate::row::orders_in;
 use crate::tables::make_tables;
 use crate::view::{view_of_instance, view_without_instance};
 use osb_asks::Ask;
@@ -76,7 +76,6 @@ impl<S: Alter> Records<S> {
 
     /// The first so many instances whose last order runs and whose id is greater than `after` by
     /// bytes, in the order of their ids, each with that order.
-    #[tactic(auto, using(crate::proofs::ReadLemmas::listing_rows))]
     pub fn running(
         &mut self,
         alloc: Global,
@@ -87,8 +86,7 @@ impl<S: Alter> Records<S> {
         ensures same { HasCleanDisk (state S.Store self.new) → IsTrue (state S.Store self.new).is_open → stored (state S.Store self.new) ≡ stored (state S.Store self.old) }
         ensures crash { Survives (state S.Store self.old) (state S.Store self.new) (λ _. ⊥) }
     {
-        let rows = read_running(&mut self.conn, after, limit)?;
-        entries_in(alloc, &rows)
+        read_running(&mut self.conn, alloc, after, limit)
     }
 
     /// What the ask needs to know of the lives.

@@ -4,7 +4,7 @@ ghost use Rattle.std.specs.Prelude.{◌≡◌, ◌==◌, map, IfOk};
 ghost use Rattle.sqlite.specs.Order.{column, bytes};
 ghost use Rattle.osb_records.specs.Queries.{first_order};
 ghost use Rattle.osb_records.specs.Columns.{number_in, attributes_told};
-ghost use Rattle.osb_records.specs.Stored.{kind_numbered, state_numbered, entry_told, order_told};
+ghost use Rattle.osb_records.specs.Stored.{kind_numbered, state_numbered, order_told};
 ghost use Rattle.osb_records.specs.Instances.{instance_phase_numbered, standing_told, instance_row_told, first_told};
 ghost use Rattle.osb_records.specs.Bindings.{binding_phase_numbered, binding_now, binding_told};
 
@@ -101,15 +101,11 @@ pub(crate) fn orders_in(alloc: Global, rows: &[Row]) -> Result<Vec<Order>, Store
     Ok(orders)
 }
 
-/// The orders that the rows show, each with the id of its instance.
-pub(crate) fn entries_in(alloc: Global, rows: &[Row]) -> Result<Vec<(Text, Order)>, StoreFault>
-    ensures { IfOk result (λ entries. entries.items ≡ map entry_told rows.now) }
+/// The instance that the row names, and the number of its order.
+pub(crate) fn named_in(row: &Row) -> Result<(Text, u32), StoreFault>
+    ensures { IfOk result (λ named. (named.0 ≡ bytes (column row.now 0)) × (named.1 ≡ number_in (column row.now 1))) }
 {
-    let mut entries = Vec::new(alloc);
-    for row in rows {
-        entries.push((text_in(row, 0)?, order_in(row)?))?;
-    }
-    Ok(entries)
+    Ok((text_in(row, 0)?, number_in(row, 1)?))
 }
 
 /// The order that the first row shows.

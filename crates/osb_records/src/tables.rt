@@ -4,7 +4,7 @@ ghost use Rattle.std.specs.Prelude.{◌≡◌, [], ◌∷◌, IsTrue, OnOk, OnEr
 ghost use Rattle.std.specs.FinMap.{empty};
 ghost use Rattle.sqlite.specs.Held.{state};
 ghost use Rattle.sqlite.specs.State.{HasCleanDisk, KeepsCommit, Survives};
-ghost use Rattle.osb_records.specs.Tables.{no_schema, format_schema, orders_schema, instances_schema, record_schema};
+ghost use Rattle.osb_records.specs.Tables.{no_schema, format_schema, orders_schema, instances_schema, tables_schema, record_schema};
 ghost use Rattle.osb_records.specs.Steps.{ShowsSchema, ShowsBlank, HoldsLives, IsSettled, IsReady, Writes, Makes, LeavesOnly, stored};
 
 use sqlite::{Alter, Connection, Error, Transaction};
@@ -54,7 +54,7 @@ fn create_bindings<S: Alter>(tx: &mut Transaction<'_, S>) -> Result<usize, Error
     requires schema { ShowsSchema instances_schema (state S.Store tx.old.conn.now) }
     requires blank { ShowsBlank (3 ∷ 1 ∷ 0 ∷ []) (state S.Store tx.old.conn.now) }
     ensures same_reference { tx.new.conn.ghost_name ≡ tx.old.conn.ghost_name }
-    ensures ok { HasCleanDisk (state S.Store tx.new.conn.now) → OnOk result (Makes (state S.Store tx.old.conn.now) (state S.Store tx.new.conn.now) record_schema (5 ∷ 3 ∷ 1 ∷ 0 ∷ [])) }
+    ensures ok { HasCleanDisk (state S.Store tx.new.conn.now) → OnOk result (Makes (state S.Store tx.old.conn.now) (state S.Store tx.new.conn.now) tables_schema (5 ∷ 3 ∷ 1 ∷ 0 ∷ [])) }
     ensures kept { HasCleanDisk (state S.Store tx.new.conn.now) → IsTrue (state S.Store tx.old.conn.now).in_transaction → KeepsCommit (state S.Store tx.old.conn.now) (state S.Store tx.new.conn.now) }
     ensures survives { Survives (state S.Store tx.old.conn.now) (state S.Store tx.new.conn.now) (λ _. ⊥) }
 {
@@ -64,7 +64,22 @@ fn create_bindings<S: Alter>(tx: &mut Transaction<'_, S>) -> Result<usize, Error
     )
 }
 
-/// Makes the tables of the current state.
+/// Makes the index of the running orders' instances.
+fn create_index<S: Alter>(tx: &mut Transaction<'_, S>) -> Result<usize, Error>
+    requires schema { ShowsSchema tables_schema (state S.Store tx.old.conn.now) }
+    requires blank { ShowsBlank (5 ∷ 3 ∷ 1 ∷ 0 ∷ []) (state S.Store tx.old.conn.now) }
+    ensures same_reference { tx.new.conn.ghost_name ≡ tx.old.conn.ghost_name }
+    ensures ok { HasCleanDisk (state S.Store tx.new.conn.now) → OnOk result (Makes (state S.Store tx.old.conn.now) (state S.Store tx.new.conn.now) record_schema (5 ∷ 3 ∷ 1 ∷ 0 ∷ [])) }
+    ensures kept { HasCleanDisk (state S.Store tx.new.conn.now) → IsTrue (state S.Store tx.old.conn.now).in_transaction → KeepsCommit (state S.Store tx.old.conn.now) (state S.Store tx.new.conn.now) }
+    ensures survives { Survives (state S.Store tx.old.conn.now) (state S.Store tx.new.conn.now) (λ _. ⊥) }
+{
+    tx.execute(
+        "CREATE INDEX busy_instances ON instances (busy, instance_id)",
+        &[],
+    )
+}
+
+/// Makes the tables of the current state, and the index.
 fn create_standing<S: Alter>(tx: &mut Transaction<'_, S>) -> Result<usize, Error>
     requires schema { ShowsSchema orders_schema (state S.Store tx.old.conn.now) }
     requires blank { ShowsBlank (1 ∷ 0 ∷ []) (state S.Store tx.old.conn.now) }
@@ -74,10 +89,11 @@ fn create_standing<S: Alter>(tx: &mut Transaction<'_, S>) -> Result<usize, Error
     ensures survives { Survives (state S.Store tx.old.conn.now) (state S.Store tx.new.conn.now) (λ _. ⊥) }
 {
     create_instances(tx)?;
-    create_bindings(tx)
+    create_bindings(tx)?;
+    create_index(tx)
 }
 
-/// Makes the four tables.
+/// Makes the four tables and the index.
 fn create_tables<S: Alter>(tx: &mut Transaction<'_, S>) -> Result<usize, Error>
     requires { ShowsSchema no_schema (state S.Store tx.old.conn.now) }
     ensures same_reference { tx.new.conn.ghost_name ≡ tx.old.conn.ghost_name }
@@ -102,7 +118,7 @@ fn insert_version<S: Alter>(tx: &mut Transaction<'_, S>) -> Result<usize, Error>
     tx.execute("INSERT INTO format (version) VALUES (1)", &[])
 }
 
-/// Makes the tables in a database that has none: all of them or none.
+/// Makes the tables and the index in a database that has none: all of them or none.
 #[tactic(auto, using(crate::proofs::StepLemmas::committed_lives))]
 pub(crate) fn make_tables<S: Alter>(conn: &mut Connection<S>) -> Result<(), Error>
     requires settled { IsSettled (state S.Store conn.old) }

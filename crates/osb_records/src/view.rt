@@ -21,7 +21,6 @@ use crate::fault::StoreFault;
 use crate::instances::read_instance;
 use crate::queries::{last_of_binding, last_of_instance, order_named, order_numbered};
 use crate::reading::read_running;
-use crate::row::entries_in;
 use osb_asks::{Ask, Orders};
 use osb_orders::{BindingNow, Order, View};
 use osb_standing::{InstanceRow, Read, view_by};
@@ -423,8 +422,7 @@ fn view_of_running<S: Alter>(
     ensures same { HasCleanDisk (state S.Store conn.new) → IsTrue (state S.Store conn.new).is_open → (state S.Store conn.new).now ≡ (state S.Store conn.old).now }
     ensures crash { Survives (state S.Store conn.old) (state S.Store conn.new) (λ _. ⊥) }
 {
-    let rows = read_running(conn, listed_after(orders), LISTED)?;
-    let listing = entries_in(alloc, &rows)?;
+    let listing = read_running(conn, alloc, listed_after(orders), LISTED)?;
     Ok(view_of_listing(listing))
 }
 

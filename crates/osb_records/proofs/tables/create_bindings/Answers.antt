@@ -1,6 +1,6 @@
 use Rattle.std.proofs.Common.{[], ◌∷◌}
 use Rattle.sqlite.specs.Held.{state}
-use Rattle.osb_records.specs.Tables.{instances_schema, record_schema}
+use Rattle.osb_records.specs.Tables.{instances_schema, tables_schema}
 use Rattle.osb_records.proofs.Texts.{create_bindings}
 use Rattle.osb_records.proofs.CreateLemmas.{makes_bindings}
 use Rattle.osb_records.proofs.StepLemmas.{makes_by}
@@ -11,4 +11,4 @@ returns-clause-ok g c clean =
     let old = state g.S.Store c.args.tx.now.conn.now in
     let new = state g.S.Store c.execute.new.self.conn.now in
     makes_by create_bindings [] old new c.execute.result _ (λ over. (c.execute.ensures.ended over).0) c.execute.ensures.survives clean
-    instances_schema record_schema (3 ∷ 1 ∷ 0 ∷ []) (5 ∷ 3 ∷ 1 ∷ 0 ∷ []) c.requires.schema c.requires.blank (makes_bindings old new) (c.execute.ensures.runs clean)
+    instances_schema tables_schema (3 ∷ 1 ∷ 0 ∷ []) (5 ∷ 3 ∷ 1 ∷ 0 ∷ []) c.requires.schema c.requires.blank (makes_bindings old new) (c.execute.ensures.runs clean)

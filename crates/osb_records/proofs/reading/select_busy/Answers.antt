@@ -1,26 +1,21 @@
-use Rattle.std.proofs.Common.{pos, [], ◌∷◌, map, ap, ◌∙◌}
+use Rattle.std.proofs.Common.{pos, [], ◌∷◌}
 use Rattle.sqlite.specs.Held.{state}
 use Rattle.sqlite.specs.declared.types.Value.TheVariants.{Int, Text}
 use Rattle.osb_records.specs.Tables.{record_schema}
-use Rattle.osb_records.specs.Stored.{entry_row, entries_in}
-use Rattle.osb_records.proofs.ListingLemmas.{listing_told}
-use Rattle.osb_records.proofs.SelectLemmas.{shows_running, shown_same, shown_open}
+use Rattle.osb_records.proofs.ListingLemmas.{shows_busy}
+use Rattle.osb_records.proofs.SelectLemmas.{shown_same, shown_open}
 use Rattle.osb_records.proofs.StepLemmas.{clean_before}
 use Rattle.osb_records.proofs.QueryLemmas.{either_keeps}
 use Rattle.osb_records.proofs.ResultLemmas.{if_ok, on_ok}
-use Rattle.osb_records.proofs.Texts.{select_running, select_running_is}
-use Rattle.osb_records.proofs.reading.select_running.Goals as goal
+use Rattle.osb_records.proofs.Texts.{select_busy, select_busy_is}
+use Rattle.osb_records.proofs.reading.select_busy.Goals as goal
 
 pub returns-clause-ok : goal.returns-clause-ok
 returns-clause-ok g c clean =
     let old = state g.S.Store c.args.tx.now.conn.now in
     let new = state g.S.Store c.query_all.new.self.conn.now in
     let params = Text c.args.after.now ∷ Int (pos c.args.limit) ∷ [] in
-    if_ok c.query_all.result (λ rows h.
-    let before = clean_before old new _ c.query_all.ensures.survives clean in
-    let live = shown_open select_running params old new rows.items h in
-    let tables = c.requires.tables before live in
-    shows_running old new tables c.args.after.now c.args.limit rows.items h ∙ ap (map entry_row) (listing_told c.args.after.now c.args.limit (entries_in old.now.trees) tables.holds.orders.rising (c.requires.lives before live)))
+    if_ok c.query_all.result (λ rows h. shows_busy old new (c.requires (clean_before old new _ c.query_all.ensures.survives clean) (shown_open select_busy params old new rows.items h)) c.args.after.now c.args.limit rows.items h)
     (rw (c.params-to_sql.ensures, c.params-to_sql-2.ensures) at (c.query_all.ensures.ok clean))
 
 pub returns-clause-same : goal.returns-clause-same
@@ -28,7 +23,7 @@ returns-clause-same g c clean =
     let old = state g.S.Store c.args.tx.now.conn.now in
     let new = state g.S.Store c.query_all.new.self.conn.now in
     let params = Text c.args.after.now ∷ Int (pos c.args.limit) ∷ [] in
-    on_ok c.query_all.result (λ rows h. shown_same select_running params old new record_schema (c.requires.tables (clean_before old new _ c.query_all.ensures.survives clean) (shown_open select_running params old new rows.items h)).schema select_running_is.2 rows.items h)
+    on_ok c.query_all.result (λ rows h. shown_same select_busy params old new record_schema (c.requires (clean_before old new _ c.query_all.ensures.survives clean) (shown_open select_busy params old new rows.items h)).schema select_busy_is.2 rows.items h)
     (rw (c.params-to_sql.ensures, c.params-to_sql-2.ensures) at (c.query_all.ensures.ok clean))
 
 pub returns-clause-kept : goal.returns-clause-kept
