@@ -1,9 +1,5 @@
 //! Connections served, with their bytes whole and in pieces; and readers and writers that fail.
 
-mod conversations;
-mod phases;
-mod requests;
-
 ghost use Rattle.std.specs.Prelude.{◌≤◌};
 
 use super::*;

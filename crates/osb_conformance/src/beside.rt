@@ -1,0 +1,132 @@
+//! The records beside the plain lives: after each request of a conversation both give one view for
+//! its ask, and have one life.
+
+use crate::catalogs::built_in;
+use crate::exchange::{Exchange, request};
+use crate::rows::{bindings, instances};
+use crate::serving::goes_on;
+use osb_asks::{Ask, AskFault, read_ask};
+use osb_broker::Broker;
+use osb_catalog::Settings;
+use osb_frames::{Limits, Step as Front, next};
+use osb_machine::{Step, decide};
+use osb_orders::{PlainLives, View};
+use osb_records::{Records, memory, open_memory};
+use sqlite::MemStore;
+use std::alloc::Global;
+use std::test::Fail;
+
+/// A view as text.
+fn told(alloc: Global, view: &View) -> Result<String, Fail> {
+    Ok(format!(in alloc; "{view:?}")?)
+}
+
+/// What the records' view for an ask tells, and the life that it is about.
+fn told_by_records(
+    alloc: Global,
+    records: &mut Records<MemStore>,
+    ask: &Ask,
+) -> Result<String, Fail> {
+    let view = memory::view(records, alloc, ask)?;
+    told(alloc, &view)
+}
+
+/// The same of the plain lives.
+fn told_plainly(alloc: Global, plain: &PlainLives, ask: &Ask) -> Result<String, Fail> {
+    let view = plain.view(alloc, ask)?;
+    told(alloc, &view)
+}
+
+/// Makes the change of an ask to the plain lives.
+fn step_plainly(
+    alloc: Global,
+    settings: &Settings,
+    plain: &mut PlainLives,
+    ask: &Ask,
+) -> Result<(), Fail> {
+    let view = plain.view(alloc, ask)?;
+    let Step { change, .. } = decide(alloc, settings, &view, ask)?;
+    if let Some(instance) = ask.instance() {
+        plain.apply(alloc, instance.as_str(), change)?;
+    }
+    Ok(())
+}
+
+/// The ask of the request that stands there.
+fn ask_of(alloc: Global, settings: &Settings, bytes: &[u8]) -> Result<Ask, AskFault> {
+    match next(bytes, true, &Limits::STANDARD) {
+        Front::Whole(request, _) => read_ask(alloc, &request, settings),
+        Front::Stop(_) | Front::Ended | Front::More => Err(AskFault::NoRoute),
+    }
+}
+
+/// Fails where the records have another view for the ask, or another life of its instance.
+fn are_beside(
+    alloc: Global,
+    records: &mut Records<MemStore>,
+    plain: &PlainLives,
+    ask: &Ask,
+) -> Result<(), Fail> {
+    if told_by_records(alloc, records, ask)? != told_plainly(alloc, plain, ask)? {
+        return Err("another view")?;
+    }
+    if let Some(instance) = ask.instance() {
+        let life = memory::life(records, alloc, instance.as_str())?;
+        if life.as_slice() != plain.life(alloc, instance.as_str())?.as_slice() {
+            return Err("another life")?;
+        }
+    }
+    Ok(())
+}
+
+/// The records after an exchange.
+fn after(
+    alloc: Global,
+    settings: &Settings,
+    records: Records<MemStore>,
+    exchange: Exchange,
+) -> Result<Records<MemStore>, Fail> {
+    let mut broker = Broker::new(alloc, settings, records, 1);
+    goes_on(alloc, &mut broker, &[exchange])?;
+    Ok(broker.into_records())
+}
+
+/// Fails where records and plain lives part in a conversation.
+fn stay_beside(alloc: Global, exchanges: &[Exchange]) -> Result<(), Fail> {
+    let settings = built_in(alloc)?;
+    let mut records = open_memory(alloc)?;
+    let mut plain = PlainLives::new(alloc);
+    for exchange in exchanges {
+        records = after(alloc, &settings, records, *exchange)?;
+        let bytes = request(alloc, exchange.0, exchange.1)?;
+        if let Ok(ask) = ask_of(alloc, &settings, bytes.as_slice()) {
+            step_plainly(alloc, &settings, &mut plain, &ask)?;
+            are_beside(alloc, &mut records, &plain, &ask)?;
+        }
+    }
+    Ok(())
+}
+
+#[test]
+fn views_of_instances(rt: HostRuntime) -> Result<(), Fail> {
+    let alloc = rt.alloc();
+    stay_beside(alloc, &instances::PARAMETERS_DIFFER)?;
+    stay_beside(alloc, &instances::ASYNC_ASKED)?;
+    stay_beside(alloc, &instances::POLL_AND_REPORT)?;
+    stay_beside(alloc, &instances::FAILED_CREATE)?;
+    stay_beside(alloc, &instances::UPDATE_FAILED)?;
+    stay_beside(alloc, &instances::MAINTENANCE_CONFLICT)?;
+    stay_beside(alloc, &instances::VERSION_OF_ITS_PLAN)?;
+    stay_beside(alloc, &instances::PLAN_CHANGED)?;
+    stay_beside(alloc, &instances::FAILED_DELETION)?;
+    stay_beside(alloc, &instances::SENT_AGAIN)?;
+    stay_beside(alloc, &instances::APART)
+}
+
+#[test]
+fn views_of_bindings(rt: HostRuntime) -> Result<(), Fail> {
+    let alloc = rt.alloc();
+    stay_beside(alloc, &bindings::ASYNC_BINDING)?;
+    stay_beside(alloc, &bindings::FAILED_BINDING)?;
+    stay_beside(alloc, &bindings::SYNC_BINDING)
+}
