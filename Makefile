@@ -22,6 +22,7 @@ test:
 	$(MAKE) osb-broker
 	python3 tests/program.py ./osb-broker
 	python3 tests/served.py ./osb-broker
+	python3 tests/refused.py ./osb-broker
 
 clean:
 	rm -rf osb-broker crates/*/out

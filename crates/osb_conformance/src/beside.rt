@@ -4,9 +4,8 @@
 use crate::catalogs::built_in;
 use crate::exchange::{Exchange, request};
 use crate::rows::{bindings, instances};
-use crate::serving::goes_on;
+use crate::serving::after;
 use osb_asks::{Ask, AskFault, read_ask};
-use osb_broker::Broker;
 use osb_catalog::Settings;
 use osb_frames::{Limits, Step as Front, next};
 use osb_machine::{Step, decide};
@@ -21,7 +20,7 @@ fn told(alloc: Global, view: &View) -> Result<String, Fail> {
     Ok(format!(in alloc; "{view:?}")?)
 }
 
-/// What the records' view for an ask tells, and the life that it is about.
+/// What the records' view for an ask tells.
 fn told_by_records(
     alloc: Global,
     records: &mut Records<MemStore>,
@@ -60,35 +59,67 @@ fn ask_of(alloc: Global, settings: &Settings, bytes: &[u8]) -> Result<Ask, AskFa
     }
 }
 
-/// Fails where the records have another view for the ask, or another life of its instance.
-fn are_beside(
+/// Fails where the records have another view for the ask.
+fn have_one_view(
     alloc: Global,
     records: &mut Records<MemStore>,
     plain: &PlainLives,
     ask: &Ask,
 ) -> Result<(), Fail> {
-    if told_by_records(alloc, records, ask)? != told_plainly(alloc, plain, ask)? {
-        return Err("another view")?;
+    let found = told_by_records(alloc, records, ask)?;
+    let expected = told_plainly(alloc, plain, ask)?;
+    if found.as_str() == expected.as_str() {
+        Ok(())
+    } else {
+        Err("another view")?
     }
-    if let Some(instance) = ask.instance() {
-        let life = memory::life(records, alloc, instance.as_str())?;
-        if life.as_slice() != plain.life(alloc, instance.as_str())?.as_slice() {
-            return Err("another life")?;
-        }
-    }
-    Ok(())
 }
 
-/// The records after an exchange.
-fn after(
+/// Fails where the records have another life of the instance.
+fn have_one_life(
+    alloc: Global,
+    records: &mut Records<MemStore>,
+    plain: &PlainLives,
+    instance: &str,
+) -> Result<(), Fail> {
+    let found = memory::life(records, alloc, instance)?;
+    let expected = plain.life(alloc, instance)?;
+    if found.as_slice() == expected.as_slice() {
+        Ok(())
+    } else {
+        Err("another life")?
+    }
+}
+
+/// Makes the change of an ask to the plain lives, and fails where the records are others.
+fn are_beside(
     alloc: Global,
     settings: &Settings,
-    records: Records<MemStore>,
+    records: &mut Records<MemStore>,
+    plain: &mut PlainLives,
+    ask: &Ask,
+) -> Result<(), Fail> {
+    step_plainly(alloc, settings, plain, ask)?;
+    have_one_view(alloc, records, plain, ask)?;
+    match ask.instance() {
+        Some(instance) => have_one_life(alloc, records, plain, instance.as_str()),
+        None => Ok(()),
+    }
+}
+
+/// The same for the ask of an exchange, where it has one.
+fn stay_beside_once(
+    alloc: Global,
+    settings: &Settings,
+    records: &mut Records<MemStore>,
+    plain: &mut PlainLives,
     exchange: Exchange,
-) -> Result<Records<MemStore>, Fail> {
-    let mut broker = Broker::new(alloc, settings, records, 1);
-    goes_on(alloc, &mut broker, &[exchange])?;
-    Ok(broker.into_records())
+) -> Result<(), Fail> {
+    let bytes = request(alloc, exchange.0, exchange.1)?;
+    match ask_of(alloc, settings, bytes.as_slice()) {
+        Ok(ask) => are_beside(alloc, settings, records, plain, &ask),
+        Err(_) => Ok(()),
+    }
 }
 
 /// Fails where records and plain lives part in a conversation.
@@ -98,11 +129,7 @@ fn stay_beside(alloc: Global, exchanges: &[Exchange]) -> Result<(), Fail> {
     let mut plain = PlainLives::new(alloc);
     for exchange in exchanges {
         records = after(alloc, &settings, records, *exchange)?;
-        let bytes = request(alloc, exchange.0, exchange.1)?;
-        if let Ok(ask) = ask_of(alloc, &settings, bytes.as_slice()) {
-            step_plainly(alloc, &settings, &mut plain, &ask)?;
-            are_beside(alloc, &mut records, &plain, &ask)?;
-        }
+        stay_beside_once(alloc, &settings, &mut records, &mut plain, *exchange)?;
     }
     Ok(())
 }

@@ -7,7 +7,8 @@ use crate::exchange::{Exchange, last_reply, request};
 use osb_broker::{Broker, Buffer};
 use osb_catalog::Settings;
 use osb_frames::{Counted, Limits};
-use osb_records::open_memory;
+use osb_records::{Records, open_memory};
+use sqlite::MemStore;
 use std::alloc::Global;
 use std::io::{self, Read};
 use std::test::Fail;
@@ -95,6 +96,18 @@ pub(crate) fn goes_over(
 ) -> Result<(), Fail> {
     let mut broker = Broker::new(alloc, settings, open_memory(alloc)?, 1);
     goes_on(alloc, &mut broker, exchanges)
+}
+
+/// The records after an exchange, and a failure where it goes otherwise.
+pub(crate) fn after(
+    alloc: Global,
+    settings: &Settings,
+    records: Records<MemStore>,
+    exchange: Exchange,
+) -> Result<Records<MemStore>, Fail> {
+    let mut broker = Broker::new(alloc, settings, records, 1);
+    goes_on(alloc, &mut broker, &[exchange])?;
+    Ok(broker.into_records())
 }
 
 /// The same over the built-in settings.

@@ -4,10 +4,8 @@
 use crate::catalogs::built_in;
 use crate::exchange::Exchange;
 use crate::rows::{bindings, instances};
-use crate::serving::goes_on;
+use crate::serving::after;
 use osb_asks::{Ask, Fetch, Id};
-use osb_broker::Broker;
-use osb_catalog::Settings;
 use osb_orders::{Attributes, Order, View};
 use osb_records::{Records, memory, open_memory};
 use osb_text::Text;
@@ -77,18 +75,6 @@ fn has_orders(alloc: Global, records: &mut Records<MemStore>, orders: &[&str]) -
         }
     }
     Ok(())
-}
-
-/// The records after an exchange.
-fn after(
-    alloc: Global,
-    settings: &Settings,
-    records: Records<MemStore>,
-    exchange: Exchange,
-) -> Result<Records<MemStore>, Fail> {
-    let mut broker = Broker::new(alloc, settings, records, 1);
-    goes_on(alloc, &mut broker, &[exchange])?;
-    Ok(broker.into_records())
 }
 
 /// Fails where after an exchange something else stands of `i`, or in the end it has other orders.
