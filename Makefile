@@ -23,6 +23,7 @@ test:
 	python3 tests/program.py ./osb-broker
 	python3 tests/served.py ./osb-broker
 	python3 tests/refused.py ./osb-broker
+	python3 tests/readme.py ./osb-broker
 
 clean:
 	rm -rf osb-broker crates/*/out

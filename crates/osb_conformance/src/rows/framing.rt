@@ -84,6 +84,17 @@ fn put_twice_on_two_connections(rt: HostRuntime) -> Result<(), Fail> {
     )
 }
 
+/// Nothing is answered after the last request that may come, and a fault after a request is told.
+#[test]
+fn after_the_last_request(rt: HostRuntime) -> Result<(), Fail> {
+    let alloc = rt.alloc();
+    let twice = joined(alloc, &[PUT_I, PUT_I])?;
+    answers_in_pieces(alloc, 1, twice.as_slice(), CREATED_LAST)?;
+    let faulty = joined(alloc, &[PUT_I, b"\x01"])?;
+    let text = joined(alloc, &[CREATED, NO_HEAD])?;
+    answers_in_pieces(alloc, 1000, faulty.as_slice(), text.as_slice())
+}
+
 #[test]
 fn several_requests(rt: HostRuntime) -> Result<(), Fail> {
     let alloc = rt.alloc();
@@ -164,6 +175,7 @@ const OLD_CATALOG: &[u8] =
 fn host_close_identity(rt: HostRuntime) -> Result<(), Fail> {
     let alloc = rt.alloc();
     with_lines(alloc, "Host: b\r\n", "", BAD_HOST)?;
+    answers(alloc, 1, b"GET / HTTP/1.1\r\n\r\n", BAD_HOST)?;
     let old = joined(alloc, &[OLD_CATALOG, OLD_CATALOG])?;
     answers(alloc, 2, old.as_slice(), CATALOG_LAST)?;
     let closing = catalog_with(alloc, "Connection: Close\r\n", "")?;
