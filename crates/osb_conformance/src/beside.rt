@@ -9,10 +9,10 @@ use osb_asks::{Ask, AskFault, read_ask};
 use osb_catalog::Settings;
 use osb_frames::{Limits, Step as Front, next};
 use osb_machine::{Step, decide};
-use osb_orders::{PlainLives, View};
+use osb_orders::{Change, PlainLives, View};
 use osb_records::{Records, memory, open_memory};
 use sqlite::MemStore;
-use std::alloc::Global;
+use std::alloc::{AllocError, Global};
 use std::test::Fail;
 
 /// A view as text.
@@ -36,19 +36,44 @@ fn told_plainly(alloc: Global, plain: &PlainLives, ask: &Ask) -> Result<String, 
     told(alloc, &view)
 }
 
-/// Makes the change of an ask to the plain lives.
-fn step_plainly(
+/// What the table has for an ask by a view.
+fn decided<'s>(
+    alloc: Global,
+    settings: &'s Settings,
+    view: View,
+    ask: &Ask,
+) -> Result<Step<'s>, AllocError> {
+    decide(alloc, settings, &view, ask)
+}
+
+fn change_of(step: Step<'_>) -> Change {
+    let Step { answer: _, change } = step;
+    change
+}
+
+/// The change that an ask makes to the plain lives.
+fn change_by(
     alloc: Global,
     settings: &Settings,
+    plain: &PlainLives,
+    ask: &Ask,
+) -> Result<Change, AllocError> {
+    let view = plain.view(alloc, ask)?;
+    let step = decided(alloc, settings, view, ask)?;
+    Ok(change_of(step))
+}
+
+/// Makes a change to the plain lives.
+fn make_plainly(
+    alloc: Global,
     plain: &mut PlainLives,
     ask: &Ask,
-) -> Result<(), Fail> {
-    let view = plain.view(alloc, ask)?;
-    let Step { change, .. } = decide(alloc, settings, &view, ask)?;
-    if let Some(instance) = ask.instance() {
-        plain.apply(alloc, instance.as_str(), change)?;
+    change: Change,
+) -> Result<(), AllocError> {
+    match ask.instance() {
+        Some(instance) => plain.apply(alloc, instance.as_str(), change),
+        None => Ok(()),
     }
-    Ok(())
 }
 
 /// The ask of the request that stands there.
@@ -99,7 +124,8 @@ fn are_beside(
     plain: &mut PlainLives,
     ask: &Ask,
 ) -> Result<(), Fail> {
-    step_plainly(alloc, settings, plain, ask)?;
+    let change = change_by(alloc, settings, plain, ask)?;
+    make_plainly(alloc, plain, ask, change)?;
     have_one_view(alloc, records, plain, ask)?;
     match ask.instance() {
         Some(instance) => have_one_life(alloc, records, plain, instance.as_str()),
