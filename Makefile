@@ -22,6 +22,8 @@ test:
 	$(MAKE) osb-broker
 	python3 tests/program.py ./osb-broker
 	python3 tests/served.py ./osb-broker
+	python3 tests/refused.py ./osb-broker
+	python3 tests/readme.py ./osb-broker
 
 clean:
 	rm -rf osb-broker crates/*/out

@@ -14,6 +14,9 @@ import tempfile
 
 LIMIT = 16_777_216
 
+HERE = os.path.dirname(os.path.abspath(__file__))
+EXAMPLE_SETTINGS = os.path.join(HERE, "..", "examples", "settings.json")
+
 CATALOG = (
     b'{"services":[{"bindable":true,"bindings_retrievable":true,"description":"Key store",'
     b'"id":"svc","name":"store","plan_updateable":true,"plans":[{"description":"At once",'
@@ -240,8 +243,7 @@ def try_resent_requests(tries):
 
 def try_example(tries):
     """The conversation that the README shows."""
-    folder = os.path.join(os.path.dirname(os.path.abspath(__file__)), "..", "examples")
-    with open(os.path.join(folder, "resent.http"), "rb") as file:
+    with open(os.path.join(HERE, "..", "examples", "resent.http"), "rb") as file:
         ended = tries.run(["replay", "--per-connection", "5"], file.read())
     seen = [(status, body.partition(b'"kind"')[0]) for status, body in replies(ended.stdout)]
     expected = [
@@ -298,9 +300,55 @@ def try_settings(tries, folder):
         b"",
         f"osb-broker: cannot read {missing}\n".encode(),
     )
-    example = os.path.join(os.path.dirname(__file__), "..", "examples", "settings.json")
-    ended = tries.run(["replay", "--settings", example], GET_CATALOG)
+    ended = tries.run(["replay", "--settings", EXAMPLE_SETTINGS], GET_CATALOG)
     tries.expect("the example's catalog", ended, 0, CATALOG_REPLY, b"")
+
+
+# Whether `replay` takes files, each of them a connection.
+TAKES_FILES = False
+
+
+def try_files(tries, folder):
+    """Connections from files, one after the other over one database."""
+    def written(name, content):
+        path = os.path.join(folder, name)
+        with open(path, "wb") as file:
+            file.write(content)
+        return path
+
+    one = written("one.http", put("/v2/service_instances/i", SYNC))
+    both = written("both.http", put("/v2/service_instances/i", SYNC) + GET_CATALOG)
+    empty = written("empty.http", b"")
+    created = reply("201 Created", b"{}", True)
+    known = reply("200 OK", b"{}", True)
+    ended = tries.run(["replay", one, empty, one], GET_CATALOG)
+    tries.expect("files are connections", ended, 0, created + known, b"")
+    ended = tries.run(["replay", "--per-connection", "2", both, one])
+    replies_open = [reply(status, b"{}", False) for status in ("201 Created", "200 OK")]
+    tries.expect("requests of files", ended, 0, CATALOG_REPLY.join(replies_open), b"")
+    missing = os.path.join(folder, "missing.http")
+    larger = written("larger.http", b" " * (LIMIT + 1))
+    largest = written("largest.http", b" " * LIMIT)
+    tries.expect("largest file", tries.run(["replay", largest]), 0, NO_HEAD_REPLY, b"")
+    # All files are read before the first request.
+    for path, what in [(missing, "cannot read"), (larger, "too large"), (folder, "cannot read")]:
+        line = f"osb-broker: {what} {path}\n".encode()
+        tries.expect(f"{what} a file", tries.run(["replay", one, path]), 1, b"", line)
+    # Settings come before files.
+    faulty = written("faulty.json", b"{}")
+    ended = tries.run(["replay", "--settings", faulty, missing])
+    tries.expect("settings first", ended, 3, b"", b"settings: 2 Missing platform\n")
+
+
+def try_closed_output(tries):
+    """Standard output is closed, or takes nothing."""
+    for words, given in [([], GET_CATALOG), (["check", EXAMPLE_SETTINGS], b"")]:
+        for name, stream in [("closed", ">&-"), ("full", ">/dev/full")]:
+            command = ["sh", "-c", f'"$0" "$@" {stream}', tries.program, *words]
+            ended = subprocess.run(command, input=given, stderr=subprocess.PIPE, timeout=60)
+            found = (ended.returncode, ended.stderr)
+            wrong = [] if found == (1, b"osb-broker: cannot write\n") else [repr(found)]
+            tries.tell(f"output is {name} {words}", wrong)
 
 
 def try_broken_streams(tries, folder):
@@ -310,14 +358,6 @@ def try_broken_streams(tries, folder):
     tries.expect(
         "input is a folder", ended, 1, b"", b"osb-broker: cannot read standard input\n"
     )
-    with open("/dev/full", "wb") as full:
-        ended = subprocess.run(
-            [tries.program], input=GET_CATALOG, stdout=full, stderr=subprocess.PIPE, timeout=60
-        )
-    wrong = []
-    if (ended.returncode, ended.stderr) != (1, b"osb-broker: cannot write\n"):
-        wrong = [f"{ended.returncode} {ended.stderr!r}"]
-    tries.tell("output is full", wrong)
 
 
 def try_words(tries):
@@ -329,8 +369,13 @@ def try_words(tries):
         ["bogus"],
         ["check"],
         ["check", "a", "b"],
-        ["replay", "a"],
+        *([] if TAKES_FILES else [["replay", "a"]]),
         ["--bogus"],
+        ["check", "--settings", "a"],
+        ["replay", "--settings"],
+        ["replay", "--connections", "1"],
+        ["replay", "--per-connection"],
+        ["replay", "--per-connection", "-1"],
         ["replay", "--per-connection", "0"],
         ["replay", "--per-connection", "1001"],
         ["replay", "--per-connection", "x"],
@@ -385,6 +430,9 @@ def main():
         try_listing(tries)
         try_settings(tries, folder)
         try_broken_streams(tries, folder)
+        try_closed_output(tries)
+        if TAKES_FILES:
+            try_files(tries, folder)
         try_words(tries)
         try_check(tries, folder)
     print(f"program: {tries.passed} passed, {tries.failed} failed")

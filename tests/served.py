@@ -14,6 +14,8 @@ import socket
 import subprocess
 import sys
 
+from conversations import CONVERSATIONS, I
+
 HERE = os.path.dirname(os.path.abspath(__file__))
 EXAMPLES = os.path.join(HERE, "..", "examples")
 SETTINGS = os.path.join(EXAMPLES, "settings.json")
@@ -141,6 +143,99 @@ def try_life(program):
     yield "a life ends", served.ended(), True
 
 
+BACKEND = {"Authorization": "Basic " + base64.b64encode(b"backend:worker").decode()}
+
+# The statuses that the API has for each call (OSB API 2.17), and what any call may be answered that
+# isn't one: 400, 401, 404, 412.
+FAULTS = {400, 401, 404, 412}
+ALLOWED = {
+    ("GET", "instance"): {200, 404, 422},
+    ("PUT", "instance"): {200, 201, 202, 400, 409, 422},
+    ("PATCH", "instance"): {200, 202, 400, 422},
+    ("DELETE", "instance"): {200, 202, 400, 410, 422},
+    ("GET", "instance operation"): {200, 400, 404, 410},
+    ("GET", "binding"): {200, 404},
+    ("PUT", "binding"): {200, 201, 202, 400, 409, 422},
+    ("DELETE", "binding"): {200, 202, 400, 410, 422},
+    ("GET", "binding operation"): {200, 400, 404, 410},
+    ("GET", "catalog"): {200},
+}
+
+# What a body has to have, by its status and its call.
+MEMBERS = {
+    (202, "instance"): {"operation"},
+    (202, "binding"): {"operation"},
+    (200, "instance operation"): {"state"},
+    (200, "binding operation"): {"state"},
+    (201, "binding"): {"credentials"},
+    (200, "catalog"): {"services"},
+}
+
+STATES = {"in progress", "succeeded", "failed"}
+
+
+def resource(target):
+    """What a target of the platform is about."""
+    path = target.partition("?")[0]
+    parts = path.split("/")[2:]
+    if path.startswith("/backend/"):
+        return "backend"
+    if parts == ["catalog"]:
+        return "catalog"
+    kind = "binding" if "service_bindings" in parts else "instance"
+    return kind + (" operation" if parts[-1] == "last_operation" else "")
+
+
+def against_the_api(method, target, response, text):
+    """What is wrong with a reply by the rules of the API and of HTTP."""
+    wrong = []
+    about = resource(target)
+    body = json.loads(text)
+    if not isinstance(body, dict):
+        wrong.append("the body is no object")
+    if response.getheader("Content-Length") != str(len(text)):
+        wrong.append("the length is another")
+    if response.getheader("Content-Type") != "application/json":
+        wrong.append("the body isn't told as JSON")
+    if about != "backend" and response.status not in ALLOWED[method, about] | FAULTS:
+        wrong.append(f"the status {response.status}")
+    if missing := MEMBERS.get((response.status, about), set()) - body.keys():
+        wrong.append(f"no {missing}")
+    if body.get("state", "failed") not in STATES:
+        wrong.append("another state")
+    if response.status == 422 and not isinstance(body.get("description"), str):
+        wrong.append("no description")
+    return wrong
+
+
+def converse(served, conversation):
+    """A conversation over one connection, by http.client."""
+    client = http.client.HTTPConnection("127.0.0.1", served.port, timeout=30)
+    for method, target, body, status, text in conversation:
+        fields = BACKEND if target.startswith("/backend/") else PLATFORM
+        client.request(method, target, body=body or None, headers=fields)
+        response = client.getresponse()
+        found = response.read()
+        yield target, (response.status, found.decode()), (status, text)
+        yield target, against_the_api(method, target, response, found), []
+    client.close()
+
+
+def try_conversations(program):
+    for name, conversation in CONVERSATIONS.items():
+        asked = [("GET", "/v2/catalog"), ("GET", I + "/last_operation?operation=none")]
+        served = Served(program, 1 + len(asked), "--per-connection", "1000")
+        for target, found, expected in converse(served, conversation):
+            yield f"{name}: {target}", found, expected
+        for method, target in asked:
+            client = http.client.HTTPConnection("127.0.0.1", served.port, timeout=30)
+            client.request(method, target, headers=PLATFORM)
+            response = client.getresponse()
+            yield target, against_the_api(method, target, response, response.read()), []
+            client.close()
+        yield f"{name} ends", served.ended(), True
+
+
 def try_sockets(program):
     served = Served(program, 3, "--per-connection", "2")
     yield "put twice", served.raw(PUT_TWICE), TWO_REPLIES
@@ -172,7 +267,7 @@ def try_words(program):
 def main():
     program = os.path.abspath(sys.argv[1])
     passed = failed = 0
-    for tries in (try_life, try_sockets, try_words):
+    for tries in (try_life, try_conversations, try_sockets, try_words):
         for name, found, expected in tries(program):
             if found == expected:
                 passed += 1

@@ -1,0 +1,23 @@
+//! Tests alone: conversations with the broker, from the bytes of connections to the bytes of their
+//! outputs.
+//!
+//! A conversation is a table of exchanges. Each is a connection of its own and stands as a request's
+//! line and body, and the status and the body of the reply, written out by hand.
+#![tactic(auto)]
+
+#[cfg(test)]
+mod beside;
+#[cfg(test)]
+mod catalogs;
+#[cfg(test)]
+mod exchange;
+#[cfg(test)]
+mod phases;
+#[cfg(test)]
+mod replies;
+#[cfg(test)]
+mod rows;
+#[cfg(test)]
+mod serving;
+#[cfg(test)]
+mod standing;

@@ -1,0 +1,195 @@
+//! Rules that need other settings: a life that is full, another service, and plans that allow less.
+
+use super::asks::*;
+use super::in_phase;
+use crate::catalogs::settings_with;
+use crate::exchange::Exchange;
+use crate::replies::*;
+use std::test::Fail;
+
+const MADE: [Exchange; 2] = [
+    (MAKE, LARGE, ACCEPTED, CREATE_1),
+    (END_1, SUCCEEDED, OK, "{}"),
+];
+
+const IN_FULL: [Exchange; 8] = [
+    (MAKE, LARGE, OK, "{}"),
+    (UPDATE, ONE, UNPROCESSABLE, FULL),
+    // Asking at all comes before the room for it.
+    (UPDATE_NOW, ONE, UNPROCESSABLE, ASYNC_REQUIRED),
+    (UPDATE, NOTHING, OK, "{}"),
+    (REMOVE, "", UNPROCESSABLE, FULL),
+    (REMOVE_NOW, "", UNPROCESSABLE, ASYNC_REQUIRED),
+    (BIND_C, BINDING, UNPROCESSABLE, FULL),
+    (BIND_C, OTHER_PLAN, BAD, MISMATCH),
+];
+
+#[test]
+fn a_life_of_one_order(rt: HostRuntime) -> Result<(), Fail> {
+    let settings = settings_with(
+        rt.alloc(),
+        "\"modes\":",
+        "\"orders_per_instance\":1,\"modes\":",
+    )?;
+    in_phase(rt.alloc(), &settings, &MADE, &IN_FULL)
+}
+
+const BOUND: [Exchange; 4] = [
+    (MAKE, LARGE, ACCEPTED, CREATE_1),
+    (END_1, SUCCEEDED, OK, "{}"),
+    (BIND_C, BINDING, ACCEPTED, BIND_2),
+    (END_2, KEY, OK, "{}"),
+];
+
+const IN_BOUND_AND_FULL: [Exchange; 3] = [
+    (UNBIND_C, "", UNPROCESSABLE, FULL),
+    (UNBIND_C_NOW, "", UNPROCESSABLE, ASYNC_REQUIRED),
+    (BIND_C, BINDING, OK, KEY_SHOWN),
+];
+
+const DELETED: [Exchange; 4] = [
+    (MAKE, LARGE, ACCEPTED, CREATE_1),
+    (END_1, SUCCEEDED, OK, "{}"),
+    (REMOVE, "", ACCEPTED, DELETE_2),
+    (END_2, SUCCEEDED, OK, "{}"),
+];
+
+const IN_DELETED_AND_FULL: [Exchange; 4] = [
+    (MAKE, LARGE, UNPROCESSABLE, FULL),
+    (MAKE_NOW, LARGE, UNPROCESSABLE, ASYNC_REQUIRED),
+    (MAKE_NOW, SMALL, UNPROCESSABLE, FULL),
+    (REMOVE, "", GONE, "{}"),
+];
+
+#[test]
+fn a_life_of_two_orders(rt: HostRuntime) -> Result<(), Fail> {
+    let settings = settings_with(
+        rt.alloc(),
+        "\"modes\":",
+        "\"orders_per_instance\":2,\"modes\":",
+    )?;
+    in_phase(rt.alloc(), &settings, &BOUND, &IN_BOUND_AND_FULL)?;
+    in_phase(rt.alloc(), &settings, &DELETED, &IN_DELETED_AND_FULL)
+}
+
+const OTHER_SERVICE: &str =
+    r#"{"name":"other","id":"other","description":"Another","bindable":true,"plans":[{"name":"only","id":"p-other","description":"Its plan"}]}"#;
+
+const UPDATE_OF_OTHER: &str = r#"{"service_id":"other","parameters":{"n":1}}"#;
+
+const BINDING_OF_OTHER: &str = r#"{"service_id":"other","plan_id":"p-other"}"#;
+
+const INSTANCE_OF_OTHER: &str =
+    r#"{"service_id":"other","plan_id":"p-other","organization_guid":"o","space_guid":"s"}"#;
+
+const IN_READY: [Exchange; 3] = [
+    (UPDATE, UPDATE_OF_OTHER, BAD, MISMATCH),
+    (BIND_C, BINDING_OF_OTHER, BAD, MISMATCH),
+    (MAKE, INSTANCE_OF_OTHER, CONFLICT, "{}"),
+];
+
+const UPDATING: [Exchange; 3] = [
+    (MAKE, LARGE, ACCEPTED, CREATE_1),
+    (END_1, SUCCEEDED, OK, "{}"),
+    (UPDATE, ONE, ACCEPTED, UPDATE_2),
+];
+
+const IN_UPDATING: [Exchange; 2] = [
+    (UPDATE, UPDATE_OF_OTHER, BAD, MISMATCH),
+    (BIND_C, BINDING_OF_OTHER, UNPROCESSABLE, BUSY),
+];
+
+#[test]
+fn another_service(rt: HostRuntime) -> Result<(), Fail> {
+    let alloc = rt.alloc();
+    let services = format!(in alloc; "\"services\":[{OTHER_SERVICE},")?;
+    let settings = settings_with(alloc, "\"services\":[", services.as_str())?;
+    in_phase(alloc, &settings, &MADE, &IN_READY)?;
+    in_phase(alloc, &settings, &UPDATING, &IN_UPDATING)
+}
+
+const IN_FIXED: [Exchange; 4] = [
+    (UPDATE, OTHER_PLAN, UNPROCESSABLE, NO_PLAN_CHANGE),
+    (UPDATE_NOW, OTHER_PLAN, UNPROCESSABLE, NO_PLAN_CHANGE),
+    (UPDATE, ONE, ACCEPTED, UPDATE_2),
+    (UPDATE, BINDING, OK, "{}"),
+];
+
+const IN_FIXED_AND_UPDATING: [Exchange; 1] = [(UPDATE, OTHER_PLAN, UNPROCESSABLE, BUSY)];
+
+#[test]
+fn a_plan_that_stays(rt: HostRuntime) -> Result<(), Fail> {
+    let alloc = rt.alloc();
+    let settings = settings_with(
+        alloc,
+        "\"id\":\"p-async\",",
+        "\"id\":\"p-async\",\"plan_updateable\":false,",
+    )?;
+    in_phase(alloc, &settings, &MADE, &IN_FIXED)?;
+    in_phase(alloc, &settings, &UPDATING, &IN_FIXED_AND_UPDATING)
+}
+
+const IN_UNBINDABLE: [Exchange; 4] = [
+    (BIND_C, BINDING, BAD, NOT_BINDABLE),
+    (BIND_C_NOW, BINDING, BAD, NOT_BINDABLE),
+    (BIND_C, OTHER_PLAN, BAD, MISMATCH),
+    (UNBIND_C, "", GONE, "{}"),
+];
+
+#[test]
+fn a_plan_without_bindings(rt: HostRuntime) -> Result<(), Fail> {
+    let settings = settings_with(
+        rt.alloc(),
+        "\"id\":\"p-async\",",
+        "\"id\":\"p-async\",\"bindable\":false,",
+    )?;
+    in_phase(rt.alloc(), &settings, &MADE, &IN_UNBINDABLE)
+}
+
+/// An instance whose plan does at once what is asked of it.
+const MADE_AT_ONCE: [Exchange; 1] = [(MAKE, SMALL, CREATED, "{}")];
+
+const IN_MADE_AT_ONCE: [Exchange; 8] = [
+    (MAKE_NOW, SMALL, OK, "{}"),
+    (UPDATE_NOW, ONE, OK, "{}"),
+    (UPDATE_NOW, BINDING, OK, "{}"),
+    (REMOVE_NOW, "", OK, "{}"),
+    (
+        BIND_C_NOW,
+        OTHER_PLAN,
+        CREATED,
+        r#"{"credentials":{"uri":"mem:1"}}"#,
+    ),
+    (BIND_C_NOW, BINDING, BAD, MISMATCH),
+    (ASK, "", OK, SUCCEEDED),
+    (END_1, SUCCEEDED, OK, "{}"),
+];
+
+const BOUND_AT_ONCE: [Exchange; 2] = [
+    (MAKE, SMALL, CREATED, "{}"),
+    (
+        BIND_C,
+        OTHER_PLAN,
+        CREATED,
+        r#"{"credentials":{"uri":"mem:1"}}"#,
+    ),
+];
+
+const IN_BOUND_AT_ONCE: [Exchange; 4] = [
+    (
+        FETCH_C,
+        "",
+        OK,
+        r#"{"credentials":{"uri":"mem:1"},"parameters":{}}"#,
+    ),
+    (UNBIND_C_NOW, "", OK, "{}"),
+    (REMOVE_NOW, "", UNPROCESSABLE, BINDINGS_REMAIN),
+    (ASK_C, "", OK, SUCCEEDED),
+];
+
+#[test]
+fn at_once(rt: HostRuntime) -> Result<(), Fail> {
+    let settings = crate::catalogs::built_in(rt.alloc())?;
+    in_phase(rt.alloc(), &settings, &MADE_AT_ONCE, &IN_MADE_AT_ONCE)?;
+    in_phase(rt.alloc(), &settings, &BOUND_AT_ONCE, &IN_BOUND_AT_ONCE)
+}

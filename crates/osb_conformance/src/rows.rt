@@ -1,0 +1,10 @@
+//! Worked conversations, each by its name.
+
+pub(crate) mod asks;
+pub(crate) mod bindings;
+mod framing;
+pub(crate) mod instances;
+mod listing;
+mod login;
+mod requests;
+mod settings;

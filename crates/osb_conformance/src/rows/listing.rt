@@ -1,0 +1,53 @@
+//! More running orders than one listing has.
+
+use super::asks::ASYNC;
+use crate::catalogs::built_in;
+use crate::exchange::{last_reply, request};
+use crate::serving::outputs_of;
+use osb_broker::Broker;
+use osb_records::open_memory;
+use std::alloc::Global;
+use std::test::Fail;
+
+/// Requests that create the instances `i000` to `i100`, and two for listings.
+fn requests(alloc: Global) -> Result<Vec<Vec<u8>>, Fail> {
+    let mut connections = Vec::new(alloc);
+    for n in 0..101 {
+        let line = format!(in alloc; "PUT /v2/service_instances/i{n:03}?accepts_incomplete=true")?;
+        connections.push(request(alloc, line.as_str(), ASYNC)?)?;
+    }
+    connections.push(request(alloc, "GET /backend/v1/orders", "")?)?;
+    connections.push(request(alloc, "GET /backend/v1/orders?after=i099", "")?)?;
+    Ok(connections)
+}
+
+/// The listing of the creations of the instances of these numbers.
+fn listing(alloc: Global, from: u32, to: u32) -> Result<Vec<u8>, Fail> {
+    let mut orders = String::new(alloc);
+    for n in from..to {
+        if n > from {
+            orders.push(',')?;
+        }
+        let order = format!(in alloc;
+            "{{\"instance_id\":\"i{n:03}\",\"kind\":\"create\",\"maintenance_version\":\"1.2.0\",\"organization_guid\":\"o\",\"parameters\":{{}},\"plan_id\":\"p-async\",\"seq\":1,\"service_id\":\"svc\",\"space_guid\":\"s\"}}"
+        )?;
+        orders.push_str(order.as_str())?;
+    }
+    let body = format!(in alloc; "{{\"orders\":[{orders}]}}")?;
+    last_reply(alloc, "200 OK", body.as_str())
+}
+
+#[test]
+fn a_hundred_orders_and_one(rt: HostRuntime) -> Result<(), Fail> {
+    let alloc = rt.alloc();
+    let settings = built_in(alloc)?;
+    let connections = requests(alloc)?;
+    let mut broker = Broker::new(alloc, &settings, open_memory(alloc)?, 1);
+    let outputs = outputs_of(alloc, &mut broker, connections.as_slice())?;
+    let [.., first, second] = outputs.as_slice() else {
+        return Err("no outputs")?;
+    };
+    assert!(rt; first.as_slice() == listing(alloc, 0, 100)?.as_slice());
+    assert!(rt; second.as_slice() == listing(alloc, 100, 101)?.as_slice());
+    Ok(())
+}

@@ -1,0 +1,172 @@
+//! Connections, and what a broker writes to them.
+
+ghost use Rattle.std.specs.Prelude.{◌≤◌};
+
+use crate::catalogs::built_in;
+use crate::exchange::{Exchange, last_reply, request};
+use osb_broker::{Broker, Buffer};
+use osb_catalog::Settings;
+use osb_frames::{Counted, Limits};
+use osb_records::{Records, open_memory};
+use sqlite::MemStore;
+use std::alloc::Global;
+use std::io::{self, Read};
+use std::test::Fail;
+
+/// Gives so many bytes at a time.
+#[derive(Drop)]
+struct Pieces<'a> {
+    bytes: &'a [u8],
+    piece: usize,
+}
+
+impl<'a> Read for Pieces<'a> {
+    fn read(&mut self, buf: &mut [u8]) -> io::Result<usize> {
+        let n = self.bytes.len().min(buf.len()).min(self.piece);
+        buf[..n].copy_from_slice(&self.bytes[..n]);
+        self.bytes = &self.bytes[n..];
+        Ok(n)
+    }
+}
+
+/// What the broker writes to a connection whose bytes come in pieces of that size.
+fn output_of(
+    alloc: Global,
+    broker: &mut Broker<'_>,
+    bytes: &[u8],
+    piece: usize,
+) -> Result<Vec<u8>, Fail> {
+    let mut buffer = Buffer::new(alloc, &Limits::STANDARD)?;
+    let mut source = Counted::new(Pieces { bytes, piece });
+    let mut sink = Counted::new(Vec::new(alloc));
+    match broker.serve(&mut buffer, &mut source, &mut sink) {
+        Ok(()) => Ok(sink.into_inner()),
+        Err(_) => Err("a fault")?,
+    }
+}
+
+/// What the broker writes to each of these connections, which come one after the other.
+pub(crate) fn outputs_of(
+    alloc: Global,
+    broker: &mut Broker<'_>,
+    connections: &[Vec<u8>],
+) -> Result<Vec<Vec<u8>>, Fail> {
+    let mut outputs = Vec::new(alloc);
+    for connection in connections {
+        outputs.push(output_of(alloc, broker, connection.as_slice(), usize::MAX)?)?;
+    }
+    Ok(outputs)
+}
+
+/// Fails where one of these replies is another.
+fn are_replies(alloc: Global, exchanges: &[Exchange], outputs: &[Vec<u8>]) -> Result<(), Fail> {
+    if outputs.len() != exchanges.len() {
+        return Err("as many outputs as connections")?;
+    }
+    for (exchange, output) in exchanges.iter().zip(outputs) {
+        let (line, body, status, reply) = *exchange;
+        if output.as_slice() != last_reply(alloc, status, reply)?.as_slice() {
+            let told = format!(in alloc; "{line} {body}: not {status} {reply}")?;
+            return Err(Fail::from(told));
+        }
+    }
+    Ok(())
+}
+
+/// Fails where the broker answers one of these exchanges otherwise.
+pub(crate) fn goes_on(
+    alloc: Global,
+    broker: &mut Broker<'_>,
+    exchanges: &[Exchange],
+) -> Result<(), Fail> {
+    let mut connections = Vec::new(alloc);
+    for (line, body, _, _) in exchanges {
+        connections.push(request(alloc, line, body)?)?;
+    }
+    let outputs = outputs_of(alloc, broker, connections.as_slice())?;
+    are_replies(alloc, exchanges, outputs.as_slice())
+}
+
+/// The same of a broker over these settings and without orders, which takes one request of a
+/// connection.
+pub(crate) fn goes_over(
+    alloc: Global,
+    settings: &Settings,
+    exchanges: &[Exchange],
+) -> Result<(), Fail> {
+    let mut broker = Broker::new(alloc, settings, open_memory(alloc)?, 1);
+    goes_on(alloc, &mut broker, exchanges)
+}
+
+/// The records after an exchange, and a failure where it goes otherwise.
+pub(crate) fn after(
+    alloc: Global,
+    settings: &Settings,
+    records: Records<MemStore>,
+    exchange: Exchange,
+) -> Result<Records<MemStore>, Fail> {
+    let mut broker = Broker::new(alloc, settings, records, 1);
+    goes_on(alloc, &mut broker, &[exchange])?;
+    Ok(broker.into_records())
+}
+
+/// The same over the built-in settings.
+pub(crate) fn goes(alloc: Global, exchanges: &[Exchange]) -> Result<(), Fail> {
+    let settings = built_in(alloc)?;
+    goes_over(alloc, &settings, exchanges)
+}
+
+/// Fails where a broker without orders, which takes so many requests of a connection, writes
+/// something else to these bytes.
+pub(crate) fn answers(
+    alloc: Global,
+    per_connection: u32,
+    bytes: &[u8],
+    text: &[u8],
+) -> Result<(), Fail>
+    requires some { 1 ≤ per_connection }
+    requires few { per_connection ≤ 1000 }
+{
+    let settings = built_in(alloc)?;
+    let mut broker = Broker::new(alloc, &settings, open_memory(alloc)?, per_connection);
+    let mut connection = Vec::new(alloc);
+    connection.extend_from_slice(bytes)?;
+    let outputs = outputs_of(alloc, &mut broker, &[connection])?;
+    match outputs.as_slice() {
+        [output] if output.as_slice() == text => Ok(()),
+        _ => Err("another text")?,
+    }
+}
+
+const PIECES: [usize; 3] = [1, 7, usize::MAX];
+
+/// The same, with the bytes one by one, in pieces of seven, and whole.
+pub(crate) fn answers_in_pieces(
+    alloc: Global,
+    per_connection: u32,
+    bytes: &[u8],
+    text: &[u8],
+) -> Result<(), Fail>
+    requires some { 1 ≤ per_connection }
+    requires few { per_connection ≤ 1000 }
+{
+    let settings = built_in(alloc)?;
+    for piece in PIECES {
+        let mut broker = Broker::new(alloc, &settings, open_memory(alloc)?, per_connection);
+        let output = output_of(alloc, &mut broker, bytes, piece)?;
+        if output.as_slice() != text {
+            let told = format!(in alloc; "another text, in pieces of {piece}")?;
+            return Err(Fail::from(told));
+        }
+    }
+    Ok(())
+}
+
+/// The parts, one behind the other.
+pub(crate) fn joined(alloc: Global, parts: &[&[u8]]) -> Result<Vec<u8>, Fail> {
+    let mut bytes = Vec::new(alloc);
+    for part in parts {
+        bytes.extend_from_slice(part)?;
+    }
+    Ok(bytes)
+}

@@ -1,0 +1,133 @@
+"""Conversations with the broker that the trials share: what is sent, and what has to come back.
+
+The expected replies are written out here; none comes from the program.
+"""
+
+SYNC = '{"service_id":"svc","plan_id":"p-sync","organization_guid":"o","space_guid":"s"}'
+ASYNC = SYNC.replace("p-sync", "p-async")
+PHRASES = {
+    200: "OK",
+    201: "Created",
+    202: "Accepted",
+    400: "Bad Request",
+    404: "Not Found",
+    409: "Conflict",
+    410: "Gone",
+    422: "Unprocessable Entity",
+}
+
+
+def request(method, target, body):
+    backend = target.startswith("/backend")
+    token = "YmFja2VuZDp3b3JrZXI=" if backend else "cGxhdGZvcm06c2VjcmV0"
+    version = "" if backend else "X-Broker-API-Version: 2.17\r\n"
+    return (
+        f"{method} {target} HTTP/1.1\r\nHost: b\r\n{version}Authorization: Basic {token}\r\n"
+        f"Content-Length: {len(body)}\r\n\r\n{body}"
+    ).encode()
+
+
+def reply(status, body):
+    return (
+        f"HTTP/1.1 {status} {PHRASES[status]}\r\nContent-Type: application/json\r\n"
+        f"Content-Length: {len(body)}\r\nConnection: close\r\n\r\n{body}"
+    ).encode()
+
+
+I = "/v2/service_instances/i"
+B = I + "/service_bindings/b"
+LATER = "?accepts_incomplete=true"
+LEAVE = "?service_id=svc&plan_id=p-async&accepts_incomplete=true"
+SYNC_LEAVE = "?service_id=svc&plan_id=p-sync"
+REPORT = "/backend/v1/orders/i/"
+SUCCEEDED = '{"state":"succeeded"}'
+FAILED = '{"state":"failed"}'
+BUSY = '{"description":"Another operation is in progress.","error":"ConcurrencyError"}'
+UPDATE = '{"service_id":"svc","parameters":{"n":1}}'
+OTHER_UPDATE = '{"service_id":"svc","parameters":{"n":2}}'
+BIND = '{"service_id":"svc","plan_id":"p-async"}'
+SYNC_BIND = '{"service_id":"svc","plan_id":"p-sync"}'
+MEMORY_1 = '{"credentials":{"uri":"mem:1"}}'
+
+
+def operation(name):
+    return f'{{"operation":"{name}"}}'
+
+
+# Conversations: method, target and body, status and body.
+PUT_TWICE = [("PUT", I, SYNC, 201, "{}"), ("PUT", I, SYNC, 200, "{}")]
+
+POLL_AND_REPORT = [
+    ("PUT", I + LATER, ASYNC, 202, operation("create-1")),
+    ("GET", I + "/last_operation?operation=create-1", "", 200, '{"state":"in progress"}'),
+    (
+        "GET",
+        "/backend/v1/orders",
+        "",
+        200,
+        '{"orders":[{"instance_id":"i","kind":"create","maintenance_version":"1.2.0",'
+        '"organization_guid":"o","parameters":{},"plan_id":"p-async","seq":1,'
+        '"service_id":"svc","space_guid":"s"}]}',
+    ),
+    ("PUT", REPORT + "1", SUCCEEDED, 200, "{}"),
+    ("PUT", REPORT + "1", FAILED, 409, "{}"),
+    ("PUT", REPORT + "2", SUCCEEDED, 404, "{}"),
+    ("GET", I + "/last_operation?operation=create-1", "", 200, SUCCEEDED),
+]
+
+FAILED_CREATE = [
+    ("PUT", I + LATER, ASYNC, 202, operation("create-1")),
+    ("PUT", REPORT + "1", '{"state":"failed","description":"no disk"}', 200, "{}"),
+    ("GET", I + "/last_operation", "", 200, '{"description":"no disk","state":"failed"}'),
+    ("GET", I, "", 404, "{}"),
+    ("PUT", I + LATER, ASYNC, 409, "{}"),
+    ("DELETE", I + LEAVE, "", 202, operation("delete-2")),
+    ("PUT", REPORT + "2", SUCCEEDED, 200, "{}"),
+    ("GET", I + "/last_operation", "", 410, "{}"),
+    ("DELETE", I + LEAVE, "", 410, "{}"),
+]
+
+UPDATE_FAILED = [
+    ("PUT", I + LATER, ASYNC, 202, operation("create-1")),
+    ("PUT", REPORT + "1", SUCCEEDED, 200, "{}"),
+    ("PATCH", I + LATER, UPDATE, 202, operation("update-2")),
+    ("PATCH", I + LATER, OTHER_UPDATE, 422, BUSY),
+    ("GET", I, "", 422, BUSY),
+    ("PUT", REPORT + "2", FAILED, 200, "{}"),
+    ("GET", I, "", 200, '{"parameters":{},"plan_id":"p-async","service_id":"svc"}'),
+    ("PATCH", I + LATER, UPDATE, 202, operation("update-3")),
+    ("PUT", REPORT + "3", SUCCEEDED, 200, "{}"),
+    ("GET", I, "", 200, '{"parameters":{"n":1},"plan_id":"p-async","service_id":"svc"}'),
+]
+
+ASYNC_BINDING = [
+    ("PUT", I + LATER, ASYNC, 202, operation("create-1")),
+    ("PUT", REPORT + "1", SUCCEEDED, 200, "{}"),
+    ("PUT", B + LATER, BIND, 202, operation("bind-2")),
+    ("GET", B, "", 404, "{}"),
+    ("PUT", REPORT + "2", '{"state":"succeeded","credentials":{"k":"v"}}', 200, "{}"),
+    ("GET", B, "", 200, '{"credentials":{"k":"v"},"parameters":{}}'),
+    ("DELETE", B + LEAVE, "", 202, operation("unbind-3")),
+    ("PUT", REPORT + "3", SUCCEEDED, 200, "{}"),
+    ("GET", B + "/last_operation", "", 410, "{}"),
+    ("DELETE", I + LEAVE, "", 202, operation("delete-4")),
+]
+
+SYNC_BINDING = [
+    ("PUT", I, SYNC, 201, "{}"),
+    ("PUT", B, SYNC_BIND, 201, MEMORY_1),
+    ("PUT", B, SYNC_BIND, 200, MEMORY_1),
+    ("PUT", B, SYNC_BIND[:-1] + ',"app_guid":"x"}', 409, "{}"),
+    ("DELETE", B + SYNC_LEAVE, "", 200, "{}"),
+    ("DELETE", B + SYNC_LEAVE, "", 410, "{}"),
+    ("DELETE", I + SYNC_LEAVE, "", 200, "{}"),
+]
+
+CONVERSATIONS = {
+    "put_twice": PUT_TWICE,
+    "poll_and_report": POLL_AND_REPORT,
+    "failed_create": FAILED_CREATE,
+    "update_failed": UPDATE_FAILED,
+    "async_binding": ASYNC_BINDING,
+    "sync_binding": SYNC_BINDING,
+}
