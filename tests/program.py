@@ -304,10 +304,6 @@ def try_settings(tries, folder):
     tries.expect("the example's catalog", ended, 0, CATALOG_REPLY, b"")
 
 
-# Whether `replay` takes files, each of them a connection.
-TAKES_FILES = False
-
-
 def try_files(tries, folder):
     """Connections from files, one after the other over one database."""
     def written(name, content):
@@ -369,7 +365,6 @@ def try_words(tries):
         ["bogus"],
         ["check"],
         ["check", "a", "b"],
-        *([] if TAKES_FILES else [["replay", "a"]]),
         ["--bogus"],
         ["check", "--settings", "a"],
         ["replay", "--settings"],
@@ -431,8 +426,7 @@ def main():
         try_settings(tries, folder)
         try_broken_streams(tries, folder)
         try_closed_output(tries)
-        if TAKES_FILES:
-            try_files(tries, folder)
+        try_files(tries, folder)
         try_words(tries)
         try_check(tries, folder)
     print(f"program: {tries.passed} passed, {tries.failed} failed")

@@ -45,19 +45,6 @@ fn output_of(
     }
 }
 
-/// What the broker writes to each of these connections, which come one after the other.
-pub(crate) fn outputs_of(
-    alloc: Global,
-    broker: &mut Broker<'_>,
-    connections: &[Vec<u8>],
-) -> Result<Vec<Vec<u8>>, Fail> {
-    let mut outputs = Vec::new(alloc);
-    for connection in connections {
-        outputs.push(output_of(alloc, broker, connection.as_slice(), usize::MAX)?)?;
-    }
-    Ok(outputs)
-}
-
 /// Fails where one of these replies is another.
 fn are_replies(alloc: Global, exchanges: &[Exchange], outputs: &[Vec<u8>]) -> Result<(), Fail> {
     if outputs.len() != exchanges.len() {
@@ -83,7 +70,7 @@ pub(crate) fn goes_on(
     for (line, body, _, _) in exchanges {
         connections.push(request(alloc, line, body)?)?;
     }
-    let outputs = outputs_of(alloc, broker, connections.as_slice())?;
+    let outputs = broker.serve_all(connections.as_slice())?;
     are_replies(alloc, exchanges, outputs.as_slice())
 }
 
@@ -131,7 +118,7 @@ pub(crate) fn answers(
     let mut broker = Broker::new(alloc, &settings, open_memory(alloc)?, per_connection);
     let mut connection = Vec::new(alloc);
     connection.extend_from_slice(bytes)?;
-    let outputs = outputs_of(alloc, &mut broker, &[connection])?;
+    let outputs = broker.serve_all(&[connection])?;
     match outputs.as_slice() {
         [output] if output.as_slice() == text => Ok(()),
         _ => Err("another text")?,

@@ -3,7 +3,6 @@
 use super::asks::ASYNC;
 use crate::catalogs::built_in;
 use crate::exchange::{last_reply, request};
-use crate::serving::outputs_of;
 use osb_broker::Broker;
 use osb_records::open_memory;
 use std::alloc::Global;
@@ -43,7 +42,7 @@ fn a_hundred_orders_and_one(rt: HostRuntime) -> Result<(), Fail> {
     let settings = built_in(alloc)?;
     let connections = requests(alloc)?;
     let mut broker = Broker::new(alloc, &settings, open_memory(alloc)?, 1);
-    let outputs = outputs_of(alloc, &mut broker, connections.as_slice())?;
+    let outputs = broker.serve_all(connections.as_slice())?;
     let [.., first, second] = outputs.as_slice() else {
         return Err("no outputs")?;
     };
