@@ -8,3 +8,4 @@ mod listing;
 mod login;
 mod requests;
 mod settings;
+mod streams;

@@ -56,11 +56,26 @@ fn fetch(alloc: Global) -> Result<Ask, Fail> {
     }
 }
 
+/// What stands by the view for an ask.
+fn standing_by(alloc: Global, records: &mut Records<MemStore>, ask: &Ask) -> Result<String, Fail> {
+    let view = memory::view(records, alloc, ask)?;
+    standing_line(alloc, &view)
+}
+
 /// What stands of `i` by the view for a fetch of it.
 fn standing(alloc: Global, records: &mut Records<MemStore>) -> Result<String, Fail> {
     let ask = fetch(alloc)?;
-    let view = memory::view(records, alloc, &ask)?;
-    standing_line(alloc, &view)
+    standing_by(alloc, records, &ask)
+}
+
+/// Fails where this isn't that order.
+fn is_order(alloc: Global, order: &Order, expected: &str) -> Result<(), Fail> {
+    let line = order_line(alloc, order)?;
+    if line.as_str() == expected {
+        Ok(())
+    } else {
+        Err("another order")?
+    }
 }
 
 /// Fails where the life of `i` has other orders.
@@ -70,11 +85,25 @@ fn has_orders(alloc: Global, records: &mut Records<MemStore>, orders: &[&str]) -
         return Err("another number of orders")?;
     }
     for (order, expected) in life.iter().zip(orders) {
-        if order_line(alloc, order)?.as_str() != *expected {
-            return Err("another order")?;
-        }
+        is_order(alloc, order, expected)?;
     }
     Ok(())
+}
+
+/// Fails where something else stands of `i`.
+fn is_standing(
+    alloc: Global,
+    records: &mut Records<MemStore>,
+    line: &str,
+    expected: &str,
+) -> Result<(), Fail> {
+    let found = standing(alloc, records)?;
+    if found.as_str() == expected {
+        Ok(())
+    } else {
+        let told = format!(in alloc; "after {line}: {found}, not {expected}")?;
+        Err(Fail::from(told))
+    }
 }
 
 /// Fails where after an exchange something else stands of `i`, or in the end it has other orders.
@@ -88,11 +117,7 @@ fn stands(
     let mut records = open_memory(alloc)?;
     for (exchange, expected) in exchanges.iter().zip(standings) {
         records = after(alloc, &settings, records, *exchange)?;
-        let line = standing(alloc, &mut records)?;
-        if line.as_str() != *expected {
-            let told = format!(in alloc; "after {}: {line}, not {expected}", exchange.0)?;
-            return Err(Fail::from(told));
-        }
+        is_standing(alloc, &mut records, exchange.0, expected)?;
     }
     has_orders(alloc, &mut records, orders)
 }

@@ -8,15 +8,24 @@ use osb_records::open_memory;
 use std::alloc::Global;
 use std::test::Fail;
 
+/// The request that creates the instance of that number.
+fn creation(alloc: Global, n: u32) -> Result<Vec<u8>, Fail> {
+    let line = format!(in alloc; "PUT /v2/service_instances/i{n:03}?accepts_incomplete=true")?;
+    request(alloc, line.as_str(), ASYNC)
+}
+
 /// Requests that create the instances `i000` to `i100`, and two for listings.
 fn requests(alloc: Global) -> Result<Vec<Vec<u8>>, Fail> {
     let mut connections = Vec::new(alloc);
     for n in 0..101 {
-        let line = format!(in alloc; "PUT /v2/service_instances/i{n:03}?accepts_incomplete=true")?;
-        connections.push(request(alloc, line.as_str(), ASYNC)?)?;
+        connections.push(creation(alloc, n)?)?;
     }
-    connections.push(request(alloc, "GET /backend/v1/orders", "")?)?;
-    connections.push(request(alloc, "GET /backend/v1/orders?after=i099", "")?)?;
+    for line in [
+        "GET /backend/v1/orders",
+        "GET /backend/v1/orders?after=i099",
+    ] {
+        connections.push(request(alloc, line, "")?)?;
+    }
     Ok(connections)
 }
 
