@@ -6,7 +6,6 @@ usage: measure/replay.py PROGRAM
 """
 
 import os
-import resource
 import subprocess
 import sys
 import tempfile
@@ -50,27 +49,33 @@ class Folder:
         return name
 
 
-def run(program, words):
-    """The seconds that a replay takes, and the most memory of any replay so far, in megabytes."""
-    started = time.monotonic()
-    subprocess.run([program, "replay", *words], check=True, stdout=subprocess.DEVNULL)
-    seconds = time.monotonic() - started
-    return seconds, resource.getrusage(resource.RUSAGE_CHILDREN).ru_maxrss / 1024
+def run(program, words, times):
+    """The least seconds that a replay takes, and the most memory, in megabytes."""
+    seconds, memory = [], []
+    for _ in range(times):
+        started = time.monotonic()
+        replay = subprocess.Popen([program, "replay", *words], stdout=subprocess.DEVNULL)
+        _, status, used = os.wait4(replay.pid, 0)
+        seconds.append(time.monotonic() - started)
+        memory.append(used.ru_maxrss / 1024)
+        if status:
+            sys.exit("replay failed")
+    return min(seconds), max(memory)
 
 
 def connections(program, folder):
     """A thousand connections of one request each."""
     empty = folder.write("")
-    start = min(run(program, [empty] * SAMPLES)[0] for _ in range(5))
+    start, _ = run(program, [empty] * SAMPLES, 20)
     kinds = [
         ("catalog", [folder.write(get("/v2/catalog"))] * SAMPLES),
         ("same instance", [folder.write(put("i"))] * SAMPLES),
         ("new instance", [folder.write(put(f"i{n}")) for n in range(SAMPLES)]),
     ]
     for name, words in kinds:
-        seconds, memory = min(run(program, words) for _ in range(5))
-        rate = SAMPLES / (seconds - start)
-        print(f"{name}: {rate:,.0f} a second, at most {memory:.1f} MB")
+        seconds, memory = run(program, words, 20)
+        each = (seconds - start) / SAMPLES * 1e6
+        print(f"{name}: {each:.1f} microseconds each, at most {memory:.1f} MB")
 
 
 def standing(program, folder, instances):
@@ -80,15 +85,17 @@ def standing(program, folder, instances):
     words.append(folder.write(busy))
     for first in range(0, instances, 1000):
         words.append(folder.write("".join(put(f"i{first + n:06}") for n in range(1000))))
-    base = min(run(program, words)[0] for _ in range(3))
+    base, memory = run(program, words, 3)
+    print(f"{instances:,} instances: {base:.2f} seconds to make, at most {memory:.0f} MB")
     asked = [
-        ("a listing", get("/backend/v1/orders", BACKEND)),
-        ("a look-up", get(f"/v2/service_instances/i{instances // 2:06}")),
+        ("a listing", get("/backend/v1/orders", BACKEND), 20),
+        ("a look-up", get(f"/v2/service_instances/i{instances // 2:06}"), 100),
     ]
-    for name, request in asked:
+    for name, request, files in asked:
         more = folder.write(request * 1000)
-        seconds = min(run(program, words + [more] * 5)[0] for _ in range(3))
-        print(f"{name} at {instances:,}: {(seconds - base) / 5000 * 1e6:.0f} microseconds")
+        seconds, _ = run(program, words + [more] * files, 3)
+        each = (seconds - base) / (files * 1000) * 1e6
+        print(f"{name} at {instances:,}: {each:.1f} microseconds")
 
 
 def main():
