@@ -20,7 +20,7 @@ use Rattle.sqlite_value.proofs.OrderLemmas.{value_cmp-Text}
 use Rattle.sqlite_keyed.specs.Lists.{insert_sorted, update_where, delete_where}
 use Rattle.osb_orders.specs.declared.view.BindingNow.{BindingNow}
 use Rattle.osb_records.specs.Rows.{Stores}
-use Rattle.osb_records.specs.Tables.{binding_columns, record_schema}
+use Rattle.osb_tables.specs.Tables.{binding_columns, record_schema}
 use Rattle.osb_records.specs.Instances.{InstanceEntry, instance_cells, instance_row, instance_cmp}
 use Rattle.osb_records.specs.Bindings.{BindingEntry, binding_entry, binding_now, binding_cells, binding_row, binding_cmp, binding_phase_number, is_bound, is_binding}
 use Rattle.osb_records.specs.BindingRows.{binding_found, first_binding, with_binding}

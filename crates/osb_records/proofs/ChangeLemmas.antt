@@ -15,7 +15,7 @@ use Rattle.sqlite_keyed.specs.Lists.{insert_sorted, update_where}
 use Rattle.osb_orders.specs.declared.order.Outcome.{Outcome}
 use Rattle.osb_orders.specs.Orders.{kind_number, state_number}
 use Rattle.osb_records.specs.Rows.{Stores}
-use Rattle.osb_records.specs.Tables.{order_columns, record_schema}
+use Rattle.osb_tables.specs.Tables.{order_columns, record_schema}
 use Rattle.osb_records.specs.Instances.{InstanceEntry, instance_cells, instance_row, instance_cmp}
 use Rattle.osb_records.specs.Bindings.{BindingEntry, binding_cells, binding_row, binding_cmp}
 use Rattle.osb_records.specs.Stored.{Entry, Holds, entry_row, entry_cmp, order_cells, version_row, version_cells, is_keyed}

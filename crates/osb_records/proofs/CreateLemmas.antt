@@ -14,7 +14,7 @@ use Rattle.sqlite.specs.Effect.{Database}
 use Rattle.sqlite.specs.State.{State, Writes, Executes, mode_of}
 use Rattle.sqlite.proofs.Callers.{statement_of, runs_as}
 use Rattle.osb_records.specs.Rows.{Stores}
-use Rattle.osb_records.specs.Tables.{format_table, format_columns, no_schema, format_schema, orders_schema, instances_schema, tables_schema, instances_table, busy_index, record_schema}
+use Rattle.osb_tables.specs.Tables.{format_table, format_columns, no_schema, format_schema, orders_schema, instances_schema, tables_schema, instances_table, busy_index, record_schema}
 use Rattle.osb_records.specs.Instances.{instance_row, instance_cmp, instance_cells}
 use Rattle.osb_records.specs.Bindings.{binding_row, binding_cmp, binding_cells}
 use Rattle.osb_records.specs.Steps.{AreBlank}

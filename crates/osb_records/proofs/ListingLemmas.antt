@@ -25,7 +25,7 @@ use Rattle.osb_standing.specs.declared.row.InstanceRow.{InstanceRow}
 use Rattle.osb_standing.specs.Rows.{row_of}
 use Rattle.osb_standing.specs.Listing.{with_row, with_order, is_listed, instance_rows}
 use Rattle.osb_standing.specs.Laws.{ListedByRows}
-use Rattle.osb_records.specs.Tables.{record_schema}
+use Rattle.osb_tables.specs.Tables.{record_schema}
 use Rattle.osb_records.specs.Instances.{InstanceEntry, instance_cmp, instance_cells, instance_row, is_instance, busy_number}
 use Rattle.osb_records.specs.Stored.{instances_in, lives_stored}
 use Rattle.osb_records.specs.Standing.{InstancesStand}

@@ -20,7 +20,7 @@ use Rattle.osb_orders.specs.Lists.{last_of}
 use Rattle.osb_orders.specs.Orders.{kind_number, is_about_binding, is_a, is_of_instance, is_of_binding}
 use Rattle.osb_orders.specs.Lives.{life_of}
 use Rattle.osb_orders.specs.Named.{order_numbered}
-use Rattle.osb_records.specs.Tables.{record_schema}
+use Rattle.osb_tables.specs.Tables.{record_schema}
 use Rattle.osb_records.specs.Stored.{Entry, entry_row, entry_cmp, order_cells, entries_in, is_of, is_keyed}
 use Rattle.osb_records.specs.Steps.{HasTables, stored}
 use Rattle.osb_records.specs.Queries.{first_order}

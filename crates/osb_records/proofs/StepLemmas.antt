@@ -9,7 +9,7 @@ use Rattle.sqlite.specs.declared.error.Error.{Error}
 use Rattle.sqlite.specs.State.{State, HasCleanDisk, Executes, ExecutesInside, Survives}
 use Rattle.osb_orders.specs.Lives.{Lives}
 use Rattle.osb_orders.specs.IsLife.{IsLives}
-use Rattle.osb_records.specs.Tables.{record_schema}
+use Rattle.osb_tables.specs.Tables.{record_schema}
 use Rattle.osb_records.specs.Instances.{InstanceEntry}
 use Rattle.osb_records.specs.Bindings.{BindingEntry}
 use Rattle.osb_records.specs.Stored.{Entry, Content, content_in, lives_in}

@@ -1,5 +1,4 @@
 pub mod Rows
-pub mod Tables
 pub mod Columns
 pub mod Instances
 pub mod Bindings

@@ -4,7 +4,7 @@ ghost use Rattle.std.specs.Prelude.{◌≡◌, [], ◌∷◌, IsTrue, OnOk, OnEr
 ghost use Rattle.std.specs.FinMap.{empty};
 ghost use Rattle.sqlite.specs.Held.{state};
 ghost use Rattle.sqlite.specs.State.{HasCleanDisk, KeepsCommit, Survives};
-ghost use Rattle.osb_records.specs.Tables.{no_schema, format_schema, orders_schema, instances_schema, tables_schema, record_schema};
+ghost use Rattle.osb_tables.specs.Tables.{no_schema, format_schema, orders_schema, instances_schema, tables_schema, record_schema};
 ghost use Rattle.osb_records.specs.Steps.{ShowsSchema, ShowsBlank, HoldsLives, IsSettled, IsReady, Writes, Makes, LeavesOnly, stored};
 
 use sqlite::{Alter, Connection, Error, Transaction};
