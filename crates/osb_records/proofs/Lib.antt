@@ -30,3 +30,5 @@ pub mod CommitLemmas
 pub mod ViewLemmas
 pub mod AskLemmas
 pub mod StandLemmas
+pub mod WholeTexts
+pub mod WholeLemmas

@@ -1,5 +1,5 @@
 -- The orders in the tables, and the lives that they make up.
-use Rattle.std.specs.Prelude.{Bool, ◌&&◌, ◌==◌, if◌then◌else◌, ℕ, pos, List, [], ◌∷◌, map, bytes_eq}
+use Rattle.std.specs.Prelude.{Bool, ◌&&◌, ◌==◌, if◌then◌else◌, ℕ, pos, List, [], ◌∷◌, ◌++◌, map, bytes_eq}
 use Rattle.std.specs.declared.cmp.Ordering.{Ordering}
 use Rattle.std.specs.Ordering.{nat_cmp, ordering_then}
 use Rattle.std.specs.Cmp.Lexicographic.{slice_cmp}
@@ -30,23 +30,26 @@ entry_cmp a b = ordering_then (slice_cmp nat_cmp a.0 b.0) (nat_cmp a.1.number b.
 
 -- ---- rows
 
--- what the columns of an entry hold
-abbrev pub entry_row : Entry → Row
-entry_row entry =
-    Words entry.0
-    ∷ Int (pos entry.1.number)
-    ∷ Int (pos (kind_number entry.1.kind))
-    ∷ Words entry.1.binding
-    ∷ Words entry.1.attributes.service
-    ∷ Words entry.1.attributes.plan
-    ∷ Words entry.1.attributes.place
-    ∷ Words entry.1.attributes.spot
-    ∷ Words entry.1.attributes.parameters
-    ∷ Words entry.1.attributes.maintenance
-    ∷ Int (pos (state_number entry.1.outcome.state))
-    ∷ Words entry.1.outcome.description
-    ∷ Words entry.1.outcome.credentials
+-- what the columns of an order hold
+abbrev pub order_row : Order → Row
+order_row order =
+    Int (pos order.number)
+    ∷ Int (pos (kind_number order.kind))
+    ∷ Words order.binding
+    ∷ Words order.attributes.service
+    ∷ Words order.attributes.plan
+    ∷ Words order.attributes.place
+    ∷ Words order.attributes.spot
+    ∷ Words order.attributes.parameters
+    ∷ Words order.attributes.maintenance
+    ∷ Int (pos (state_number order.outcome.state))
+    ∷ Words order.outcome.description
+    ∷ Words order.outcome.credentials
     ∷ []
+
+-- with the id of its instance
+abbrev pub entry_row : Entry → Row
+entry_row entry = Words entry.0 ∷ order_row entry.1
 
 abbrev pub kind_numbered : ℕ → OrderKind
 kind_numbered number =
@@ -77,9 +80,9 @@ order_told cells = record {
 abbrev pub entry_told : Row → Entry
 entry_told cells = (bytes (column cells 0), order_told cells)
 
--- the columns of a stored row, which has its rowid first
-abbrev pub order_cells : Row → Row
-order_cells cells =
+-- the columns of an order in a row that was read
+abbrev pub order_columns : Row → Row
+order_columns cells =
     column cells 1
     ∷ column cells 2
     ∷ column cells 3
@@ -92,11 +95,21 @@ order_cells cells =
     ∷ column cells 10
     ∷ column cells 11
     ∷ column cells 12
-    ∷ column cells 13
     ∷ []
+
+-- with the id of its instance
+abbrev pub entry_columns : Row → Row
+entry_columns cells = column cells 0 ∷ order_columns cells
+
+-- the columns of a stored row, which has its rowid first
+abbrev pub order_cells : Row → Row
+order_cells cells = order_columns cells ++ column cells 13 ∷ []
 
 abbrev pub version_row : ℕ → Row
 version_row version = Int (pos version) ∷ []
+
+abbrev pub version_columns : Row → Row
+version_columns cells = column cells 0 ∷ []
 
 abbrev pub version_cells : Row → Row
 version_cells cells = column cells 1 ∷ []

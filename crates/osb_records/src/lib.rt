@@ -14,6 +14,7 @@ mod row;
 mod statements;
 mod tables;
 mod view;
+mod whole;
 mod writing;
 
 pub use fault::StoreFault;
