@@ -1,0 +1,4 @@
+pub mod Orders
+pub mod Instances
+pub mod Bindings
+pub mod Audit
