@@ -1,1 +1,3 @@
 pub mod RisingLemmas
+pub mod TreeLemmas
+pub mod LifeLemmas

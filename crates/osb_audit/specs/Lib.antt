@@ -2,3 +2,4 @@ pub mod Orders
 pub mod Instances
 pub mod Bindings
 pub mod Audit
+pub mod Life
