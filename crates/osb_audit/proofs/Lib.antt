@@ -1,3 +1,6 @@
 pub mod RisingLemmas
 pub mod TreeLemmas
 pub mod LifeLemmas
+pub mod RunLemmas
+pub mod LivesLemmas
+pub mod StandLemmas

@@ -1,5 +1,5 @@
 -- The tree of an instance's bindings, and the rows that it holds.
-use Rattle.std.proofs.Common.{◌≡◌, ◌==◌, ℕ, Bool, true, false, cond, ◌&&◌, T, List, [], ◌∷◌, length, map, arith, Option, Some, None, Ordering, Less, Equal, Greater, is_lt, refl, sym, ◌∙◌, ap, subst}
+use Rattle.std.proofs.Common.{◌≡◌, ◌==◌, ℕ, Bool, true, false, cond, ◌&&◌, T, List, [], ◌∷◌, length, map, arith, Some, None, Ordering, Less, is_lt, refl, sym, ◌∙◌, ap, subst}
 use Rattle.std.specs.Prelude.{◌↔◌}
 use Rattle.std.proofs.lemmas.List.{nil_from_length}
 use Rattle.std.specs.Ordering.{nat_cmp, eq_by_cmp}
@@ -61,7 +61,7 @@ entries_held rows bindings held h =
 
 -- ---- one list beside another
 
-zero_is : (n : ℕ) → (n == 0) ≡ true → n ≡ 0
+pub zero_is : (n : ℕ) → (n == 0) ≡ true → n ≡ 0
 zero_is n e = grind arith
 
 module _ {A B : Type 0} (f : A → B) (left : List B) (items : List A) where
@@ -79,5 +79,5 @@ module _ {A B : Type 0} (f : A → B) (left : List B) (items : List A) where
 pub through : {A B C : Type 0} → (A ↔ B) → (B ↔ C) → (A ↔ C)
 through f g = (λ a. g.0 (f.0 a), λ c. f.1 (g.1 c))
 
-pub refused : {A : Type 0} → (A → ⊥) → (false ≡ true) ↔ A
-refused h = (λ e. cc, λ a. absurd (h a))
+pub refused : {A : Type 0} (answer : Bool) → answer ≡ false → (A → ⊥) → (answer ≡ true) ↔ A
+refused answer is h = (λ e. let f : false ≡ true = sym is ∙ e in cc, λ a. absurd (h a))

@@ -3,3 +3,4 @@ pub mod Instances
 pub mod Bindings
 pub mod Audit
 pub mod Life
+pub mod Runs

@@ -1,5 +1,5 @@
 -- What a pass over the orders of one instance has found.
-use Rattle.std.specs.Prelude.{ℕ, ◌≡◌, ◌≢◌, List, [], Option, Some, true, map}
+use Rattle.std.specs.Prelude.{ℕ, ◌≡◌, List, Some, true, map}
 use Rattle.std.specs.Ordering.{nat_cmp}
 use Rattle.std.specs.Cmp.Lexicographic.{slice_cmp}
 use Rattle.std.specs.BTreeMap as tree

@@ -1,10 +1,12 @@
 //! Whether lists of orders and of rows are those of well-formed lives, and which plans the rows use.
 #![tactic(auto)]
 
+mod audit;
 mod bindings;
 mod entry;
 mod life;
 mod rising;
 mod worded;
 
+pub use audit::are_rows_of_lives;
 pub use entry::BindingEntry;

@@ -41,9 +41,11 @@ pub(crate) fn is_standing(
 {
     match find(alloc, orders)? {
         None => Ok(false),
-        Some(found) => Ok(is_id(id.as_str())
-            && is_row(found.row.as_ref(), row)
-            && are_bindings(id, &found.bindings, bound)),
+        Some(found) => Ok(
+            is_id(id.as_str())
+                && is_row(found.row.as_ref(), row)
+                && are_bindings(id, &found.bindings, bound),
+        ),
     }
 }
 
@@ -103,10 +105,7 @@ fn follows(row: Option<&InstanceRow>, order: &Order) -> bool
 fn is_next(count: u32, busy: bool, absent: bool, order: &Order) -> bool
     ensures { (before : Life) → count ≡ length before → busy ≡ ends_running before → absent ≡ is_absent before → (result ≡ true) ↔ ((length before < 1000000) × IsNext before order.now) }
 {
-    count < MOST
-        && order.number == count + 1
-        && !busy
-        && order.is_a(OrderKind::Create) == absent
+    count < MOST && order.number == count + 1 && !busy && order.is_a(OrderKind::Create) == absent
 }
 
 /// Takes the order in, which may come next.

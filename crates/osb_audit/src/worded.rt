@@ -33,11 +33,13 @@ fn are_of_instance(alloc: Global, attributes: &Attributes) -> Result<bool, Alloc
     ensures { IfOk result (λ yes. (yes ≡ true) ↔ AreOfInstance attributes.now) }
 {
     let parameters = is_object_text(alloc, attributes.parameters.as_str())?;
-    Ok(is_id(attributes.service.as_str())
-        && is_id(attributes.plan.as_str())
-        && is_id(attributes.place.as_str())
-        && is_id(attributes.spot.as_str())
-        && parameters)
+    Ok(
+        is_id(attributes.service.as_str())
+            && is_id(attributes.plan.as_str())
+            && is_id(attributes.place.as_str())
+            && is_id(attributes.spot.as_str())
+            && parameters,
+    )
 }
 
 fn are_of_binding(alloc: Global, attributes: &Attributes) -> Result<bool, AllocError>
@@ -45,11 +47,13 @@ fn are_of_binding(alloc: Global, attributes: &Attributes) -> Result<bool, AllocE
 {
     let bind_resource = is_object_text(alloc, attributes.spot.as_str())?;
     let parameters = is_object_text(alloc, attributes.parameters.as_str())?;
-    Ok(is_id(attributes.service.as_str())
-        && is_id(attributes.plan.as_str())
-        && is_id_or_empty(attributes.place.as_str())
-        && bind_resource
-        && parameters)
+    Ok(
+        is_id(attributes.service.as_str())
+            && is_id(attributes.plan.as_str())
+            && is_id_or_empty(attributes.place.as_str())
+            && bind_resource
+            && parameters,
+    )
 }
 
 fn is_id_or_empty(text: &str) -> bool

@@ -1,4 +1,4 @@
-use Rattle.std.proofs.Common.{◌≡◌, ◌∙◌, true, List, ℕ, map, ap, sym, subst}
+use Rattle.std.proofs.Common.{false, refl, ◌≡◌, ◌∙◌, true, List, ℕ, map, ap, sym, subst}
 use Rattle.std.specs.Prelude.{◌↔◌}
 use Rattle.osb_orders.specs.declared.view.BindingNow.{BindingNow}
 use Rattle.osb_audit.specs.Bindings.{binding_entry}
@@ -9,13 +9,13 @@ pub returns-in-None-split_first : goal.returns-in-None-split_first
 returns-in-None-split_first c = λ rows held.
     let f = binding_entry c.args.instance.now in
     let es = entries_held rows c.args.bindings.now held c.into_iter-id-iterator.ensures.into_iter_gives.5 in
-    refused (λ same. none_left f c.loop-id.left.now c.loop-id.id-iterator _ _ c.in-None-split_first.ensures.cases c.in-Some.ensures.steps (c.loop-id.invariant.1 (same ∙ ap (map f) (sym es))))
+    refused false refl (λ same. none_left f c.loop-id.left.now c.loop-id.id-iterator _ _ c.in-None-split_first.ensures.cases c.in-Some.ensures.steps (c.loop-id.invariant.1 (same ∙ ap (map f) (sym es))))
 
 pub returns-then-not-is_entry : goal.returns-then-not-is_entry
 returns-then-not-is_entry c = λ rows held.
     let f = binding_entry c.args.instance.now in
     let es = entries_held rows c.args.bindings.now held c.into_iter-id-iterator.ensures.into_iter_gives.5 in
-    refused (λ same. other_first f c.loop-id.left.now c.loop-id.id-iterator _ _ _ _ c.in-Some-split_first.ensures.cases.0 c.in-Some.ensures.steps (λ is. let e = c.is_entry.ensures.1 is in let g = c.if-not-is_entry.true in cc) (c.loop-id.invariant.1 (same ∙ ap (map f) (sym es))))
+    refused false refl (λ same. other_first f c.loop-id.left.now c.loop-id.id-iterator _ _ _ _ c.in-Some-split_first.ensures.cases.0 c.in-Some.ensures.steps (λ is. let e = c.is_entry.ensures.1 is in let g = c.if-not-is_entry.true in cc) (c.loop-id.invariant.1 (same ∙ ap (map f) (sym es))))
 
 pub returns : goal.returns
 returns c = λ rows held.

@@ -1,4 +1,4 @@
-use Rattle.std.proofs.Common.{◌∙◌, refl, arith}
+use Rattle.std.proofs.Common.{refl, arith}
 use Rattle.osb_audit.proofs.TreeLemmas.{holds_none}
 use Rattle.osb_audit.proofs.life.nothing.Goals as goal
 
