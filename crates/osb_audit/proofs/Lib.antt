@@ -4,3 +4,5 @@ pub mod LifeLemmas
 pub mod RunLemmas
 pub mod LivesLemmas
 pub mod StandLemmas
+pub mod SetLemmas
+pub mod PlanLemmas

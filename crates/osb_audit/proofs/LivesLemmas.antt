@@ -31,7 +31,7 @@ opened_back : (life : Life) → unwrap_or (opened life) [] ≡ life
 opened_back [] = refl
 opened_back (order ∷ life) = refl
 
-key_is : (id at : List ℕ) → eq_by_cmp (slice_cmp nat_cmp) id at ≡ bytes_eq at id
+pub key_is : (id at : List ℕ) → eq_by_cmp (slice_cmp nat_cmp) id at ≡ bytes_eq at id
 key_is id at = is_eq-slice_cmp id at ∙ nat_list_eq_equiv.symm id at
 
 pub get_lives : (id : List ℕ) (orders : List Entry) → get (lives_in orders) id ≡ opened (life_in id orders)

@@ -26,14 +26,14 @@ use Rattle.osb_audit.proofs.LivesLemmas.{life_in, opened, StandsAt, stands_at, s
 
 -- ---- a row and its life
 
-abbrev shown : List ℕ → Option InstanceRow → List InstanceEntry
+abbrev pub shown : List ℕ → Option InstanceRow → List InstanceEntry
 shown id row = map (λ (row : InstanceRow). (id, row)) (option_to_list row)
 
-abbrev first_of : List InstanceEntry → Option InstanceRow
+abbrev pub first_of : List InstanceEntry → Option InstanceRow
 first_of [] = None
 first_of (entry ∷ rows) = Some entry.1
 
-first_shown : (id : List ℕ) (found : Option InstanceRow) → first_of (shown id found) ≡ found
+pub first_shown : (id : List ℕ) (found : Option InstanceRow) → first_of (shown id found) ≡ found
 first_shown id None = refl
 first_shown id (Some row) = refl
 

@@ -4,3 +4,4 @@ pub mod Bindings
 pub mod Audit
 pub mod Life
 pub mod Runs
+pub mod Plans

@@ -5,8 +5,10 @@ mod audit;
 mod bindings;
 mod entry;
 mod life;
+mod plans;
 mod rising;
 mod worded;
 
 pub use audit::are_rows_of_lives;
 pub use entry::BindingEntry;
+pub use plans::plans_in_use;
