@@ -15,10 +15,13 @@ use Rattle.sqlite.specs.State.{State, Writes, Executes, mode_of}
 use Rattle.sqlite.proofs.Callers.{statement_of, runs_as}
 use Rattle.osb_records.specs.Rows.{Stores}
 use Rattle.osb_tables.specs.Tables.{format_table, format_columns, no_schema, format_schema, orders_schema, instances_schema, tables_schema, instances_table, busy_index, record_schema}
-use Rattle.osb_records.specs.Instances.{instance_row, instance_cmp, instance_cells}
-use Rattle.osb_records.specs.Bindings.{binding_row, binding_cmp, binding_cells}
+use Rattle.osb_audit.specs.Instances.{instance_cmp}
+use Rattle.osb_records.specs.Instances.{instance_row, instance_cells}
+use Rattle.osb_audit.specs.Bindings.{binding_cmp}
+use Rattle.osb_records.specs.Bindings.{binding_row, binding_cells}
 use Rattle.osb_records.specs.Steps.{AreBlank}
-use Rattle.osb_records.specs.Stored.{entry_row, entry_cmp, order_cells, version_row, version_cells}
+use Rattle.osb_audit.specs.Orders.{entry_cmp}
+use Rattle.osb_records.specs.Stored.{entry_row, order_cells, version_row, version_cells}
 use Rattle.osb_records.proofs.Texts.{create_format, create_format_is, create_format_plain, create_orders, create_orders_is, create_orders_plain, orders_made, orders_placed, create_instances, create_instances_is, create_instances_plain, instances_made, instances_placed, create_bindings, create_bindings_is, create_bindings_plain, bindings_made, bindings_placed, create_index, create_index_is, create_index_plain, insert_version, insert_version_terms, insert_version_is}
 use Rattle.osb_records.proofs.StatementLemmas.{went, same_value, insert_does}
 use Rattle.osb_records.proofs.TableLemmas.{cast_int, insert_stores}

@@ -32,3 +32,6 @@ pub mod AskLemmas
 pub mod StandLemmas
 pub mod WholeTexts
 pub mod WholeLemmas
+pub mod TableReads
+pub mod OpenedLemmas
+pub mod PlanLemmas

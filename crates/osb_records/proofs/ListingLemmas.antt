@@ -26,9 +26,9 @@ use Rattle.osb_standing.specs.Rows.{row_of}
 use Rattle.osb_standing.specs.Listing.{with_row, with_order, is_listed, instance_rows}
 use Rattle.osb_standing.specs.Laws.{ListedByRows}
 use Rattle.osb_tables.specs.Tables.{record_schema}
-use Rattle.osb_records.specs.Instances.{InstanceEntry, instance_cmp, instance_cells, instance_row, is_instance, busy_number}
+use Rattle.osb_audit.specs.Instances.{InstanceEntry, instance_cmp, is_instance, InstancesStand}
+use Rattle.osb_records.specs.Instances.{instance_cells, instance_row, busy_number}
 use Rattle.osb_records.specs.Stored.{instances_in, lives_stored}
-use Rattle.osb_records.specs.Standing.{InstancesStand}
 use Rattle.osb_records.specs.Queries.{ShowsRecords, busy_row, order_for}
 use Rattle.osb_records.specs.Steps.{HasTables, stored}
 use Rattle.osb_records.proofs.AnswerLemmas.{one_answer}

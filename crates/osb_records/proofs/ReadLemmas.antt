@@ -4,7 +4,8 @@ use Rattle.std.proofs.lemmas.List.{map-append}
 use Rattle.sqlite.specs.Order.{Row}
 use Rattle.osb_orders.specs.declared.order.Order.{Order}
 use Rattle.osb_orders.specs.Lives.{life_of}
-use Rattle.osb_records.specs.Stored.{Entry, entry_row, order_told, is_of, lives_in}
+use Rattle.osb_audit.specs.Orders.{Entry, is_of, lives_in}
+use Rattle.osb_records.specs.Stored.{entry_row, order_told}
 use Rattle.osb_records.proofs.SortLemmas.{told_back}
 use Rattle.osb_records.proofs.LivesLemmas.{life_of_lives}
 

@@ -1,8 +1,6 @@
 -- The rows of the table of instances.
-use Rattle.std.specs.Prelude.{Bool, ◌==◌, if◌then◌else◌, ℕ, pos, List, [], ◌∷◌, ◌++◌, Option, None, Some, option_map, slice_get, bytes_eq}
-use Rattle.std.specs.declared.cmp.Ordering.{Ordering}
-use Rattle.std.specs.Ordering.{nat_cmp}
-use Rattle.std.specs.Cmp.Lexicographic.{slice_cmp}
+use Rattle.osb_audit.specs.Instances.{InstanceEntry}
+use Rattle.std.specs.Prelude.{Bool, ◌==◌, if◌then◌else◌, ℕ, pos, List, [], ◌∷◌, ◌++◌, Option, None, Some, option_map, slice_get}
 use Rattle.sqlite.specs.declared.types.Value.TheVariants.{Int, Text as Words}
 use Rattle.sqlite.specs.Order.{Row, column, bytes}
 use Rattle.osb_orders.specs.declared.order.Attributes.{Attributes}
@@ -11,18 +9,6 @@ use Rattle.osb_orders.specs.declared.view.InstancePhase.TheVariants.{Creating, R
 use Rattle.osb_orders.specs.declared.view.Standing.{Standing}
 use Rattle.osb_standing.specs.declared.row.InstanceRow.{InstanceRow}
 use Rattle.osb_records.specs.Columns.{number_in, attributes_told}
-
--- the row of an instance with its id
-abbrev pub InstanceEntry : Type 0
-InstanceEntry = List ℕ × InstanceRow
-
--- by the ids' bytes
-abbrev pub instance_cmp : InstanceEntry → InstanceEntry → Ordering
-instance_cmp a b = slice_cmp nat_cmp a.0 b.0
-
--- the entry is of the instance
-abbrev pub is_instance : List ℕ → InstanceEntry → Bool
-is_instance id entry = bytes_eq entry.0 id
 
 -- the entry with another row
 abbrev pub with_row : InstanceRow → InstanceEntry → InstanceEntry

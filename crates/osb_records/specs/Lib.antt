@@ -8,3 +8,4 @@ pub mod Steps
 pub mod Commit
 pub mod Queries
 pub mod BindingRows
+pub mod Opened

@@ -10,9 +10,11 @@ ghost use Rattle.osb_records.specs.Rows.{rowid_shown};
 ghost use Rattle.osb_records.specs.Columns.{number_in, attributes_told, HoldAttributes};
 ghost use Rattle.osb_records.specs.Stored.{kind_numbered, state_numbered, order_told, order_row, order_columns, entry_row, entry_columns, version_row, version_columns};
 ghost use Rattle.osb_records.specs.Instances.{no_attributes, instance_phase_number, instance_phase_numbered, standing_number, standing_told, attributes_shown, busy_number, instance_row_told, standing_row, standing_columns, instance_row, instance_columns, first_told};
-ghost use Rattle.osb_records.specs.Bindings.{binding_phase_numbered, binding_now, binding_told};
+ghost use Rattle.osb_audit.specs.Bindings.{binding_now};
+ghost use Rattle.osb_records.specs.Bindings.{binding_phase_number, binding_phase_numbered, binding_told, binding_row, binding_columns};
 
 use crate::fault::StoreFault;
+use osb_audit::BindingEntry;
 use osb_orders::{
     Attributes, BindingNow, BindingPhase, InstancePhase, Order, OrderKind, OrderState, Outcome,
     Standing,
@@ -273,7 +275,8 @@ pub(crate) fn first_instance_in(rows: &[Row]) -> Result<Option<InstanceRow>, Sto
 }
 
 fn binding_phase_numbered(number: u32) -> Result<BindingPhase, StoreFault>
-    ensures { IfOk result (λ phase. phase ≡ binding_phase_numbered number) }
+    ensures told { IfOk result (λ phase. phase ≡ binding_phase_numbered number) }
+    ensures held { IfOk result (λ phase. number ≡ binding_phase_number phase) }
 {
     match number {
         1 => Ok(BindingPhase::Binding),
@@ -307,4 +310,31 @@ pub(crate) fn binding_in(alloc: Global, row: &Row) -> Result<BindingNow, StoreFa
         attributes: binding_attributes_in(alloc, row)?,
         credentials: text_in(row, 8)?,
     })
+}
+
+fn binding_entry_in(row: &Row) -> Result<BindingEntry, StoreFault>
+    ensures { IfOk result (λ entry. binding_row entry ≡ binding_columns row.now) }
+{
+    Ok(BindingEntry {
+        instance: text_in(row, 0)?,
+        binding: text_in(row, 1)?,
+        phase: binding_phase_numbered(number_in(row, 2)?)?,
+        service: text_in(row, 3)?,
+        plan: text_in(row, 4)?,
+        app_guid: text_in(row, 5)?,
+        bind_resource: text_in(row, 6)?,
+        parameters: text_in(row, 7)?,
+        credentials: text_in(row, 8)?,
+    })
+}
+
+/// The bindings of the rows.
+pub(crate) fn bindings_in(alloc: Global, rows: &[Row]) -> Result<Vec<BindingEntry>, StoreFault>
+    ensures { IfOk result (λ entries. map binding_row entries.items ≡ map binding_columns rows.now) }
+{
+    let mut entries = Vec::new(alloc);
+    for row in rows {
+        entries.push(binding_entry_in(row)?)?;
+    }
+    Ok(entries)
 }
