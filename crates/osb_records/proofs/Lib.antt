@@ -35,3 +35,4 @@ pub mod WholeLemmas
 pub mod TableReads
 pub mod OpenedLemmas
 pub mod PlanLemmas
+pub mod IndexLemmas

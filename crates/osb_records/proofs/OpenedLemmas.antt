@@ -1,5 +1,5 @@
 -- What the lists that were read say of the database.
-use Rattle.std.proofs.Common.{◌≡◌, inl, inr, IsTrue, Bool, true, ℕ, List, [], ◌∷◌, Ordering, Less, nat_cmp, refl, sym, ap, subst, ◌∙◌}
+use Rattle.std.proofs.Common.{◌≡◌, inl, inr, IsTrue, Bool, true, ℕ, List, [], ◌∷◌, Ordering, Less, nat_cmp, refl, sym, ap, subst}
 use Rattle.std.specs.Prelude.{◌↔◌, ◌≢◌}
 use Rattle.std.specs.FinMap.{empty}
 use Rattle.std.specs.List.Sorted.{IsStrictlySortedBy}
@@ -13,11 +13,11 @@ use Rattle.osb_orders.specs.Lives.{Lives}
 use Rattle.osb_orders.specs.IsLife.{IsLives}
 use Rattle.osb_audit.specs.declared.entry.BindingEntry.{BindingEntry}
 use Rattle.osb_audit.specs.Orders.{Entry, entry_cmp, lives_in}
-use Rattle.osb_audit.specs.Instances.{InstanceEntry, instance_cmp, InstancesStand}
-use Rattle.osb_audit.specs.Bindings.{binding_cmp, AllBindingsStand}
+use Rattle.osb_audit.specs.Instances.{InstanceEntry, instance_cmp}
+use Rattle.osb_audit.specs.Bindings.{binding_cmp}
 use Rattle.osb_audit.specs.Audit.{AreRowsOfLives}
 use Rattle.osb_records.specs.Rows.{Stores, IsListOf}
-use Rattle.osb_records.specs.Stored.{Holds, HoldsEntries, Content, content_in, lives_stored, entries_in, instances_in, bindings_in, AreVersionsOf, AreOrdersOf, AreInstancesOf, AreBindingsOf}
+use Rattle.osb_records.specs.Stored.{Holds, content_in, lives_stored, entries_in, instances_in, bindings_in, AreVersionsOf, AreOrdersOf, AreInstancesOf, AreBindingsOf}
 use Rattle.osb_records.specs.Standing.{IsStanding}
 use Rattle.osb_records.specs.Opened.{StoreLives, StandIn, HoldsSame}
 use Rattle.osb_records.specs.Steps.{HasTables, HoldsLives, IsSettled, IsReady}

@@ -1,11 +1,7 @@
 -- The plans in use, of the rows that were read.
-use Rattle.std.proofs.Common.{◌≡◌, ℕ, ◌≤◌, List, [], length, Ok, Err, Result, IfOk, refl, sym, ap, subst, ◌∙◌, arith}
+use Rattle.std.proofs.Common.{◌≡◌, ℕ, ◌≤◌, List, length, sym, subst, arith}
 use Rattle.std.specs.List.Sorted.{IsStrictlySortedBy}
 use Rattle.sqlite.specs.State.{State}
-use Rattle.osb_orders.specs.declared.order.Order.{Order}
-use Rattle.osb_orders.specs.Lives.{Lives}
-use Rattle.osb_orders.specs.Listing.{listing}
-use Rattle.osb_orders.specs.IsLife.{IsLives}
 use Rattle.osb_audit.specs.Instances.{InstanceEntry, instance_cmp, InstancesStand}
 use Rattle.osb_tables.specs.Tables.{record_schema}
 use Rattle.osb_records.specs.Queries.{AreRecords, ShowsRecords}

@@ -1,23 +1,21 @@
 -- What is read of a whole table.
-use Rattle.std.proofs.Common.{◌≡◌, ℕ, List, [], ◌∷◌, map, filter, Bool, true, false, Some, None, Ok, Err, Result, OnOk, Ordering, Less, Equal, is_eq, nat_cmp, nat_lt, pos, refl, arith, sym, ap, subst, subst₂, ◌∙◌, IsPermutation}
+use Rattle.std.proofs.Common.{◌≡◌, ℕ, List, [], ◌∷◌, map, filter, Bool, true, false, Ok, Err, Result, OnOk, Ordering, Less, is_eq, nat_cmp, nat_lt, refl, arith, sym, ap, subst, subst₂, ◌∙◌, IsPermutation}
 use Rattle.std.specs.List.{AllByRecursion, IsAllAdjacentAnswer}
 use Rattle.std.specs.List.Sorted.{IsStrictlySortedBy}
 use Rattle.std.specs.Cmp.{IsTotalOrder}
 use Rattle.std.proofs.lemmas.Bool.Decides.{nat_tests}
 use Rattle.std.proofs.lemmas.Cmp.{nat_cmp_total}
 use Rattle.std.proofs.lemmas.Map.Keys.{sorted_from_all_adjacent}
-use Rattle.std.proofs.lemmas.List.Sorted.{IsPermutation-sym, IsPermutation-map, IsPermutation-trans}
-use Rattle.sqlite.specs.declared.types.Value.{Value}
-use Rattle.sqlite.specs.declared.types.Value.TheVariants.{Null, Int}
-use Rattle.sqlite.specs.Order.{Row, column}
+use Rattle.std.proofs.lemmas.List.Sorted.{IsPermutation-sym, IsPermutation-map}
+use Rattle.sqlite.specs.declared.types.Value.TheVariants.{Null}
+use Rattle.sqlite.specs.Order.{Row}
 use Rattle.sqlite.specs.Effect.{Database}
 use Rattle.sqlite.specs.Program.{overlay}
 use Rattle.sqlite.specs.Query.{Output, IsAnswer, output_cmp}
 use Rattle.sqlite.specs.Schema.{Schema}
 use Rattle.sqlite.specs.Term.{Term, col}
 use Rattle.sqlite.specs.Tree.{Trees}
-use Rattle.sqlite.specs.State.{State, HasCleanDisk, IsUnchanged, Survives, Shown}
-use Rattle.sqlite.proofs.Callers.{reads_as}
+use Rattle.sqlite.specs.State.{State, HasCleanDisk, IsUnchanged, Survives}
 use Rattle.sqlite_value.specs.Order.{value_cmp}
 use Rattle.sqlite_value.specs.declared.keys.Key.{Key}
 use Rattle.sqlite_value.proofs.OrderLemmas.{value_cmp_total}
@@ -25,15 +23,14 @@ use Rattle.sqlite_trees.specs.Tree.{rowid, IsAscending}
 use Rattle.sqlite_trees.specs.View.{is_int}
 use Rattle.sqlite_trees.proofs.ListLemmas.{all-permutation}
 use Rattle.sqlite_keyed.proofs.ListLemmas.{map-map, map_same, map_back, ascending_from_map, all_unmap}
-use Rattle.osb_tables.specs.Tables.{record_schema}
-use Rattle.osb_records.specs.Rows.{Apart, AreRows, Stores, IsListOf, AreRowids, rowid_shown}
+use Rattle.osb_records.specs.Rows.{Apart, Stores, IsListOf, AreRowids, rowid_shown}
 use Rattle.osb_records.specs.Steps.{ShowsSchema}
 use Rattle.osb_records.proofs.AnswerLemmas.{over, out, answered, one_answer}
 use Rattle.osb_records.proofs.RowLemmas.{ascending_permuted, untied_back}
 use Rattle.osb_records.proofs.StepLemmas.{clean_before}
 use Rattle.osb_records.proofs.TestLemmas.{number_cmp}
 use Rattle.osb_records.proofs.Texts.{every}
-use Rattle.osb_records.proofs.WholeTexts.{IsQuery, rowids_of, by_rowid}
+use Rattle.osb_records.proofs.WholeTexts.{rowids_of, by_rowid}
 
 -- a query leaves the schema
 pub schema_again : {V E : Type 0} (schema : Schema) (old new : State) (result : Result V E) → Survives old new (λ _. ⊥) → (HasCleanDisk new → OnOk result (IsUnchanged old new)) → ShowsSchema schema old → OnOk result (ShowsSchema schema new)

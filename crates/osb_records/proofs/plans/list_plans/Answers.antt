@@ -1,4 +1,4 @@
-use Rattle.std.proofs.Common.{ap, sym, arith, ◌≡◌, ◌≤◌, length, ◌∙◌, []}
+use Rattle.std.proofs.Common.{ap, ◌≤◌, length, ◌∙◌, []}
 use Rattle.sqlite.specs.Held.{state}
 use Rattle.sqlite.specs.Effect.{Database}
 use Rattle.osb_orders.specs.Listing.{listing}
