@@ -30,7 +30,7 @@ use osb_catalog::Settings;
 use osb_frames::Request;
 use osb_machine::{Answer, Step, decide};
 use osb_orders::{Change, View};
-use osb_records::{Records, StoreFault, memory};
+use osb_records::{Records, memory};
 use osb_replies::{Body, REFUSED, Reply, Status};
 use sqlite::MemStore;
 use std::alloc::{AllocError, Global};
@@ -109,7 +109,7 @@ impl<'s> Broker<'s> {
     {
         match memory::view(&mut self.records, self.alloc, ask) {
             Ok(view) => Ok(view),
-            Err(StoreFault::Refused) => Err(AllocError),
+            Err(_) => Err(AllocError),
         }
     }
 
@@ -198,7 +198,7 @@ impl<'s> Broker<'s> {
     {
         match memory::commit(&mut self.records, instance, change) {
             Ok(()) => Ok(()),
-            Err(StoreFault::Refused) => Err(AllocError),
+            Err(_) => Err(AllocError),
         }
     }
 

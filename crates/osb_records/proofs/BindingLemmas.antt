@@ -20,11 +20,15 @@ use Rattle.sqlite_value.proofs.OrderLemmas.{value_cmp-Text}
 use Rattle.sqlite_keyed.specs.Lists.{insert_sorted, update_where, delete_where}
 use Rattle.osb_orders.specs.declared.view.BindingNow.{BindingNow}
 use Rattle.osb_records.specs.Rows.{Stores}
-use Rattle.osb_records.specs.Tables.{binding_columns, record_schema}
-use Rattle.osb_records.specs.Instances.{InstanceEntry, instance_cells, instance_row, instance_cmp}
-use Rattle.osb_records.specs.Bindings.{BindingEntry, binding_entry, binding_now, binding_cells, binding_row, binding_cmp, binding_phase_number, is_bound, is_binding}
+use Rattle.osb_tables.specs.Tables.{binding_columns, record_schema}
+use Rattle.osb_audit.specs.Instances.{InstanceEntry, instance_cmp}
+use Rattle.osb_records.specs.Instances.{instance_cells, instance_row}
+use Rattle.osb_audit.specs.declared.entry.BindingEntry.{BindingEntry}
+use Rattle.osb_audit.specs.Bindings.{binding_entry, binding_now, binding_cmp, is_bound, is_binding}
+use Rattle.osb_records.specs.Bindings.{binding_cells, binding_row, binding_phase_number}
 use Rattle.osb_records.specs.BindingRows.{binding_found, first_binding, with_binding}
-use Rattle.osb_records.specs.Stored.{Entry, entry_row, entry_cmp, order_cells, version_row, version_cells, entries_in, instances_in, bindings_in}
+use Rattle.osb_audit.specs.Orders.{Entry, entry_cmp}
+use Rattle.osb_records.specs.Stored.{entry_row, order_cells, version_row, version_cells, entries_in, instances_in, bindings_in}
 use Rattle.osb_records.specs.Steps.{HasTables}
 use Rattle.osb_records.proofs.AnswerLemmas.{one_answer}
 use Rattle.osb_records.proofs.SortLemmas.{binding_total, binding_back}
@@ -53,7 +57,7 @@ one_binding id binding a b p q =
     let of_a = ids_of id binding a p in let of_b = ids_of id binding b q in
     rw (of_a.0 ∙ sym of_b.0, of_a.1 ∙ sym of_b.1, text_itself b.instance, text_itself b.binding) refl
 
-by_both_ids : (a b : BindingEntry) → key_cmp 0 (ascending Binary ∷ ascending Binary ∷ []) (Text a.instance ∷ Text a.binding ∷ []) (Text b.instance ∷ Text b.binding ∷ []) ≡ binding_cmp a b
+pub by_both_ids : (a b : BindingEntry) → key_cmp 0 (ascending Binary ∷ ascending Binary ∷ []) (Text a.instance ∷ Text a.binding ∷ []) (Text b.instance ∷ Text b.binding ∷ []) ≡ binding_cmp a b
 by_both_ids a b = rw (value_cmp-Text a.instance b.instance, value_cmp-Text a.binding b.binding, then_equal (slice_cmp nat_cmp a.binding b.binding)) refl
 
 row_keeps : (hit : BindingEntry → Bool) (row : BindingNow) (a b : BindingEntry) → binding_cmp (cond (hit a) (with_binding row a) a) (cond (hit b) (with_binding row b) b) ≡ binding_cmp a b

@@ -15,10 +15,14 @@ use Rattle.sqlite_keyed.specs.Lists.{insert_sorted, update_where}
 use Rattle.osb_orders.specs.declared.order.Outcome.{Outcome}
 use Rattle.osb_orders.specs.Orders.{kind_number, state_number}
 use Rattle.osb_records.specs.Rows.{Stores}
-use Rattle.osb_records.specs.Tables.{order_columns, record_schema}
-use Rattle.osb_records.specs.Instances.{InstanceEntry, instance_cells, instance_row, instance_cmp}
-use Rattle.osb_records.specs.Bindings.{BindingEntry, binding_cells, binding_row, binding_cmp}
-use Rattle.osb_records.specs.Stored.{Entry, Holds, entry_row, entry_cmp, order_cells, version_row, version_cells, is_keyed}
+use Rattle.osb_tables.specs.Tables.{order_columns, record_schema}
+use Rattle.osb_audit.specs.Instances.{InstanceEntry, instance_cmp}
+use Rattle.osb_records.specs.Instances.{instance_cells, instance_row}
+use Rattle.osb_audit.specs.declared.entry.BindingEntry.{BindingEntry}
+use Rattle.osb_audit.specs.Bindings.{binding_cmp}
+use Rattle.osb_records.specs.Bindings.{binding_cells, binding_row}
+use Rattle.osb_audit.specs.Orders.{Entry, entry_cmp}
+use Rattle.osb_records.specs.Stored.{Holds, entry_row, order_cells, version_row, version_cells, is_keyed}
 use Rattle.osb_records.proofs.SortLemmas.{entry_total}
 use Rattle.osb_records.proofs.Texts.{insert_order, insert_order_terms, insert_order_is, finish_order, finish_query, finished_cells, finish_order_is, is_at}
 use Rattle.osb_records.proofs.StatementLemmas.{insert_does, update_does}

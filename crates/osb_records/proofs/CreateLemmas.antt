@@ -1,25 +1,28 @@
 -- How the tables are made.
-use Rattle.std.proofs.Common.{◌≡◌, ℕ, pos, List, [], ◌∷◌, codes, false, slice_get, None, Ok, refl, sym, ap, subst, ◌∙◌, arith}
+use Rattle.std.proofs.Common.{◌≡◌, ℕ, pos, List, [], ◌∷◌, codes, false, None, Ok, refl, sym, ap, subst, ◌∙◌, arith}
 use Rattle.std.specs.Ordering.{nat_cmp}
 use Rattle.std.specs.declared.cmp.Ordering.{Ordering}
 use Rattle.std.proofs.lemmas.Cmp.{nat_cmp_total}
 use Rattle.std.proofs.lemmas.List.Sorted.{IsPermutation-refl}
 use Rattle.sqlite.specs.Order.{Row}
 use Rattle.sqlite.specs.Schema.{Schema}
-use Rattle.sqlite.specs.Command.TheVariants.{CreateTable, CreateIndex}
-use Rattle.sqlite.specs.Change.{created, indexed, next_tree, KeepsRows}
-use Rattle.sqlite.specs.Does.{Tally, AtPlace, Defines, MakesIndex, lacks_sequence}
+use Rattle.sqlite.specs.Command.TheVariants.{CreateTable}
+use Rattle.sqlite.specs.Change.{created, next_tree, KeepsRows}
+use Rattle.sqlite.specs.Does.{Tally, lacks_sequence}
 use Rattle.sqlite.specs.Listing.{understood}
 use Rattle.sqlite.specs.Effect.{Database}
 use Rattle.sqlite.specs.State.{State, Writes, Executes, mode_of}
 use Rattle.sqlite.proofs.Callers.{statement_of, runs_as}
 use Rattle.osb_records.specs.Rows.{Stores}
-use Rattle.osb_records.specs.Tables.{format_table, format_columns, no_schema, format_schema, orders_schema, instances_schema, tables_schema, instances_table, busy_index, record_schema}
-use Rattle.osb_records.specs.Instances.{instance_row, instance_cmp, instance_cells}
-use Rattle.osb_records.specs.Bindings.{binding_row, binding_cmp, binding_cells}
+use Rattle.osb_tables.specs.Tables.{format_table, format_columns, no_schema, format_schema, orders_schema, instances_schema, tables_schema, record_schema}
+use Rattle.osb_audit.specs.Instances.{instance_cmp}
+use Rattle.osb_records.specs.Instances.{instance_row, instance_cells}
+use Rattle.osb_audit.specs.Bindings.{binding_cmp}
+use Rattle.osb_records.specs.Bindings.{binding_row, binding_cells}
 use Rattle.osb_records.specs.Steps.{AreBlank}
-use Rattle.osb_records.specs.Stored.{entry_row, entry_cmp, order_cells, version_row, version_cells}
-use Rattle.osb_records.proofs.Texts.{create_format, create_format_is, create_format_plain, create_orders, create_orders_is, create_orders_plain, orders_made, orders_placed, create_instances, create_instances_is, create_instances_plain, instances_made, instances_placed, create_bindings, create_bindings_is, create_bindings_plain, bindings_made, bindings_placed, create_index, create_index_is, create_index_plain, insert_version, insert_version_terms, insert_version_is}
+use Rattle.osb_audit.specs.Orders.{entry_cmp}
+use Rattle.osb_records.specs.Stored.{entry_row, order_cells, version_row, version_cells}
+use Rattle.osb_records.proofs.Texts.{create_format, create_format_is, create_format_plain, create_orders, create_orders_is, create_orders_plain, orders_made, orders_placed, create_instances, create_instances_is, create_instances_plain, instances_made, instances_placed, create_bindings, create_bindings_is, create_bindings_plain, bindings_made, bindings_placed, insert_version, insert_version_terms, insert_version_is}
 use Rattle.osb_records.proofs.StatementLemmas.{went, same_value, insert_does}
 use Rattle.osb_records.proofs.TableLemmas.{cast_int, insert_stores}
 use Rattle.osb_records.proofs.ChangeLemmas.{Gives}
@@ -82,19 +85,6 @@ makes_bindings old new count has blank h =
     let now : new.now ≡ first.0 = ap (λ (p : Tally × Database). p.1) (same_value all.2) ∙ same_value (rw plain at first.2) in
     let others = subst (λ (s : Schema). KeepsRows s.tables old.now.trees first.0.trees) has made.others in
     (ap (λ (d : Database). d.schema) now ∙ schema, (ap (λ (d : Database). d.trees 5) now ∙ subst (λ s. first.0.trees (next_tree s) ≡ []) has made.empty, (ap (λ (d : Database). d.trees 3) now ∙ others.1.1.0 ∙ blank.0, (ap (λ (d : Database). d.trees 1) now ∙ others.1.0 ∙ blank.1.0, (ap (λ (d : Database). d.trees 0) now ∙ others.0 ∙ blank.1.1.0, tt)))))
-
-pub makes_index : (old new : State) (count : ℕ) → old.now.schema ≡ tables_schema → AreBlank (5 ∷ 3 ∷ 1 ∷ 0 ∷ []) old.now.trees → Executes create_index [] old new (Ok count)
-    → (new.now.schema ≡ record_schema) × AreBlank (5 ∷ 3 ∷ 1 ∷ 0 ∷ []) new.now.trees
-makes_index old new count has blank h =
-    let w = subst (λ t. Writes old new None (CreateIndex 2) t [] count) create_index_is.1 (runs_as create_index [] old new tables_schema has (CreateIndex 2) create_index_is.0 create_index_plain count h) in
-    let all = went (subst (λ (s : Schema). AtPlace (λ table. Defines (mode_of old) (MakesIndex create_index old.now table)) (slice_get s.tables 2) (Ok (w.tally, new.now))) has w.changed) in
-    let made = all.1 in
-    let both : Ok made.index ≡ Ok busy_index = sym made.defined ∙ create_index_is.2 in
-    let same : made.index ≡ busy_index = same_value both in
-    let schema : all.0.schema ≡ record_schema = made.is ∙ ap (λ s. indexed s instances_table made.index) has ∙ ap (indexed tables_schema instances_table) same in
-    let now : new.now ≡ all.0 = ap (λ (p : Tally × Database). p.1) (same_value all.2) in
-    let kept = subst (λ (s : Schema). KeepsRows s.tables old.now.trees all.0.trees) has made.rows in
-    (ap (λ (d : Database). d.schema) now ∙ schema, (ap (λ (d : Database). d.trees 5) now ∙ kept.1.1.1.0 ∙ blank.0, (ap (λ (d : Database). d.trees 3) now ∙ kept.1.1.0 ∙ blank.1.0, (ap (λ (d : Database). d.trees 1) now ∙ kept.1.0 ∙ blank.1.1.0, (ap (λ (d : Database). d.trees 0) now ∙ kept.0 ∙ blank.1.1.1.0, tt)))))
 
 -- a table without rows
 none_stored : {E : Type 0} (cells : Row → Row) (shown : E → Row) (cmp : E → E → Ordering) (rows : List Row) → rows ≡ [] → Stores cells shown cmp rows []

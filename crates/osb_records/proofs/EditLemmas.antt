@@ -29,10 +29,10 @@ use Rattle.osb_standing.specs.Rows.{Bindings, bindings_of}
 use Rattle.osb_standing.specs.Binding.{edit_of, edit_over, edited}
 use Rattle.osb_standing.specs.Written.{IsWritten}
 use Rattle.osb_standing.proofs.RowLemmas.{bindings_are, bindings_stand}
-use Rattle.osb_records.specs.Bindings.{BindingEntry, binding_entry, binding_now, binding_cmp, is_bound, is_binding}
+use Rattle.osb_audit.specs.declared.entry.BindingEntry.{BindingEntry}
+use Rattle.osb_audit.specs.Bindings.{binding_entry, binding_now, binding_cmp, is_bound, is_binding, BindingsStand}
 use Rattle.osb_records.specs.BindingRows.{binding_found, with_binding, binding_put, bindings_edited, PutsBindings, FollowsOrder}
 use Rattle.osb_records.specs.Stored.{with_bindings, lives_stored, instances_in, bindings_in}
-use Rattle.osb_records.specs.Standing.{BindingsStand}
 use Rattle.osb_records.specs.Steps.{HasTables, Steps, content}
 use Rattle.osb_records.proofs.TestLemmas.{same_bytes, bytes_itself, text_itself}
 use Rattle.osb_records.proofs.SortLemmas.{binding_total}

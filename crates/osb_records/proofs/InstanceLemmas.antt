@@ -19,11 +19,14 @@ use Rattle.sqlite_value.proofs.OrderLemmas.{value_cmp-Text}
 use Rattle.sqlite_keyed.specs.Lists.{insert_sorted, update_where}
 use Rattle.osb_standing.specs.declared.row.InstanceRow.{InstanceRow}
 use Rattle.osb_records.specs.Rows.{Stores}
-use Rattle.osb_records.specs.Tables.{instance_columns, record_schema}
-use Rattle.osb_records.specs.Instances.{InstanceEntry, instance_cmp, instance_row, instance_cells, instance_row_told, is_instance, with_row, standing_number, attributes_shown, busy_number, first_told}
-use Rattle.osb_records.specs.Bindings.{BindingEntry, binding_cells, binding_row, binding_cmp}
-use Rattle.osb_records.specs.Stored.{Entry, entry_row, entry_cmp, order_cells, version_row, version_cells, entries_in, instances_in, bindings_in}
-use Rattle.osb_records.specs.Standing.{IsRowOf}
+use Rattle.osb_tables.specs.Tables.{instance_columns, record_schema}
+use Rattle.osb_audit.specs.Instances.{InstanceEntry, instance_cmp, is_instance, IsRowOf}
+use Rattle.osb_records.specs.Instances.{instance_row, instance_cells, instance_row_told, with_row, standing_number, attributes_shown, busy_number, first_told}
+use Rattle.osb_audit.specs.declared.entry.BindingEntry.{BindingEntry}
+use Rattle.osb_audit.specs.Bindings.{binding_cmp}
+use Rattle.osb_records.specs.Bindings.{binding_cells, binding_row}
+use Rattle.osb_audit.specs.Orders.{Entry, entry_cmp}
+use Rattle.osb_records.specs.Stored.{entry_row, order_cells, version_row, version_cells, entries_in, instances_in, bindings_in}
 use Rattle.osb_records.specs.Steps.{HasTables}
 use Rattle.osb_records.proofs.AnswerLemmas.{one_answer}
 use Rattle.osb_records.proofs.SortLemmas.{instance_total, instance_back}

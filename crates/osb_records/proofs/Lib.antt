@@ -30,3 +30,9 @@ pub mod CommitLemmas
 pub mod ViewLemmas
 pub mod AskLemmas
 pub mod StandLemmas
+pub mod WholeTexts
+pub mod WholeLemmas
+pub mod TableReads
+pub mod OpenedLemmas
+pub mod PlanLemmas
+pub mod IndexLemmas

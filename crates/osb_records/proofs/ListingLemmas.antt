@@ -6,7 +6,7 @@ use Rattle.std.specs.List.{AllByRecursion, cons_option, list_all}
 use Rattle.std.specs.Cmp.Lexicographic.{slice_cmp, nat_list_cmp_total}
 use Rattle.std.specs.FinMap.{entries, entries_sorted, get-entries, slice_cmp-IsAntisymmetric, nat_cmp-IsAntisymmetric}
 use Rattle.std.specs.FinMap.Entries.{find, below_all, is_sorted, same_entries}
-use Rattle.std.proofs.lemmas.List.{take-map, map-append}
+use Rattle.std.proofs.lemmas.List.{take-map}
 use Rattle.sqlite.specs.declared.types.Value.TheVariants.{Null, Int, Text}
 use Rattle.sqlite.specs.Order.{Row}
 use Rattle.sqlite.specs.Program.{overlay}
@@ -25,16 +25,16 @@ use Rattle.osb_standing.specs.declared.row.InstanceRow.{InstanceRow}
 use Rattle.osb_standing.specs.Rows.{row_of}
 use Rattle.osb_standing.specs.Listing.{with_row, with_order, is_listed, instance_rows}
 use Rattle.osb_standing.specs.Laws.{ListedByRows}
-use Rattle.osb_records.specs.Tables.{record_schema}
-use Rattle.osb_records.specs.Instances.{InstanceEntry, instance_cmp, instance_cells, instance_row, is_instance, busy_number}
+use Rattle.osb_tables.specs.Tables.{record_schema}
+use Rattle.osb_audit.specs.Instances.{InstanceEntry, instance_cmp, is_instance, InstancesStand}
+use Rattle.osb_records.specs.Instances.{instance_cells, instance_row, busy_number}
 use Rattle.osb_records.specs.Stored.{instances_in, lives_stored}
-use Rattle.osb_records.specs.Standing.{InstancesStand}
 use Rattle.osb_records.specs.Queries.{ShowsRecords, busy_row, order_for}
 use Rattle.osb_records.specs.Steps.{HasTables, stored}
 use Rattle.osb_records.proofs.AnswerLemmas.{one_answer}
 use Rattle.osb_records.proofs.InstanceLemmas.{by_id}
 use Rattle.osb_records.proofs.LivesLemmas.{key_is}
-use Rattle.osb_records.proofs.ReadLemmas.{told_push}
+use Rattle.osb_records.proofs.ReadLemmas.{told_more}
 use Rattle.osb_records.proofs.SortLemmas.{instance_total}
 use Rattle.osb_records.proofs.StepLemmas.{clean_before}
 use Rattle.osb_records.proofs.TestLemmas.{same_number, later_text, and_true}
@@ -200,10 +200,6 @@ none_listed s rows found none shows = record {
   named = λ _ _. ap (map Some) none;
 }
 
-one_more : {A B : Type 0} (f : A → Option B) (rows : List A) (at : ℕ) (row : A) (found next : List B) (item : B) → at < length rows → row ≡ get_or rows at row → map Some found ≡ map f (take at rows) → Some item ≡ f row → next ≡ found ++ item ∷ []
-    → map Some next ≡ map f (take (at + 1) rows)
-one_more f rows at row found next item low is were tells grown = ap (map Some) grown ∙ map-append Some found (item ∷ []) ∙ told_push f rows at row (map Some found) (map Some found ++ Some item ∷ []) (Some item) low is were refl tells
-
 pub next_listed : (old now next : State) (rows : List Row) (at : ℕ) (row : Row) (found more : List (List ℕ × Order)) (pair : List ℕ × Order) → HasListed old now rows at found → Survives now next (λ _. ⊥)
     → (HasCleanDisk next → IsUnchanged now next) → ShowsRecords next → (HasCleanDisk next → Some pair ≡ order_for (stored now) row) → at < length rows → row ≡ get_or rows at row → more ≡ found ++ pair ∷ [] → HasListed old next rows (at + 1) more
 next_listed old now next rows at row found more pair so_far survives same shows tells low is grown = record {
@@ -212,6 +208,6 @@ next_listed old now next rows at row found more pair so_far survives same shows 
   same = λ clean live. unchanged_then old now next (so_far.same (clean_before now next _ survives clean) live) (same clean);
   named = λ clean live.
       let before = clean_before now next _ survives clean in
-      one_more (order_for (stored old)) rows at row found more pair low is (so_far.named before live)
+      told_more Some (order_for (stored old)) rows at row found more pair low is (so_far.named before live)
       (tells clean ∙ ap (λ (d : Database). order_for (lives_stored d.trees) row) (so_far.same before live).0.now_is) grown;
 }

@@ -20,8 +20,9 @@ use Rattle.osb_orders.specs.Lists.{last_of}
 use Rattle.osb_orders.specs.Orders.{kind_number, is_about_binding, is_a, is_of_instance, is_of_binding}
 use Rattle.osb_orders.specs.Lives.{life_of}
 use Rattle.osb_orders.specs.Named.{order_numbered}
-use Rattle.osb_records.specs.Tables.{record_schema}
-use Rattle.osb_records.specs.Stored.{Entry, entry_row, entry_cmp, order_cells, entries_in, is_of, is_keyed}
+use Rattle.osb_tables.specs.Tables.{record_schema}
+use Rattle.osb_audit.specs.Orders.{Entry, entry_cmp, is_of}
+use Rattle.osb_records.specs.Stored.{entry_row, order_cells, entries_in, is_keyed}
 use Rattle.osb_records.specs.Steps.{HasTables, stored}
 use Rattle.osb_records.specs.Queries.{first_order}
 use Rattle.osb_records.proofs.TestLemmas.{truth_back, same_text, same_number, and_true, number_cmp, at_key}

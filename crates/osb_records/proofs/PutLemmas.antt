@@ -17,10 +17,11 @@ use Rattle.osb_orders.specs.Changed.{changed, lives_changed}
 use Rattle.osb_standing.specs.declared.row.InstanceRow.{InstanceRow}
 use Rattle.osb_standing.specs.Rows.{row_of}
 use Rattle.osb_standing.specs.Written.{IsWritten}
-use Rattle.osb_records.specs.Instances.{InstanceEntry, instance_cmp, is_instance, with_row}
+use Rattle.osb_audit.specs.Instances.{InstanceEntry, instance_cmp, is_instance, IsRowOf, InstancesStand}
+use Rattle.osb_records.specs.Instances.{with_row}
 use Rattle.sqlite.specs.Tree.{Trees}
 use Rattle.osb_records.specs.Stored.{with_instances, instances_in, lives_stored}
-use Rattle.osb_records.specs.Standing.{IsRowOf, InstancesStand, Puts}
+use Rattle.osb_records.specs.Standing.{Puts}
 use Rattle.osb_records.specs.Steps.{HasTables, Steps, PutsInstance, content}
 use Rattle.osb_records.proofs.TestLemmas.{same_bytes, bytes_itself, bytes_back}
 use Rattle.osb_records.proofs.SortLemmas.{instance_total}

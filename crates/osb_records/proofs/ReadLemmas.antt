@@ -1,9 +1,11 @@
 -- What the rows that were read tell of the lives.
 use Rattle.std.proofs.Common.{◌≡◌, ℕ, zero, suc, ◌+◌, ◌<◌, add-one, List, [], ◌∷◌, ◌++◌, length, map, filter, take, get_or, refl, sym, ap, ap₂, ◌∙◌, arith}
+use Rattle.std.proofs.lemmas.List.{map-append}
 use Rattle.sqlite.specs.Order.{Row}
 use Rattle.osb_orders.specs.declared.order.Order.{Order}
 use Rattle.osb_orders.specs.Lives.{life_of}
-use Rattle.osb_records.specs.Stored.{Entry, entry_row, order_told, is_of, lives_in}
+use Rattle.osb_audit.specs.Orders.{Entry, is_of, lives_in}
+use Rattle.osb_records.specs.Stored.{entry_row, order_told}
 use Rattle.osb_records.proofs.SortLemmas.{told_back}
 use Rattle.osb_records.proofs.LivesLemmas.{life_of_lives}
 
@@ -26,3 +28,9 @@ pub told_push : {R A : Type 0} (told : R → A) (rows : List R) (i : ℕ) (row :
     → new ≡ map told (take (i + 1) rows)
 told_push told rows i row old new item low at was grown is =
     grown ∙ ap (λ items. items ++ item ∷ []) was ∙ ap (λ last. map told (take i rows) ++ last ∷ []) is ∙ sym (told_next told rows i row low at) ∙ ap (λ n. map told (take n rows)) (sym (add-one i))
+
+-- the same where the items are compared by what they show
+pub told_more : {R A B : Type 0} (shown : A → B) (told : R → B) (rows : List R) (at : ℕ) (row : R) (found next : List A) (item : A) → at < length rows → row ≡ get_or rows at row → map shown found ≡ map told (take at rows) → shown item ≡ told row
+    → next ≡ found ++ item ∷ [] → map shown next ≡ map told (take (at + 1) rows)
+told_more shown told rows at row found next item low is were tells grown =
+    ap (map shown) grown ∙ map-append shown found (item ∷ []) ∙ told_push told rows at row (map shown found) (map shown found ++ shown item ∷ []) (shown item) low is were refl tells

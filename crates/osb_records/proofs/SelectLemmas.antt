@@ -14,8 +14,9 @@ use Rattle.sqlite_resolve.specs.declared.compiled.Compiled.{Compiled}
 use Rattle.sqlite_schema.specs.declared.command.Returning.{Returning}
 use Rattle.sqlite.specs.State.{State, Shown, ShowsRows, IsUnchanged}
 use Rattle.sqlite.proofs.Callers.{IsPlain, reads_as}
-use Rattle.osb_records.specs.Tables.{record_schema}
-use Rattle.osb_records.specs.Stored.{Entry, entry_row, entry_cmp, order_cells, entries_in, is_of}
+use Rattle.osb_tables.specs.Tables.{record_schema}
+use Rattle.osb_audit.specs.Orders.{Entry, entry_cmp, is_of}
+use Rattle.osb_records.specs.Stored.{entry_row, order_cells, entries_in}
 use Rattle.osb_records.specs.Steps.{HasTables}
 use Rattle.osb_records.proofs.TestLemmas.{at_instance, number_cmp}
 use Rattle.osb_records.proofs.SortLemmas.{entry_total}

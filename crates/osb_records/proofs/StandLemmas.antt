@@ -8,10 +8,12 @@ use Rattle.osb_orders.specs.Lives.{Lives, life_of}
 use Rattle.osb_orders.specs.Changed.{changed, lives_changed}
 use Rattle.osb_standing.specs.Rows.{bindings_of}
 use Rattle.osb_standing.specs.Written.{IsWritten}
-use Rattle.osb_records.specs.Bindings.{BindingEntry}
+use Rattle.osb_audit.specs.declared.entry.BindingEntry.{BindingEntry}
 use Rattle.osb_records.specs.BindingRows.{PutsBindings, FollowsOrder}
 use Rattle.osb_records.specs.Stored.{with_lives, with_instances}
-use Rattle.osb_records.specs.Standing.{BindingsStand, InstancesStand, AllBindingsStand, IsStanding}
+use Rattle.osb_audit.specs.Bindings.{BindingsStand, AllBindingsStand}
+use Rattle.osb_audit.specs.Instances.{InstancesStand}
+use Rattle.osb_records.specs.Standing.{IsStanding}
 use Rattle.osb_records.specs.Steps.{Steps, content, stored}
 use Rattle.osb_records.proofs.TestLemmas.{same_bytes}
 use Rattle.osb_records.proofs.PutLemmas.{life_changed}

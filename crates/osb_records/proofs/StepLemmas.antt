@@ -9,10 +9,11 @@ use Rattle.sqlite.specs.declared.error.Error.{Error}
 use Rattle.sqlite.specs.State.{State, HasCleanDisk, Executes, ExecutesInside, Survives}
 use Rattle.osb_orders.specs.Lives.{Lives}
 use Rattle.osb_orders.specs.IsLife.{IsLives}
-use Rattle.osb_records.specs.Tables.{record_schema}
-use Rattle.osb_records.specs.Instances.{InstanceEntry}
-use Rattle.osb_records.specs.Bindings.{BindingEntry}
-use Rattle.osb_records.specs.Stored.{Entry, Content, content_in, lives_in}
+use Rattle.osb_tables.specs.Tables.{record_schema}
+use Rattle.osb_audit.specs.Instances.{InstanceEntry}
+use Rattle.osb_audit.specs.declared.entry.BindingEntry.{BindingEntry}
+use Rattle.osb_audit.specs.Orders.{Entry, lives_in}
+use Rattle.osb_records.specs.Stored.{Content, content_in}
 use Rattle.osb_records.specs.Standing.{IsStanding}
 use Rattle.osb_records.specs.Steps.{HasTables, ShowsSchema, ShowsBlank, AreBlank, HoldsLives, IsReady, Steps, Writes, Makes, stored, content}
 use Rattle.osb_records.proofs.SortLemmas.{entries_are, instances_are, bindings_are, held_again}

@@ -27,7 +27,7 @@ use Rattle.sqlite_keyed.specs.Lists.{insert_sorted, delete_where, update_where}
 use Rattle.sqlite_keyed.proofs.ListLemmas.{map-map, filter_same, all-filter}
 use Rattle.sqlite.proofs.Callers.{one_permutation}
 use Rattle.osb_records.specs.Rows.{Stores}
-use Rattle.osb_records.specs.Tables.{plain_table}
+use Rattle.osb_tables.specs.Tables.{plain_table}
 use Rattle.osb_records.proofs.RowLemmas.{id_of}
 use Rattle.osb_records.proofs.StoresLemmas.{all_hit, changed_stores, deleted_stores, hits_show, inserted_stores, none_changed, one_hit}
 use Rattle.osb_records.proofs.AnswerLemmas.{over, passes, out, answered}

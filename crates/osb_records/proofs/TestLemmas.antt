@@ -16,7 +16,8 @@ use Rattle.sqlite.specs.Ops.{binary, is_true, from_truth}
 use Rattle.sqlite.specs.Term.{holds}
 use Rattle.osb_orders.specs.declared.order.Outcome.{Outcome}
 use Rattle.osb_orders.specs.Changed.{with_outcome}
-use Rattle.osb_records.specs.Stored.{Entry, entry_row, entry_cmp, is_of, is_keyed}
+use Rattle.osb_audit.specs.Orders.{Entry, entry_cmp, is_of}
+use Rattle.osb_records.specs.Stored.{entry_row, is_keyed}
 use Rattle.osb_records.proofs.Texts.{is_at}
 
 pub truth_back : (b : Bool) → is_true (from_truth (Some b)) ≡ b

@@ -14,9 +14,9 @@ use Rattle.osb_orders.specs.IsLife.{is_empty, IsLives}
 use Rattle.osb_standing.specs.declared.row.InstanceRow.{InstanceRow}
 use Rattle.osb_standing.specs.Rows.{row_of, bindings_of}
 use Rattle.osb_standing.specs.Laws.{count_in, has_rows}
-use Rattle.osb_records.specs.Instances.{InstanceEntry}
-use Rattle.osb_records.specs.Bindings.{BindingEntry, binding_entry, is_bound}
-use Rattle.osb_records.specs.Standing.{IsRowOf, InstanceStands, BindingsStand}
+use Rattle.osb_audit.specs.Instances.{InstanceEntry, IsRowOf, InstanceStands}
+use Rattle.osb_audit.specs.declared.entry.BindingEntry.{BindingEntry}
+use Rattle.osb_audit.specs.Bindings.{binding_entry, is_bound, BindingsStand}
 use Rattle.osb_records.proofs.LivesLemmas.{IsNumberedFrom, numbered}
 
 -- facts of one result together

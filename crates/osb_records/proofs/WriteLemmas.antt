@@ -20,9 +20,11 @@ use Rattle.osb_orders.specs.Lives.{life_of}
 use Rattle.osb_orders.specs.Changed.{lives_changed}
 use Rattle.osb_orders.specs.IsLife.{IsLives, IsInstance, ends_running}
 use Rattle.osb_orders.specs.Allowed.{IsFinishable}
-use Rattle.osb_records.specs.Instances.{InstanceEntry}
-use Rattle.osb_records.specs.Bindings.{BindingEntry, binding_entry}
-use Rattle.osb_records.specs.Stored.{Entry, entry_row, entry_cmp, is_keyed, entries_in, instances_in, bindings_in, lives_in}
+use Rattle.osb_audit.specs.Instances.{InstanceEntry}
+use Rattle.osb_audit.specs.declared.entry.BindingEntry.{BindingEntry}
+use Rattle.osb_audit.specs.Bindings.{binding_entry}
+use Rattle.osb_audit.specs.Orders.{Entry, entry_cmp, lives_in}
+use Rattle.osb_records.specs.Stored.{entry_row, is_keyed, entries_in, instances_in, bindings_in}
 use Rattle.osb_standing.specs.declared.row.InstanceRow.{InstanceRow}
 use Rattle.osb_orders.specs.declared.view.BindingNow.{BindingNow}
 use Rattle.osb_standing.specs.Rows.{row_of, bindings_of}

@@ -13,9 +13,10 @@ use Rattle.osb_standing.specs.declared.row.BindingEdit.{BindingEdit}
 use Rattle.osb_standing.specs.declared.row.BindingEdit.TheVariants.{Keep, Put, Remove, Clear}
 use Rattle.osb_standing.specs.Rows.{Bindings, bindings_of}
 use Rattle.osb_standing.specs.Written.{IsWritten}
-use Rattle.osb_records.specs.Bindings.{BindingEntry, binding_entry, binding_now, binding_cmp, binding_told, is_bound, is_binding}
+use Rattle.osb_audit.specs.declared.entry.BindingEntry.{BindingEntry}
+use Rattle.osb_audit.specs.Bindings.{binding_entry, binding_now, binding_cmp, is_bound, is_binding, BindingsStand}
+use Rattle.osb_records.specs.Bindings.{binding_told}
 use Rattle.osb_records.specs.Stored.{with_bindings}
-use Rattle.osb_records.specs.Standing.{BindingsStand}
 use Rattle.osb_records.specs.Steps.{Steps, content}
 
 -- the row of the binding, if it has one

@@ -1,8 +1,6 @@
 -- The rows of the table of instances.
-use Rattle.std.specs.Prelude.{Bool, ◌==◌, if◌then◌else◌, ℕ, pos, List, [], ◌∷◌, Option, None, Some, option_map, slice_get, bytes_eq}
-use Rattle.std.specs.declared.cmp.Ordering.{Ordering}
-use Rattle.std.specs.Ordering.{nat_cmp}
-use Rattle.std.specs.Cmp.Lexicographic.{slice_cmp}
+use Rattle.osb_audit.specs.Instances.{InstanceEntry}
+use Rattle.std.specs.Prelude.{Bool, ◌==◌, if◌then◌else◌, ℕ, pos, List, [], ◌∷◌, ◌++◌, Option, None, Some, option_map, slice_get}
 use Rattle.sqlite.specs.declared.types.Value.TheVariants.{Int, Text as Words}
 use Rattle.sqlite.specs.Order.{Row, column, bytes}
 use Rattle.osb_orders.specs.declared.order.Attributes.{Attributes}
@@ -11,18 +9,6 @@ use Rattle.osb_orders.specs.declared.view.InstancePhase.TheVariants.{Creating, R
 use Rattle.osb_orders.specs.declared.view.Standing.{Standing}
 use Rattle.osb_standing.specs.declared.row.InstanceRow.{InstanceRow}
 use Rattle.osb_records.specs.Columns.{number_in, attributes_told}
-
--- the row of an instance with its id
-abbrev pub InstanceEntry : Type 0
-InstanceEntry = List ℕ × InstanceRow
-
--- by the ids' bytes
-abbrev pub instance_cmp : InstanceEntry → InstanceEntry → Ordering
-instance_cmp a b = slice_cmp nat_cmp a.0 b.0
-
--- the entry is of the instance
-abbrev pub is_instance : List ℕ → InstanceEntry → Bool
-is_instance id entry = bytes_eq entry.0 id
 
 -- the entry with another row
 abbrev pub with_row : InstanceRow → InstanceEntry → InstanceEntry
@@ -53,19 +39,22 @@ attributes_shown (Some standing) = standing.attributes
 abbrev pub busy_number : Bool → ℕ
 busy_number busy = if busy then 1 else 0
 
-abbrev pub instance_row : InstanceEntry → Row
-instance_row entry =
-    Words entry.0
-    ∷ Int (pos (standing_number entry.1.standing))
-    ∷ Int (pos (busy_number entry.1.busy))
-    ∷ Int (pos entry.1.last_number)
-    ∷ Words (attributes_shown entry.1.standing).service
-    ∷ Words (attributes_shown entry.1.standing).plan
-    ∷ Words (attributes_shown entry.1.standing).place
-    ∷ Words (attributes_shown entry.1.standing).spot
-    ∷ Words (attributes_shown entry.1.standing).parameters
-    ∷ Words (attributes_shown entry.1.standing).maintenance
+abbrev pub standing_row : InstanceRow → Row
+standing_row row =
+    Int (pos (standing_number row.standing))
+    ∷ Int (pos (busy_number row.busy))
+    ∷ Int (pos row.last_number)
+    ∷ Words (attributes_shown row.standing).service
+    ∷ Words (attributes_shown row.standing).plan
+    ∷ Words (attributes_shown row.standing).place
+    ∷ Words (attributes_shown row.standing).spot
+    ∷ Words (attributes_shown row.standing).parameters
+    ∷ Words (attributes_shown row.standing).maintenance
     ∷ []
+
+-- with the id of the instance
+abbrev pub instance_row : InstanceEntry → Row
+instance_row entry = Words entry.0 ∷ standing_row entry.1
 
 -- ---- the entry that columns hold
 
@@ -91,9 +80,9 @@ instance_row_told cells = record {
 abbrev pub instance_told : Row → InstanceEntry
 instance_told cells = (bytes (column cells 0), instance_row_told cells)
 
--- the columns of a stored row, which has its rowid first
-abbrev pub instance_cells : Row → Row
-instance_cells cells =
+-- the columns of an instance in a row that was read
+abbrev pub standing_columns : Row → Row
+standing_columns cells =
     column cells 1
     ∷ column cells 2
     ∷ column cells 3
@@ -103,8 +92,15 @@ instance_cells cells =
     ∷ column cells 7
     ∷ column cells 8
     ∷ column cells 9
-    ∷ column cells 10
     ∷ []
+
+-- with its id
+abbrev pub instance_columns : Row → Row
+instance_columns cells = column cells 0 ∷ standing_columns cells
+
+-- the columns of a stored row, which has its rowid first
+abbrev pub instance_cells : Row → Row
+instance_cells cells = standing_columns cells ++ column cells 10 ∷ []
 
 -- the row that the first cells tell, if there are any
 abbrev pub first_told : List Row → Option InstanceRow

@@ -1,5 +1,4 @@
 pub mod Rows
-pub mod Tables
 pub mod Columns
 pub mod Instances
 pub mod Bindings
@@ -9,3 +8,4 @@ pub mod Steps
 pub mod Commit
 pub mod Queries
 pub mod BindingRows
+pub mod Opened

@@ -10,7 +10,7 @@ use Rattle.osb_orders.specs.Lives.{Lives, life_of}
 use Rattle.osb_orders.specs.Named.{order_numbered}
 use Rattle.osb_orders.specs.IsLife.{IsLives}
 use Rattle.osb_records.specs.Columns.{number_in}
-use Rattle.osb_records.specs.Instances.{InstanceEntry}
+use Rattle.osb_audit.specs.Instances.{InstanceEntry}
 use Rattle.osb_records.specs.Stored.{order_told, lives_stored, content_in}
 use Rattle.osb_records.specs.Standing.{IsStanding}
 use Rattle.osb_records.specs.Steps.{HasTables}

@@ -8,7 +8,7 @@ use Rattle.sqlite.specs.Effect.{Database, IsDatabase}
 use Rattle.sqlite.specs.State.{State, HasCleanDisk}
 use Rattle.osb_orders.specs.Lives.{Lives}
 use Rattle.osb_orders.specs.IsLife.{IsLives}
-use Rattle.osb_records.specs.Tables.{record_schema}
+use Rattle.osb_tables.specs.Tables.{record_schema}
 use Rattle.osb_standing.specs.declared.row.InstanceRow.{InstanceRow}
 use Rattle.osb_records.specs.Stored.{HoldsEntries, Content, content_in, lives_stored, with_instances}
 use Rattle.osb_records.specs.Standing.{Puts, IsStanding}

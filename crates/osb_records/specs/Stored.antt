@@ -1,9 +1,7 @@
 -- The orders in the tables, and the lives that they make up.
-use Rattle.std.specs.Prelude.{Bool, ◌&&◌, ◌==◌, if◌then◌else◌, ℕ, pos, List, [], ◌∷◌, map, bytes_eq}
-use Rattle.std.specs.declared.cmp.Ordering.{Ordering}
-use Rattle.std.specs.Ordering.{nat_cmp, ordering_then}
-use Rattle.std.specs.Cmp.Lexicographic.{slice_cmp}
-use Rattle.std.specs.FinMap.{empty, insert}
+use Rattle.osb_audit.specs.Orders.{Entry, entry_cmp, lives_in}
+use Rattle.std.specs.Prelude.{Bool, ◌&&◌, ◌==◌, if◌then◌else◌, ℕ, pos, List, [], ◌∷◌, ◌++◌, map, bytes_eq}
+use Rattle.std.specs.Ordering.{nat_cmp}
 use Rattle.sqlite.specs.declared.types.Value.TheVariants.{Int, Text as Words}
 use Rattle.sqlite.specs.Order.{Row, column, bytes}
 use Rattle.sqlite.specs.Tree.{Trees}
@@ -14,39 +12,37 @@ use Rattle.osb_orders.specs.declared.order.OrderState.{OrderState}
 use Rattle.osb_orders.specs.declared.order.OrderState.TheVariants.{Running, Succeeded, Failed}
 use Rattle.osb_orders.specs.declared.order.Order.{Order}
 use Rattle.osb_orders.specs.Orders.{kind_number, state_number}
-use Rattle.osb_orders.specs.Lives.{Lives, life_of}
-use Rattle.osb_records.specs.Rows.{Stores}
+use Rattle.osb_orders.specs.Lives.{Lives}
+use Rattle.osb_records.specs.Rows.{Stores, IsListOf}
 use Rattle.osb_records.specs.Columns.{number_in, attributes_told}
-use Rattle.osb_records.specs.Instances.{InstanceEntry, instance_row, instance_told, instance_cells, instance_cmp}
-use Rattle.osb_records.specs.Bindings.{BindingEntry, binding_row, binding_told, binding_cells, binding_cmp}
-
--- an order with the id of its instance
-abbrev pub Entry : Type 0
-Entry = List ℕ × Order
-
--- by the ids' bytes, and for one instance by number
-abbrev pub entry_cmp : Entry → Entry → Ordering
-entry_cmp a b = ordering_then (slice_cmp nat_cmp a.0 b.0) (nat_cmp a.1.number b.1.number)
+use Rattle.osb_audit.specs.Instances.{InstanceEntry, instance_cmp}
+use Rattle.osb_records.specs.Instances.{instance_row, instance_told, instance_cells}
+use Rattle.osb_audit.specs.declared.entry.BindingEntry.{BindingEntry}
+use Rattle.osb_audit.specs.Bindings.{binding_cmp}
+use Rattle.osb_records.specs.Bindings.{binding_row, binding_told, binding_cells}
 
 -- ---- rows
 
--- what the columns of an entry hold
-abbrev pub entry_row : Entry → Row
-entry_row entry =
-    Words entry.0
-    ∷ Int (pos entry.1.number)
-    ∷ Int (pos (kind_number entry.1.kind))
-    ∷ Words entry.1.binding
-    ∷ Words entry.1.attributes.service
-    ∷ Words entry.1.attributes.plan
-    ∷ Words entry.1.attributes.place
-    ∷ Words entry.1.attributes.spot
-    ∷ Words entry.1.attributes.parameters
-    ∷ Words entry.1.attributes.maintenance
-    ∷ Int (pos (state_number entry.1.outcome.state))
-    ∷ Words entry.1.outcome.description
-    ∷ Words entry.1.outcome.credentials
+-- what the columns of an order hold
+abbrev pub order_row : Order → Row
+order_row order =
+    Int (pos order.number)
+    ∷ Int (pos (kind_number order.kind))
+    ∷ Words order.binding
+    ∷ Words order.attributes.service
+    ∷ Words order.attributes.plan
+    ∷ Words order.attributes.place
+    ∷ Words order.attributes.spot
+    ∷ Words order.attributes.parameters
+    ∷ Words order.attributes.maintenance
+    ∷ Int (pos (state_number order.outcome.state))
+    ∷ Words order.outcome.description
+    ∷ Words order.outcome.credentials
     ∷ []
+
+-- with the id of its instance
+abbrev pub entry_row : Entry → Row
+entry_row entry = Words entry.0 ∷ order_row entry.1
 
 abbrev pub kind_numbered : ℕ → OrderKind
 kind_numbered number =
@@ -77,9 +73,9 @@ order_told cells = record {
 abbrev pub entry_told : Row → Entry
 entry_told cells = (bytes (column cells 0), order_told cells)
 
--- the columns of a stored row, which has its rowid first
-abbrev pub order_cells : Row → Row
-order_cells cells =
+-- the columns of an order in a row that was read
+abbrev pub order_columns : Row → Row
+order_columns cells =
     column cells 1
     ∷ column cells 2
     ∷ column cells 3
@@ -92,11 +88,21 @@ order_cells cells =
     ∷ column cells 10
     ∷ column cells 11
     ∷ column cells 12
-    ∷ column cells 13
     ∷ []
+
+-- with the id of its instance
+abbrev pub entry_columns : Row → Row
+entry_columns cells = column cells 0 ∷ order_columns cells
+
+-- the columns of a stored row, which has its rowid first
+abbrev pub order_cells : Row → Row
+order_cells cells = order_columns cells ++ column cells 13 ∷ []
 
 abbrev pub version_row : ℕ → Row
 version_row version = Int (pos version) ∷ []
+
+abbrev pub version_columns : Row → Row
+version_columns cells = column cells 0 ∷ []
 
 abbrev pub version_cells : Row → Row
 version_cells cells = column cells 1 ∷ []
@@ -109,6 +115,19 @@ pub record Holds (entries : List Entry) (instance_entries : List InstanceEntry) 
   pub orders : Stores order_cells entry_row entry_cmp (db 1) entries
   pub instances : Stores instance_cells instance_row instance_cmp (db 3) instance_entries
   pub bindings : Stores binding_cells binding_row binding_cmp (db 5) binding_entries
+
+-- what was read of each table
+abbrev pub AreVersionsOf : Trees → List ℕ → Type 0
+AreVersionsOf db versions = IsListOf version_cells version_row nat_cmp (db 0) versions
+
+abbrev pub AreOrdersOf : Trees → List Entry → Type 0
+AreOrdersOf db entries = IsListOf order_cells entry_row entry_cmp (db 1) entries
+
+abbrev pub AreInstancesOf : Trees → List InstanceEntry → Type 0
+AreInstancesOf db entries = IsListOf instance_cells instance_row instance_cmp (db 3) entries
+
+abbrev pub AreBindingsOf : Trees → List BindingEntry → Type 0
+AreBindingsOf db entries = IsListOf binding_cells binding_row binding_cmp (db 5) entries
 
 -- the entries in the order of their keys, whatever the order of the rows
 abbrev pub entries_in : Trees → List Entry
@@ -125,11 +144,6 @@ abbrev pub HoldsEntries : Trees → Type 0
 HoldsEntries db = Holds (entries_in db) (instances_in db) (bindings_in db) db
 
 -- ---- lives
-
--- each order stands before the later ones of its instance
-abbrev pub lives_in : List Entry → Lives
-lives_in [] = empty
-lives_in (entry ∷ entries) = insert (lives_in entries) entry.0 (entry.1 ∷ life_of (lives_in entries) entry.0)
 
 abbrev pub lives_stored : Trees → Lives
 lives_stored db = lives_in (entries_in db)
@@ -152,10 +166,6 @@ with_bindings bindings content = record content { bindings = bindings }
 
 abbrev pub content_in : Trees → Content
 content_in db = record { lives = lives_stored db; instances = instances_in db; bindings = bindings_in db }
-
--- the entry is of the instance
-abbrev pub is_of : List ℕ → Entry → Bool
-is_of id entry = bytes_eq entry.0 id
 
 -- the entry has this key
 abbrev pub is_keyed : List ℕ → ℕ → Entry → Bool

@@ -11,7 +11,8 @@ ghost use Rattle.sqlite_keyed.specs.Lists.{insert_sorted, update_where, delete_w
 ghost use Rattle.osb_orders.specs.declared.view.BindingNow.{BindingNow};
 ghost use Rattle.osb_standing.specs.declared.row.BindingEdit.TheVariants.{Put};
 ghost use Rattle.osb_records.specs.Bindings as spec;
-ghost use Rattle.osb_records.specs.Bindings.{binding_cmp, binding_entry, binding_row, is_binding, is_bound};
+ghost use Rattle.osb_audit.specs.Bindings.{binding_cmp, binding_entry, is_binding, is_bound};
+ghost use Rattle.osb_records.specs.Bindings.{binding_row};
 ghost use Rattle.osb_records.specs.BindingRows.{binding_found, first_binding, with_binding, bindings_edited, FollowsOrder};
 ghost use Rattle.osb_records.specs.Stored.{with_bindings};
 ghost use Rattle.osb_records.specs.Steps.{ShowsTables, Steps, content};

@@ -13,9 +13,9 @@ ghost use Rattle.osb_standing.specs.Rows as rows;
 ghost use Rattle.osb_standing.specs.Instance.{is_failed_deletion};
 ghost use Rattle.osb_standing.specs.Written.{IsWritten};
 ghost use Rattle.osb_records.specs.Instances as spec;
-ghost use Rattle.osb_records.specs.Instances.{is_instance, instance_cmp, instance_row, with_row};
+ghost use Rattle.osb_audit.specs.Instances.{is_instance, instance_cmp, IsRowOf, InstancesStand};
+ghost use Rattle.osb_records.specs.Instances.{instance_row, with_row};
 ghost use Rattle.osb_records.specs.Stored.{with_instances};
-ghost use Rattle.osb_records.specs.Standing.{IsRowOf, InstancesStand};
 ghost use Rattle.osb_records.specs.Queries.{ShowsRecords};
 ghost use Rattle.osb_records.specs.Steps.{ShowsTables, Steps, PutsInstance, content, stored};
 

@@ -1,12 +1,14 @@
 //! The orders of all instances in a SQL database.
 #![tactic(auto)]
 
+mod adopt;
 mod bindings;
 mod commits;
 mod fault;
 mod instances;
 pub mod memory;
 mod names;
+mod plans;
 mod queries;
 mod reading;
 mod records;
@@ -14,6 +16,7 @@ mod row;
 mod statements;
 mod tables;
 mod view;
+mod whole;
 mod writing;
 
 pub use fault::StoreFault;

@@ -8,6 +8,7 @@ ghost use Rattle.osb_orders.specs.Facts.{facts, view_of};
 ghost use Rattle.osb_orders.specs.Listing.{listing};
 ghost use Rattle.osb_orders.specs.Changed.{lives_changed};
 ghost use Rattle.osb_orders.specs.IsLife.{IsLives};
+ghost use Rattle.osb_audit.specs.Plans as spec;
 ghost use Rattle.osb_records.specs.Steps.{stored};
 ghost use Rattle.osb_records.specs.Commit.{FinishesLast};
 
@@ -52,6 +53,17 @@ pub fn view(records: &mut Records<MemStore>, alloc: Global, ask: &Ask) -> Result
 {
     records.are_whole();
     records.view(alloc, ask)
+}
+
+/// As `Records::plans_in_use`.
+pub fn plans_in_use(
+    records: &mut Records<MemStore>,
+    alloc: Global,
+) -> Result<Vec<(Text, Text)>, StoreFault>
+    ensures ok { IfOk result (λ plans. plans.items ≡ spec.plans_in_use (stored (state over_memory records.old))) }
+    ensures same { stored (state over_memory records.new) ≡ stored (state over_memory records.old) }
+{
+    records.plans_in_use(alloc)
 }
 
 /// As `Records::commit`.

@@ -7,7 +7,8 @@ ghost use Rattle.osb_orders.specs.declared.order.Order.{Order};
 ghost use Rattle.osb_orders.specs.Listing.{listing};
 ghost use Rattle.osb_standing.specs.Listing.{is_listed};
 ghost use Rattle.osb_records.specs.Queries.{ShowsRecords, busy_row, order_for};
-ghost use Rattle.osb_records.specs.Stored.{entry_row, entries_in, is_of};
+ghost use Rattle.osb_audit.specs.Orders.{is_of};
+ghost use Rattle.osb_records.specs.Stored.{entry_row, entries_in};
 ghost use Rattle.osb_records.specs.Steps.{ShowsTables, IsReady, content, stored};
 
 use crate::fault::StoreFault;
@@ -114,7 +115,7 @@ fn listed_orders<S: Alter>(
 }
 
 /// The running orders of the instances with greater ids by their ids, up to a limit.
-fn list_running<S: Alter>(
+pub(crate) fn list_running<S: Alter>(
     tx: &mut Transaction<'_, S>,
     alloc: Global,
     after: &str,

@@ -1,20 +1,25 @@
 //! The records of all orders, over any store.
 
-ghost use Rattle.std.specs.Prelude.{◌≡◌, IsTrue, IfOk, OnOk, OnErr};
+ghost use Rattle.std.specs.Prelude.{◌≡◌, IsTrue, IfOk, IfErr, OnOk, OnErr};
 ghost use Rattle.std.specs.FinMap.{empty};
 ghost use Rattle.sqlite.specs.Held.{state};
 ghost use Rattle.sqlite.specs.State.{HasCleanDisk, Survives};
 ghost use Rattle.sqlite.specs.Steps.{over_memory};
-ghost use Rattle.osb_orders.specs.Lives.{life_of};
+ghost use Rattle.osb_orders.specs.Lives.{Lives, life_of};
 ghost use Rattle.osb_orders.specs.Facts.{facts, view_of};
 ghost use Rattle.osb_orders.specs.Listing.{listing};
 ghost use Rattle.osb_orders.specs.Changed.{lives_changed};
+ghost use Rattle.osb_audit.specs.Plans.{plans_in_use};
 ghost use Rattle.osb_orders.specs.IsLife.{IsLives};
-ghost use Rattle.osb_records.specs.Steps.{HoldsLives, LeavesOnly, stored};
+ghost use Rattle.osb_records.specs.declared.fault.StoreFault.TheVariants as faults;
+ghost use Rattle.osb_records.specs.Opened.{StandIn, HoldsSame};
+ghost use Rattle.osb_records.specs.Steps.{HoldsLives, IsReady, LeavesOnly, stored};
 ghost use Rattle.osb_records.specs.Commit.{FinishesLast};
 
+use crate::adopt::take_over;
 use crate::commits::{append, finish};
 use crate::fault::StoreFault;
+use crate::plans::read_plans;
 use crate::reading::{read_life, read_running};
 use crate::row::orders_in;
 use crate::tables::make_tables;
@@ -56,6 +61,35 @@ pub fn open_memory(alloc: Global) -> Result<Records<MemStore>, StoreFault>
 }
 
 impl<S: Alter> Records<S> {
+    /// Takes a database over: one that this program made, or one that is empty, in which the tables are
+    /// made. Where it has other tables or the rows of no well-formed lives, it isn't ours. With a fault
+    /// the connection comes back with its tables as they were. A connection with an open transaction
+    /// is refused.
+    pub fn adopt(
+        alloc: Global,
+        mut conn: Connection<S>,
+    ) -> Result<Records<S>, (StoreFault, Connection<S>)>
+        ensures ok { IfOk result (λ records. HasCleanDisk (state S.Store records) → IsTrue (state S.Store records).is_open → StandIn (state S.Store conn).now (stored (state S.Store records))) }
+        ensures err { IfErr result (λ fault. HasCleanDisk (state S.Store fault.1) → IsTrue (state S.Store fault.1).is_open → (state S.Store fault.1).now ≡ (state S.Store conn).now) }
+        ensures not_ours { IfErr result (λ fault. HasCleanDisk (state S.Store fault.1) → fault.0 ≡ faults.NotOurs → (lives : Lives) → ¬ StandIn (state S.Store conn).now lives) }
+        ensures crash { IfOk result (λ records. Survives (state S.Store conn) (state S.Store records) (HoldsSame (state S.Store conn).now)) }
+        ensures fault_crash { IfErr result (λ fault. Survives (state S.Store conn) (state S.Store fault.1) (HoldsSame (state S.Store conn).now)) }
+    {
+        match take_over(&mut conn, alloc) {
+            Ok(()) => Ok(Records { conn, alloc }),
+            Err(fault) => Err((fault, conn)),
+        }
+    }
+
+    /// The connection, with the lives that stand there.
+    pub fn into_connection(self) -> Connection<S>
+        ensures same { result ≡ self }
+        ensures ready { IsReady (state S.Store result) }
+    {
+        let Records { conn, alloc: _ } = self;
+        conn
+    }
+
     /// The lives are well formed. It does nothing when it runs.
     pub fn are_whole(&self)
         ensures { HasCleanDisk (state S.Store self.now) → IsTrue (state S.Store self.now).is_open → IsLives (stored (state S.Store self.now)) }
@@ -87,6 +121,16 @@ impl<S: Alter> Records<S> {
         ensures crash { Survives (state S.Store self.old) (state S.Store self.new) (λ _. ⊥) }
     {
         read_running(&mut self.conn, alloc, after, limit)
+    }
+
+    /// The pairs of service and plan of the instances that aren't absent and of the Updates that run,
+    /// each once, in the order of their bytes.
+    pub fn plans_in_use(&mut self, alloc: Global) -> Result<Vec<(Text, Text)>, StoreFault>
+        ensures ok { HasCleanDisk (state S.Store self.new) → IfOk result (λ plans. plans.items ≡ plans_in_use (stored (state S.Store self.old))) }
+        ensures same { HasCleanDisk (state S.Store self.new) → IsTrue (state S.Store self.new).is_open → stored (state S.Store self.new) ≡ stored (state S.Store self.old) }
+        ensures crash { Survives (state S.Store self.old) (state S.Store self.new) (λ _. ⊥) }
+    {
+        read_plans(&mut self.conn, alloc)
     }
 
     /// What the ask needs to know of the lives.

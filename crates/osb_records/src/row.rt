@@ -1,14 +1,20 @@
 //! Rows as orders, and as what stands of instances and bindings.
 
-ghost use Rattle.std.specs.Prelude.{◌≡◌, ◌==◌, map, IfOk};
+ghost use Rattle.std.specs.Prelude.{◌≡◌, ◌==◌, true, pos, map, IfOk};
+ghost use Rattle.sqlite.specs.declared.types.Value.TheVariants.{Int, Text as Words};
 ghost use Rattle.sqlite.specs.Order.{column, bytes};
+ghost use Rattle.sqlite_trees.specs.Tree.{rowid};
+ghost use Rattle.osb_orders.specs.Orders.{kind_number, state_number};
 ghost use Rattle.osb_records.specs.Queries.{first_order};
-ghost use Rattle.osb_records.specs.Columns.{number_in, attributes_told};
-ghost use Rattle.osb_records.specs.Stored.{kind_numbered, state_numbered, order_told};
-ghost use Rattle.osb_records.specs.Instances.{instance_phase_numbered, standing_told, instance_row_told, first_told};
-ghost use Rattle.osb_records.specs.Bindings.{binding_phase_numbered, binding_now, binding_told};
+ghost use Rattle.osb_records.specs.Rows.{rowid_shown};
+ghost use Rattle.osb_records.specs.Columns.{number_in, attributes_told, HoldAttributes};
+ghost use Rattle.osb_records.specs.Stored.{kind_numbered, state_numbered, order_told, order_row, order_columns, entry_row, entry_columns, version_row, version_columns};
+ghost use Rattle.osb_records.specs.Instances.{no_attributes, instance_phase_number, instance_phase_numbered, standing_number, standing_told, attributes_shown, busy_number, instance_row_told, standing_row, standing_columns, instance_row, instance_columns, first_told};
+ghost use Rattle.osb_audit.specs.Bindings.{binding_now};
+ghost use Rattle.osb_records.specs.Bindings.{binding_phase_number, binding_phase_numbered, binding_told, binding_row, binding_columns};
 
 use crate::fault::StoreFault;
+use osb_audit::BindingEntry;
 use osb_orders::{
     Attributes, BindingNow, BindingPhase, InstancePhase, Order, OrderKind, OrderState, Outcome,
     Standing,
@@ -19,20 +25,23 @@ use sqlite::Row;
 use std::alloc::Global;
 
 fn text_in(row: &Row, at: usize) -> Result<Text, StoreFault>
-    ensures { IfOk result (λ text. text ≡ bytes (column row.now at)) }
+    ensures told { IfOk result (λ text. text ≡ bytes (column row.now at)) }
+    ensures held { IfOk result (λ text. column row.now at ≡ Words text) }
 {
     let string: String = row.get(at)?;
     Ok(Text::from(string))
 }
 
 fn number_in(row: &Row, at: usize) -> Result<u32, StoreFault>
-    ensures { IfOk result (λ number. number ≡ number_in (column row.now at)) }
+    ensures told { IfOk result (λ number. number ≡ number_in (column row.now at)) }
+    ensures held { IfOk result (λ number. column row.now at ≡ Int (pos number)) }
 {
     Ok(row.get(at)?)
 }
 
 fn kind_numbered(number: u32) -> Result<OrderKind, StoreFault>
-    ensures { IfOk result (λ kind. kind ≡ kind_numbered number) }
+    ensures told { IfOk result (λ kind. kind ≡ kind_numbered number) }
+    ensures held { IfOk result (λ kind. number ≡ kind_number kind) }
 {
     match number {
         1 => Ok(OrderKind::Create),
@@ -45,7 +54,8 @@ fn kind_numbered(number: u32) -> Result<OrderKind, StoreFault>
 }
 
 fn state_numbered(number: u32) -> Result<OrderState, StoreFault>
-    ensures { IfOk result (λ state. state ≡ state_numbered number) }
+    ensures told { IfOk result (λ state. state ≡ state_numbered number) }
+    ensures held { IfOk result (λ state. number ≡ state_number state) }
 {
     match number {
         0 => Ok(OrderState::Running),
@@ -56,7 +66,8 @@ fn state_numbered(number: u32) -> Result<OrderState, StoreFault>
 }
 
 fn attributes_in(row: &Row) -> Result<Attributes, StoreFault>
-    ensures { IfOk result (λ attributes. attributes ≡ attributes_told row.now) }
+    ensures told { IfOk result (λ attributes. attributes ≡ attributes_told row.now) }
+    ensures held { IfOk result (HoldAttributes row.now) }
 {
     Ok(Attributes {
         service: text_in(row, 4)?,
@@ -69,7 +80,8 @@ fn attributes_in(row: &Row) -> Result<Attributes, StoreFault>
 }
 
 fn outcome_in(row: &Row) -> Result<Outcome, StoreFault>
-    ensures { IfOk result (λ outcome. outcome ≡ (order_told row.now).outcome) }
+    ensures told { IfOk result (λ outcome. outcome ≡ (order_told row.now).outcome) }
+    ensures held { IfOk result (λ outcome. (column row.now 10 ≡ Int (pos (state_number outcome.state))) × (column row.now 11 ≡ Words outcome.description) × (column row.now 12 ≡ Words outcome.credentials)) }
 {
     Ok(Outcome {
         state: state_numbered(number_in(row, 10)?)?,
@@ -79,7 +91,8 @@ fn outcome_in(row: &Row) -> Result<Outcome, StoreFault>
 }
 
 fn order_in(row: &Row) -> Result<Order, StoreFault>
-    ensures { IfOk result (λ order. order ≡ order_told row.now) }
+    ensures told { IfOk result (λ order. order ≡ order_told row.now) }
+    ensures held { IfOk result (λ order. order_columns row.now ≡ order_row order) }
 {
     Ok(Order {
         number: number_in(row, 1)?,
@@ -101,11 +114,57 @@ pub(crate) fn orders_in(alloc: Global, rows: &[Row]) -> Result<Vec<Order>, Store
     Ok(orders)
 }
 
+/// The order of the row, with the id of its instance.
+fn entry_in(row: &Row) -> Result<(Text, Order), StoreFault>
+    ensures { IfOk result (λ entry. entry_row entry ≡ entry_columns row.now) }
+{
+    Ok((text_in(row, 0)?, order_in(row)?))
+}
+
+/// The orders of the rows, each with the id of its instance.
+pub(crate) fn entries_in(alloc: Global, rows: &[Row]) -> Result<Vec<(Text, Order)>, StoreFault>
+    ensures { IfOk result (λ entries. map entry_row entries.items ≡ map entry_columns rows.now) }
+{
+    let mut entries = Vec::new(alloc);
+    for row in rows {
+        entries.push(entry_in(row)?)?;
+    }
+    Ok(entries)
+}
+
 /// The instance that the row names, and the number of its order.
 pub(crate) fn named_in(row: &Row) -> Result<(Text, u32), StoreFault>
     ensures { IfOk result (λ named. (named.0 ≡ bytes (column row.now 0)) × (named.1 ≡ number_in (column row.now 1))) }
 {
     Ok((text_in(row, 0)?, number_in(row, 1)?))
+}
+
+/// The versions of the rows.
+pub(crate) fn versions_in(alloc: Global, rows: &[Row]) -> Result<Vec<u32>, StoreFault>
+    ensures { IfOk result (λ versions. map version_row versions.items ≡ map version_columns rows.now) }
+{
+    let mut versions = Vec::new(alloc);
+    for row in rows {
+        versions.push(number_in(row, 0)?)?;
+    }
+    Ok(versions)
+}
+
+/// The rowids of the rows, none of them negative.
+pub(crate) fn rowids_in(alloc: Global, rows: &[Row]) -> Result<Vec<u64>, StoreFault>
+    ensures { IfOk result (λ ids. map rowid_shown ids.items ≡ map rowid rows.now) }
+{
+    let mut ids = Vec::new(alloc);
+    for row in rows {
+        ids.push(rowid_in(row)?)?;
+    }
+    Ok(ids)
+}
+
+fn rowid_in(row: &Row) -> Result<u64, StoreFault>
+    ensures { IfOk result (λ id. rowid_shown id ≡ rowid row.now) }
+{
+    Ok(row.get(0)?)
 }
 
 /// The order that the first row shows.
@@ -119,7 +178,8 @@ pub(crate) fn first_in(rows: &[Row]) -> Result<Option<Order>, StoreFault>
 }
 
 fn instance_phase_numbered(number: u32) -> Result<InstancePhase, StoreFault>
-    ensures { IfOk result (λ phase. phase ≡ instance_phase_numbered number) }
+    ensures told { IfOk result (λ phase. phase ≡ instance_phase_numbered number) }
+    ensures held { IfOk result (λ phase. number ≡ instance_phase_number phase) }
 {
     match number {
         1 => Ok(InstancePhase::Creating),
@@ -131,11 +191,28 @@ fn instance_phase_numbered(number: u32) -> Result<InstancePhase, StoreFault>
     }
 }
 
+/// Whether each of the texts is empty.
+fn are_blank(attributes: &Attributes) -> bool
+    ensures { result ≡ true → attributes.now ≡ no_attributes }
+{
+    attributes.service.is_empty()
+        && attributes.plan.is_empty()
+        && attributes.place.is_empty()
+        && attributes.spot.is_empty()
+        && attributes.parameters.is_empty()
+        && attributes.maintenance.is_empty()
+}
+
 fn standing_told(number: u32, attributes: Attributes) -> Result<Option<Standing>, StoreFault>
-    ensures { IfOk result (λ standing. standing ≡ standing_told number attributes) }
+    ensures told { IfOk result (λ standing. standing ≡ standing_told number attributes) }
+    ensures held { IfOk result (λ standing. (number ≡ standing_number standing) × (attributes ≡ attributes_shown standing)) }
 {
     if number == 0 {
-        return Ok(None);
+        return if are_blank(&attributes) {
+            Ok(None)
+        } else {
+            Err(StoreFault::Refused)
+        };
     }
     Ok(Some(Standing {
         phase: instance_phase_numbered(number)?,
@@ -144,7 +221,8 @@ fn standing_told(number: u32, attributes: Attributes) -> Result<Option<Standing>
 }
 
 fn busy_numbered(number: u32) -> Result<bool, StoreFault>
-    ensures { IfOk result (λ busy. busy ≡ (number == 1)) }
+    ensures told { IfOk result (λ busy. busy ≡ (number == 1)) }
+    ensures held { IfOk result (λ busy. number ≡ busy_number busy) }
 {
     match number {
         0 => Ok(false),
@@ -154,14 +232,36 @@ fn busy_numbered(number: u32) -> Result<bool, StoreFault>
 }
 
 /// How the instance of the row stands.
-pub(crate) fn instance_row_in(row: &Row) -> Result<InstanceRow, StoreFault>
-    ensures { IfOk result (λ found. found ≡ instance_row_told row.now) }
+fn instance_row_in(row: &Row) -> Result<InstanceRow, StoreFault>
+    ensures told { IfOk result (λ found. found ≡ instance_row_told row.now) }
+    ensures held { IfOk result (λ found. standing_row found ≡ standing_columns row.now) }
 {
     Ok(InstanceRow {
         standing: standing_told(number_in(row, 1)?, attributes_in(row)?)?,
         busy: busy_numbered(number_in(row, 2)?)?,
         last_number: number_in(row, 3)?,
     })
+}
+
+/// The row with the id of its instance.
+fn instance_in(row: &Row) -> Result<(Text, InstanceRow), StoreFault>
+    ensures { IfOk result (λ entry. instance_row entry ≡ instance_columns row.now) }
+{
+    Ok((text_in(row, 0)?, instance_row_in(row)?))
+}
+
+/// The instances of the rows, each with its id.
+pub(crate) fn instances_in(
+    alloc: Global,
+    rows: &[Row],
+) -> Result<Vec<(Text, InstanceRow)>, StoreFault>
+    ensures { IfOk result (λ entries. map instance_row entries.items ≡ map instance_columns rows.now) }
+{
+    let mut entries = Vec::new(alloc);
+    for row in rows {
+        entries.push(instance_in(row)?)?;
+    }
+    Ok(entries)
 }
 
 /// How the instance of the first row stands.
@@ -175,7 +275,8 @@ pub(crate) fn first_instance_in(rows: &[Row]) -> Result<Option<InstanceRow>, Sto
 }
 
 fn binding_phase_numbered(number: u32) -> Result<BindingPhase, StoreFault>
-    ensures { IfOk result (λ phase. phase ≡ binding_phase_numbered number) }
+    ensures told { IfOk result (λ phase. phase ≡ binding_phase_numbered number) }
+    ensures held { IfOk result (λ phase. number ≡ binding_phase_number phase) }
 {
     match number {
         1 => Ok(BindingPhase::Binding),
@@ -209,4 +310,31 @@ pub(crate) fn binding_in(alloc: Global, row: &Row) -> Result<BindingNow, StoreFa
         attributes: binding_attributes_in(alloc, row)?,
         credentials: text_in(row, 8)?,
     })
+}
+
+fn binding_entry_in(row: &Row) -> Result<BindingEntry, StoreFault>
+    ensures { IfOk result (λ entry. binding_row entry ≡ binding_columns row.now) }
+{
+    Ok(BindingEntry {
+        instance: text_in(row, 0)?,
+        binding: text_in(row, 1)?,
+        phase: binding_phase_numbered(number_in(row, 2)?)?,
+        service: text_in(row, 3)?,
+        plan: text_in(row, 4)?,
+        app_guid: text_in(row, 5)?,
+        bind_resource: text_in(row, 6)?,
+        parameters: text_in(row, 7)?,
+        credentials: text_in(row, 8)?,
+    })
+}
+
+/// The bindings of the rows.
+pub(crate) fn bindings_in(alloc: Global, rows: &[Row]) -> Result<Vec<BindingEntry>, StoreFault>
+    ensures { IfOk result (λ entries. map binding_row entries.items ≡ map binding_columns rows.now) }
+{
+    let mut entries = Vec::new(alloc);
+    for row in rows {
+        entries.push(binding_entry_in(row)?)?;
+    }
+    Ok(entries)
 }

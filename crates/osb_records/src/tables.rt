@@ -4,7 +4,8 @@ ghost use Rattle.std.specs.Prelude.{◌≡◌, [], ◌∷◌, IsTrue, OnOk, OnEr
 ghost use Rattle.std.specs.FinMap.{empty};
 ghost use Rattle.sqlite.specs.Held.{state};
 ghost use Rattle.sqlite.specs.State.{HasCleanDisk, KeepsCommit, Survives};
-ghost use Rattle.osb_records.specs.Tables.{no_schema, format_schema, orders_schema, instances_schema, tables_schema, record_schema};
+ghost use Rattle.osb_tables.specs.Tables.{no_schema, format_schema, orders_schema, instances_schema, tables_schema, record_schema};
+ghost use Rattle.osb_records.specs.Opened.{Indexes};
 ghost use Rattle.osb_records.specs.Steps.{ShowsSchema, ShowsBlank, HoldsLives, IsSettled, IsReady, Writes, Makes, LeavesOnly, stored};
 
 use sqlite::{Alter, Connection, Error, Transaction};
@@ -64,12 +65,11 @@ fn create_bindings<S: Alter>(tx: &mut Transaction<'_, S>) -> Result<usize, Error
     )
 }
 
-/// Makes the index of the running orders' instances.
-fn create_index<S: Alter>(tx: &mut Transaction<'_, S>) -> Result<usize, Error>
-    requires schema { ShowsSchema tables_schema (state S.Store tx.old.conn.now) }
-    requires blank { ShowsBlank (5 ∷ 3 ∷ 1 ∷ 0 ∷ []) (state S.Store tx.old.conn.now) }
+/// Makes the index of the running orders' instances beside the tables.
+pub(crate) fn create_index<S: Alter>(tx: &mut Transaction<'_, S>) -> Result<usize, Error>
+    requires { ShowsSchema tables_schema (state S.Store tx.old.conn.now) }
     ensures same_reference { tx.new.conn.ghost_name ≡ tx.old.conn.ghost_name }
-    ensures ok { HasCleanDisk (state S.Store tx.new.conn.now) → OnOk result (Makes (state S.Store tx.old.conn.now) (state S.Store tx.new.conn.now) record_schema (5 ∷ 3 ∷ 1 ∷ 0 ∷ [])) }
+    ensures ok { HasCleanDisk (state S.Store tx.new.conn.now) → OnOk result (Indexes (state S.Store tx.old.conn.now) (state S.Store tx.new.conn.now)) }
     ensures kept { HasCleanDisk (state S.Store tx.new.conn.now) → IsTrue (state S.Store tx.old.conn.now).in_transaction → KeepsCommit (state S.Store tx.old.conn.now) (state S.Store tx.new.conn.now) }
     ensures survives { Survives (state S.Store tx.old.conn.now) (state S.Store tx.new.conn.now) (λ _. ⊥) }
 {
@@ -80,6 +80,7 @@ fn create_index<S: Alter>(tx: &mut Transaction<'_, S>) -> Result<usize, Error>
 }
 
 /// Makes the tables of the current state, and the index.
+#[tactic(auto, using(crate::proofs::IndexLemmas::indexed_makes))]
 fn create_standing<S: Alter>(tx: &mut Transaction<'_, S>) -> Result<usize, Error>
     requires schema { ShowsSchema orders_schema (state S.Store tx.old.conn.now) }
     requires blank { ShowsBlank (1 ∷ 0 ∷ []) (state S.Store tx.old.conn.now) }

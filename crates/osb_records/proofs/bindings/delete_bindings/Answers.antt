@@ -2,7 +2,7 @@ use Rattle.std.proofs.Common.{refl, [], ◌∷◌}
 use Rattle.sqlite.specs.Held.{state}
 use Rattle.sqlite.specs.declared.types.Value.TheVariants.{Text}
 use Rattle.sqlite_keyed.specs.Lists.{delete_where}
-use Rattle.osb_records.specs.Bindings.{is_bound}
+use Rattle.osb_audit.specs.Bindings.{is_bound}
 use Rattle.osb_records.specs.Stored.{entries_in, instances_in, bindings_in}
 use Rattle.osb_records.specs.Steps.{stored}
 use Rattle.osb_records.proofs.BindingTexts.{delete_bindings}

@@ -1,7 +1,7 @@
 use Rattle.std.proofs.Common.{subst}
 use Rattle.sqlite.specs.Held.{state}
 use Rattle.sqlite.specs.State.{ExecutesInside}
-use Rattle.osb_records.specs.Bindings.{binding_entry}
+use Rattle.osb_audit.specs.Bindings.{binding_entry}
 use Rattle.osb_records.proofs.BindingLemmas.{binding_params}
 use Rattle.osb_records.proofs.bindings.execute_with.Goals as goal
 

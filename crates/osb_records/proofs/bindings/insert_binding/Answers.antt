@@ -1,7 +1,8 @@
 use Rattle.std.proofs.Common.{refl}
 use Rattle.sqlite.specs.Held.{state}
 use Rattle.sqlite_keyed.specs.Lists.{insert_sorted}
-use Rattle.osb_records.specs.Bindings.{binding_entry, binding_row, binding_cmp}
+use Rattle.osb_audit.specs.Bindings.{binding_entry, binding_cmp}
+use Rattle.osb_records.specs.Bindings.{binding_row}
 use Rattle.osb_records.specs.Stored.{entries_in, instances_in, bindings_in}
 use Rattle.osb_records.specs.Steps.{stored}
 use Rattle.osb_records.proofs.BindingTexts.{insert_binding}

@@ -1,7 +1,7 @@
 use Rattle.std.proofs.Common.{subst}
 use Rattle.std.specs.Prelude.{option_copied}
 use Rattle.sqlite.specs.Held.{state}
-use Rattle.osb_records.specs.Standing.{IsRowOf}
+use Rattle.osb_audit.specs.Instances.{IsRowOf}
 use Rattle.osb_records.specs.Steps.{content}
 use Rattle.osb_records.proofs.StepLemmas.{clean_before}
 use Rattle.osb_records.proofs.ResultLemmas.{then_ok}

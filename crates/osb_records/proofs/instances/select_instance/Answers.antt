@@ -1,7 +1,7 @@
 use Rattle.std.proofs.Common.{[], ◌∷◌}
 use Rattle.sqlite.specs.Held.{state}
 use Rattle.sqlite.specs.declared.types.Value.TheVariants.{Text}
-use Rattle.osb_records.specs.Tables.{record_schema}
+use Rattle.osb_tables.specs.Tables.{record_schema}
 use Rattle.osb_records.proofs.SelectLemmas.{shown_same, shown_open}
 use Rattle.osb_records.proofs.InstanceLemmas.{shows_instance}
 use Rattle.osb_records.proofs.StepLemmas.{clean_before}

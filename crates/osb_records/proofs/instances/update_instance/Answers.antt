@@ -1,7 +1,8 @@
 use Rattle.std.proofs.Common.{refl}
 use Rattle.sqlite.specs.Held.{state}
 use Rattle.sqlite_keyed.specs.Lists.{update_where}
-use Rattle.osb_records.specs.Instances.{instance_row, is_instance, with_row}
+use Rattle.osb_audit.specs.Instances.{is_instance}
+use Rattle.osb_records.specs.Instances.{instance_row, with_row}
 use Rattle.osb_records.specs.Stored.{entries_in, instances_in, bindings_in}
 use Rattle.osb_records.specs.Steps.{stored}
 use Rattle.osb_records.proofs.Texts.{update_instance}

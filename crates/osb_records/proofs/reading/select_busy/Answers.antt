@@ -1,7 +1,7 @@
 use Rattle.std.proofs.Common.{pos, [], ◌∷◌}
 use Rattle.sqlite.specs.Held.{state}
 use Rattle.sqlite.specs.declared.types.Value.TheVariants.{Int, Text}
-use Rattle.osb_records.specs.Tables.{record_schema}
+use Rattle.osb_tables.specs.Tables.{record_schema}
 use Rattle.osb_records.proofs.ListingLemmas.{shows_busy}
 use Rattle.osb_records.proofs.SelectLemmas.{shown_same, shown_open}
 use Rattle.osb_records.proofs.StepLemmas.{clean_before}

@@ -5,7 +5,8 @@ use Rattle.sqlite.specs.State.{ExecutesInside}
 use Rattle.sqlite_keyed.specs.Lists.{insert_sorted}
 use Rattle.osb_orders.specs.declared.order.Change.TheVariants.{Append}
 use Rattle.osb_orders.specs.Changed.{lives_changed}
-use Rattle.osb_records.specs.Stored.{entry_row, entry_cmp, entries_in, instances_in, bindings_in}
+use Rattle.osb_audit.specs.Orders.{entry_cmp}
+use Rattle.osb_records.specs.Stored.{entry_row, entries_in, instances_in, bindings_in}
 use Rattle.osb_records.specs.Steps.{stored}
 use Rattle.osb_records.proofs.Texts.{insert_order}
 use Rattle.osb_records.proofs.StepLemmas.{steps_by}

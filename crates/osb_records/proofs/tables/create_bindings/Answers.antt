@@ -1,6 +1,6 @@
 use Rattle.std.proofs.Common.{[], ◌∷◌}
 use Rattle.sqlite.specs.Held.{state}
-use Rattle.osb_records.specs.Tables.{instances_schema, tables_schema}
+use Rattle.osb_tables.specs.Tables.{instances_schema, tables_schema}
 use Rattle.osb_records.proofs.Texts.{create_bindings}
 use Rattle.osb_records.proofs.CreateLemmas.{makes_bindings}
 use Rattle.osb_records.proofs.StepLemmas.{makes_by}

@@ -1,6 +1,6 @@
 use Rattle.std.proofs.Common.{[], ◌∷◌}
 use Rattle.sqlite.specs.Held.{state}
-use Rattle.osb_records.specs.Tables.{no_schema, format_schema}
+use Rattle.osb_tables.specs.Tables.{no_schema, format_schema}
 use Rattle.osb_records.proofs.Texts.{create_format}
 use Rattle.osb_records.proofs.CreateLemmas.{makes_format}
 use Rattle.osb_records.proofs.StepLemmas.{makes_by}

@@ -1,14 +1,9 @@
-use Rattle.std.proofs.Common.{[], ◌∷◌}
 use Rattle.sqlite.specs.Held.{state}
-use Rattle.osb_records.specs.Tables.{tables_schema, record_schema}
-use Rattle.osb_records.proofs.Texts.{create_index}
-use Rattle.osb_records.proofs.CreateLemmas.{makes_index}
-use Rattle.osb_records.proofs.StepLemmas.{makes_by}
+use Rattle.osb_records.proofs.IndexLemmas.{indexes_by}
 use Rattle.osb_records.proofs.tables.create_index.Goals as goal
 
 pub returns-clause-ok : goal.returns-clause-ok
 returns-clause-ok g c clean =
     let old = state g.S.Store c.args.tx.now.conn.now in
     let new = state g.S.Store c.execute.new.self.conn.now in
-    makes_by create_index [] old new c.execute.result _ (λ over. (c.execute.ensures.ended over).0) c.execute.ensures.survives clean
-    tables_schema record_schema (5 ∷ 3 ∷ 1 ∷ 0 ∷ []) (5 ∷ 3 ∷ 1 ∷ 0 ∷ []) c.requires.schema c.requires.blank (makes_index old new) (c.execute.ensures.runs clean)
+    indexes_by old new c.execute.result _ (λ over. (c.execute.ensures.ended over).0) c.execute.ensures.survives clean c.requires (c.execute.ensures.runs clean)

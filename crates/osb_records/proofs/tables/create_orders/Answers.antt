@@ -1,6 +1,6 @@
 use Rattle.std.proofs.Common.{[], ◌∷◌}
 use Rattle.sqlite.specs.Held.{state}
-use Rattle.osb_records.specs.Tables.{format_schema, orders_schema}
+use Rattle.osb_tables.specs.Tables.{format_schema, orders_schema}
 use Rattle.osb_records.proofs.Texts.{create_orders}
 use Rattle.osb_records.proofs.CreateLemmas.{makes_orders}
 use Rattle.osb_records.proofs.StepLemmas.{makes_by}

@@ -1,20 +1,39 @@
 -- The tables of the database.
-use Rattle.std.specs.Prelude.{true, false, [], ◌∷◌, List, ℕ, None, map, codes}
+use Rattle.std.specs.Prelude.{Bool, true, false, [], ◌∷◌, List, ℕ, None, map, codes}
+use Rattle.std.specs.Borrow.{Bor}
 use Rattle.sqlite.specs.Collation.TheVariants.{Binary}
 use Rattle.sqlite.specs.declared.types.Value.TheVariants.{Null}
 use Rattle.sqlite.specs.Table.{Table}
 use Rattle.sqlite.specs.Schema.{Schema}
 use Rattle.sqlite.specs.Change.{created, indexed}
+use Rattle.sqlite.specs.Kind.{Kind}
 use Rattle.sqlite.specs.Kind.TheVariants.{Integer, Text}
 use Rattle.sqlite_schema.specs.declared.schema.Column.{Column}
+use Rattle.sqlite_value.specs.declared.keys.Order.{Order}
 use Rattle.sqlite_schema.specs.declared.schema.Index.{Index}
+
+-- a column of a STRICT table
+abbrev pub column_of : List ℕ → Kind → Column
+column_of name kind = record { name = name; kind = kind; is_strict = true; not_null = true; default = Null; collation = Binary }
+
+-- those of these names and kinds
+abbrev pub columns_of : List (Bor (List ℕ) × Kind) → List Column
+columns_of columns = map (λ (column : Bor (List ℕ) × Kind). column_of column.0.now column.1) columns
 
 -- a column of texts, ordered by their bytes
 abbrev pub text_column : List ℕ → Column
-text_column name = record { name = name; kind = Text; is_strict = true; not_null = true; default = Null; collation = Binary }
+text_column name = column_of name Text
 
 abbrev pub number_column : List ℕ → Column
-number_column name = record { name = name; kind = Integer; is_strict = true; not_null = true; default = Null; collation = Binary }
+number_column name = column_of name Integer
+
+-- the keys of a table with this primary key, or with none, and their orders
+abbrev pub keys_of : List ℕ → List (List ℕ)
+keys_of [] = []
+keys_of (place ∷ places) = (place ∷ places) ∷ []
+
+abbrev pub orders_of : List ℕ → List Order
+orders_of key = map (λ _. record { digits = 0 }) (keys_of key)
 
 -- a table with these columns and the key of those places, if any, and no rule besides
 abbrev pub plain_table : List ℕ → ℕ → List Column → List ℕ → List (List ℕ) → Table
@@ -110,10 +129,29 @@ instances_schema = created orders_schema instances_table
 abbrev pub tables_schema : Schema
 tables_schema = created instances_schema bindings_table
 
+-- an index by the bytes of these columns
+abbrev pub index_of : List ℕ → ℕ → ℕ → List ℕ → Bool → Index
+index_of name tree table columns is_unique = record { name = name; tree = tree; table = table; columns = columns; order = record { digits = 0 }; is_unique = is_unique }
+
+abbrev pub busy_name : List ℕ
+busy_name = codes "busy_instances"
+
 -- the instances by whether their last order runs, and then by their ids
 abbrev pub busy_index : Index
-busy_index = record { name = codes "busy_instances"; tree = 0; table = 3; columns = 3 ∷ 1 ∷ []; order = record { digits = 0 }; is_unique = false }
+busy_index = index_of busy_name 0 3 (3 ∷ 1 ∷ []) false
 
 -- the four tables and the index
 abbrev pub record_schema : Schema
 record_schema = indexed tables_schema instances_table busy_index
+
+-- the indexes that the keys have, by name
+abbrev pub key_indexes : List Index
+key_indexes =
+    index_of (codes "sqlite_autoindex_orders_1") 2 1 (1 ∷ 2 ∷ []) true
+    ∷ index_of (codes "sqlite_autoindex_instances_1") 4 3 (1 ∷ []) true
+    ∷ index_of (codes "sqlite_autoindex_bindings_1") 6 5 (1 ∷ 2 ∷ []) true
+    ∷ []
+
+-- the index as it stands in the schema
+abbrev pub busy_found : Index
+busy_found = record busy_index { tree = 7 }

@@ -1,0 +1,8 @@
+pub mod RisingLemmas
+pub mod TreeLemmas
+pub mod LifeLemmas
+pub mod RunLemmas
+pub mod LivesLemmas
+pub mod StandLemmas
+pub mod SetLemmas
+pub mod PlanLemmas

@@ -1,0 +1,17 @@
+//! Whether lists of orders and of rows are those of well-formed lives, and which plans the rows use.
+#![tactic(auto)]
+
+mod audit;
+mod bindings;
+mod entry;
+mod life;
+mod plans;
+mod rising;
+mod worded;
+
+pub use audit::are_rows_of_lives;
+pub use entry::BindingEntry;
+pub use plans::plans_in_use;
+
+#[cfg(test)]
+mod tests;

@@ -1,0 +1,32 @@
+use Rattle.std.proofs.Common.{rules, ◌≡◌, ap, subst}
+use Rattle.sqlite.specs.Held.{state}
+use Rattle.sqlite.specs.Effect.{Database}
+use Rattle.sqlite.specs.State.{HasCleanDisk}
+use Rattle.sqlite.proofs.StateLemmas.{survives_weaker}
+use Rattle.osb_records.specs.Opened.{HoldsSame}
+use Rattle.osb_records.proofs.IndexLemmas.{completed_same}
+use Rattle.osb_records.proofs.adopt.complete_tables.Goals as goal
+
+pub returns-in_err-commit-clause-crash : goal.returns-in_err-commit-clause-crash
+returns-in_err-commit-clause-crash g c =
+    let old = state g.S.Store c.args.conn.now in
+    let begun = state g.S.Store c.transaction-tx.result.conn.now in
+    let mid = state g.S.Store c.index_tables.new.tx.conn.now in
+    let same : begun.now ≡ old.now = ap (λ held. (state g.S.Store held).now) c.transaction-tx.ensures.begun in
+    survives_weaker _ _ (λ db. db ≡ mid.now.trees) (HoldsSame old.now) (λ clean db is.
+    let before : HasCleanDisk mid = search rules in
+    let lives = c.in_ok-index_tables.ensures.lives before in
+    subst (λ (d : Database). HoldsSame d db) same (completed_same begun mid db lives.0 lives.1 (c.in_ok-index_tables.ensures.ok before) is))
+    (search rules)
+
+pub returns-clause-crash : goal.returns-clause-crash
+returns-clause-crash g c =
+    let old = state g.S.Store c.args.conn.now in
+    let begun = state g.S.Store c.transaction-tx.result.conn.now in
+    let mid = state g.S.Store c.index_tables.new.tx.conn.now in
+    let same : begun.now ≡ old.now = ap (λ held. (state g.S.Store held).now) c.transaction-tx.ensures.begun in
+    survives_weaker _ _ (λ db. db ≡ mid.now.trees) (HoldsSame old.now) (λ clean db is.
+    let before : HasCleanDisk mid = search rules in
+    let lives = c.in_ok-index_tables.ensures.lives before in
+    subst (λ (d : Database). HoldsSame d db) same (completed_same begun mid db lives.0 lives.1 (c.in_ok-index_tables.ensures.ok before) is))
+    (search rules)

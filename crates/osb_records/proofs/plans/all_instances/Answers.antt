@@ -1,0 +1,15 @@
+use Rattle.std.proofs.Common.{sym}
+use Rattle.sqlite.specs.Held.{state}
+use Rattle.osb_records.specs.Steps.{content}
+use Rattle.osb_records.proofs.StepLemmas.{clean_before}
+use Rattle.osb_records.proofs.ViewLemmas.{if_ok_with}
+use Rattle.osb_records.proofs.plans.all_instances.Goals as goal
+
+pub returns-clause-ok : goal.returns-clause-ok
+returns-clause-ok g c clean =
+    let old = state g.S.Store c.args.tx.now.conn.now in
+    let new = state g.S.Store c.read_instances.new.tx.conn.now in
+    if_ok_with c.read_instances.result (λ entries same list.
+    let records = c.requires (clean_before old new _ c.read_instances.ensures.survives clean) same.0.was_open in
+    sym (list.only (content old).instances records.tables.holds.instances))
+    (c.read_instances.ensures.same clean) (c.read_instances.ensures.ok clean)

@@ -1,0 +1,25 @@
+use Rattle.std.proofs.Common.{ap, ◌≤◌, length, ◌∙◌, []}
+use Rattle.sqlite.specs.Held.{state}
+use Rattle.sqlite.specs.Effect.{Database}
+use Rattle.osb_orders.specs.Listing.{listing}
+use Rattle.osb_records.specs.Stored.{lives_stored}
+use Rattle.osb_records.specs.Steps.{stored}
+use Rattle.osb_records.proofs.PlanLemmas.{rows_rise, rows_stand, just_enough}
+use Rattle.osb_records.proofs.StepLemmas.{clean_before}
+use Rattle.osb_records.proofs.plans.list_plans.Goals as goal
+
+pub returns-clause-ok : goal.returns-clause-ok
+returns-clause-ok g c clean =
+    let old = state g.S.Store c.args.tx.now.conn.now in
+    let mid = state g.S.Store c.all_instances.new.tx.conn.now in
+    let new = state g.S.Store c.list_running.new.tx.conn.now in
+    let before = clean_before mid new _ c.list_running.ensures.survives clean in
+    let same = c.in_ok-instances.ensures.same before in
+    let are = c.in_ok-instances.ensures.ok before in
+    let records = c.requires (clean_before old mid _ c.all_instances.ensures.survives before) same.0.was_open in
+    let instances = c.in_ok-instances.instances.items in
+    let limit = c.in_ok-limit.limit in
+    let few : length instances ≤ limit = just_enough instances limit (c.in_ok-limit.ensures ∙ ap length c.deref.ensures.value) in
+    let running = c.in_ok-running.ensures.ok clean ∙ ap (λ (d : Database). listing (lives_stored d.trees) [] limit) same.0.now_is in
+    let told = rw (c.deref-2.ensures.value, c.deref-3.ensures.value) at c.in_ok-plans_in_use.ensures in
+    told (stored old) limit records.lives (rows_rise old records instances are) (rows_stand old records instances are) few running

@@ -1,0 +1,137 @@
+//! Taking over a database.
+
+ghost use Rattle.std.specs.Prelude.{◌≡◌, ◌↔◌, true, Err, IsTrue, IfOk, IfErr, OnOk, OnErr};
+ghost use Rattle.std.specs.FinMap.{empty};
+ghost use Rattle.sqlite.specs.Held.{state};
+ghost use Rattle.sqlite.specs.State.{HasCleanDisk, KeepsCommit, Survives};
+ghost use Rattle.osb_orders.specs.Lives.{Lives};
+ghost use Rattle.osb_tables.specs.Tables.{no_schema, tables_schema, record_schema};
+ghost use Rattle.osb_records.specs.declared.fault.StoreFault.TheVariants as faults;
+ghost use Rattle.osb_records.specs.Opened.{StoreLives, StandIn, HoldsSame};
+ghost use Rattle.osb_records.specs.Steps.{ShowsSchema, HoldsLives, IsSettled, IsReady, Writes, stored};
+
+use crate::fault::StoreFault;
+use crate::tables::{create_index, make_tables};
+use crate::whole::are_tables_whole;
+use osb_tables::{Found, find};
+use sqlite::{Alter, Connection, Transaction};
+use std::alloc::Global;
+
+/// Whether the tables are those of well-formed lives.
+fn check_tables<S: Alter>(conn: &mut Connection<S>, alloc: Global) -> Result<bool, StoreFault>
+    requires settled { IsSettled (state S.Store conn.old) }
+    requires schema { ShowsSchema record_schema (state S.Store conn.old) }
+    ensures settled { IsSettled (state S.Store conn.new) }
+    ensures ok { HasCleanDisk (state S.Store conn.new) → IfOk result (λ whole. (whole ≡ true) ↔ StoreLives (state S.Store conn.old).now.trees) }
+    ensures schema { HasCleanDisk (state S.Store conn.new) → OnOk result ((state S.Store conn.old).now.schema ≡ record_schema) }
+    ensures same { HasCleanDisk (state S.Store conn.new) → IsTrue (state S.Store conn.new).is_open → (state S.Store conn.new).now ≡ (state S.Store conn.old).now }
+    ensures crash { Survives (state S.Store conn.old) (state S.Store conn.new) (λ _. ⊥) }
+{
+    let mut tx = conn.transaction();
+    let whole = are_tables_whole(&mut tx, alloc)?;
+    tx.rollback();
+    Ok(whole)
+}
+
+/// Takes the tables as they are, if they are those of well-formed lives.
+#[tactic(auto, using(crate::proofs::OpenedLemmas::ready_by))]
+fn take_tables<S: Alter>(conn: &mut Connection<S>, alloc: Global) -> Result<(), StoreFault>
+    requires settled { IsSettled (state S.Store conn.old) }
+    requires schema { ShowsSchema record_schema (state S.Store conn.old) }
+    ensures settled { IsSettled (state S.Store conn.new) }
+    ensures ready { OnOk result (IsReady (state S.Store conn.new)) }
+    ensures ok { HasCleanDisk (state S.Store conn.new) → OnOk result (StoreLives (state S.Store conn.old).now.trees) }
+    ensures schema { HasCleanDisk (state S.Store conn.new) → OnOk result ((state S.Store conn.old).now.schema ≡ record_schema) }
+    ensures not_ours { HasCleanDisk (state S.Store conn.new) → result ≡ Err faults.NotOurs → ¬ StoreLives (state S.Store conn.old).now.trees }
+    ensures same { HasCleanDisk (state S.Store conn.new) → IsTrue (state S.Store conn.new).is_open → (state S.Store conn.new).now ≡ (state S.Store conn.old).now }
+    ensures crash { Survives (state S.Store conn.old) (state S.Store conn.new) (λ _. ⊥) }
+{
+    match check_tables(conn, alloc) {
+        Ok(true) => Ok(()),
+        Ok(false) => Err(StoreFault::NotOurs),
+        Err(_) => Err(StoreFault::Refused),
+    }
+}
+
+/// Makes the index beside the tables, if these are of well-formed lives.
+fn index_tables<S: Alter>(tx: &mut Transaction<'_, S>, alloc: Global) -> Result<(), StoreFault>
+    requires { ShowsSchema tables_schema (state S.Store tx.old.conn.now) }
+    ensures same_reference { tx.new.conn.ghost_name ≡ tx.old.conn.ghost_name }
+    ensures ok { HasCleanDisk (state S.Store tx.new.conn.now) → OnOk result (Writes (state S.Store tx.old.conn.now) (state S.Store tx.new.conn.now) (stored (state S.Store tx.old.conn.now))) }
+    ensures lives { HasCleanDisk (state S.Store tx.new.conn.now) → OnOk result (((state S.Store tx.old.conn.now).now.schema ≡ tables_schema) × StoreLives (state S.Store tx.old.conn.now).now.trees) }
+    ensures not_ours { HasCleanDisk (state S.Store tx.new.conn.now) → result ≡ Err faults.NotOurs → ¬ StoreLives (state S.Store tx.old.conn.now).now.trees }
+    ensures kept { HasCleanDisk (state S.Store tx.new.conn.now) → IsTrue (state S.Store tx.old.conn.now).in_transaction → KeepsCommit (state S.Store tx.old.conn.now) (state S.Store tx.new.conn.now) }
+    ensures survives { Survives (state S.Store tx.old.conn.now) (state S.Store tx.new.conn.now) (λ _. ⊥) }
+{
+    create_index(tx)?;
+    match are_tables_whole(tx, alloc) {
+        Ok(true) => Ok(()),
+        Ok(false) => Err(StoreFault::NotOurs),
+        Err(_) => Err(StoreFault::Refused),
+    }
+}
+
+/// Takes the tables of a database that lacks the index, and makes it: one transaction that writes
+/// nothing else.
+#[tactic(auto, using(crate::proofs::IndexLemmas::completed_same))]
+fn complete_tables<S: Alter>(conn: &mut Connection<S>, alloc: Global) -> Result<(), StoreFault>
+    requires settled { IsSettled (state S.Store conn.old) }
+    requires schema { ShowsSchema tables_schema (state S.Store conn.old) }
+    ensures ready { OnOk result (IsReady (state S.Store conn.new)) }
+    ensures ok { HasCleanDisk (state S.Store conn.new) → OnOk result (StandIn (state S.Store conn.old).now (stored (state S.Store conn.new))) }
+    ensures err { HasCleanDisk (state S.Store conn.new) → IsTrue (state S.Store conn.new).is_open → OnErr result ((state S.Store conn.new).now ≡ (state S.Store conn.old).now) }
+    ensures not_ours { HasCleanDisk (state S.Store conn.new) → result ≡ Err faults.NotOurs → ¬ StoreLives (state S.Store conn.old).now.trees }
+    ensures crash { Survives (state S.Store conn.old) (state S.Store conn.new) (HoldsSame (state S.Store conn.old).now) }
+{
+    let mut tx = conn.transaction();
+    index_tables(&mut tx, alloc)?;
+    tx.commit()?;
+    Ok(())
+}
+
+/// Makes the tables in a database that has none.
+#[tactic(auto, using(crate::proofs::OpenedLemmas::empty_same))]
+fn make<S: Alter>(conn: &mut Connection<S>) -> Result<(), StoreFault>
+    requires settled { IsSettled (state S.Store conn.old) }
+    requires blank { ShowsSchema no_schema (state S.Store conn.old) }
+    ensures ready { OnOk result (IsReady (state S.Store conn.new)) }
+    ensures ok { HasCleanDisk (state S.Store conn.new) → OnOk result (stored (state S.Store conn.new) ≡ empty) }
+    ensures err { HasCleanDisk (state S.Store conn.new) → IsTrue (state S.Store conn.new).is_open → OnErr result ((state S.Store conn.new).now ≡ (state S.Store conn.old).now) }
+    ensures refused { IfErr result (λ fault. fault ≡ faults.Refused) }
+    ensures crash { Survives (state S.Store conn.old) (state S.Store conn.new) (HoldsLives empty) }
+{
+    make_tables(conn)?;
+    Ok(())
+}
+
+/// Takes over a database that no transaction is open on, or leaves it as it was.
+fn take_settled<S: Alter>(conn: &mut Connection<S>, alloc: Global) -> Result<(), StoreFault>
+    requires { IsSettled (state S.Store conn.old) }
+    ensures ready { OnOk result (IsReady (state S.Store conn.new)) }
+    ensures ok { HasCleanDisk (state S.Store conn.new) → IsTrue (state S.Store conn.new).is_open → OnOk result (StandIn (state S.Store conn.old).now (stored (state S.Store conn.new))) }
+    ensures err { HasCleanDisk (state S.Store conn.new) → IsTrue (state S.Store conn.new).is_open → OnErr result ((state S.Store conn.new).now ≡ (state S.Store conn.old).now) }
+    ensures not_ours { HasCleanDisk (state S.Store conn.new) → result ≡ Err faults.NotOurs → (lives : Lives) → ¬ StandIn (state S.Store conn.old).now lives }
+    ensures crash { Survives (state S.Store conn.old) (state S.Store conn.new) (HoldsSame (state S.Store conn.old).now) }
+{
+    match find(conn.schema()) {
+        Found::Nothing => make(conn),
+        Found::All => take_tables(conn, alloc),
+        Found::Tables => complete_tables(conn, alloc),
+        Found::Others => Err(StoreFault::NotOurs),
+    }
+}
+
+/// The same, where a transaction may be open.
+pub(crate) fn take_over<S: Alter>(conn: &mut Connection<S>, alloc: Global) -> Result<(), StoreFault>
+    ensures ready { OnOk result (IsReady (state S.Store conn.new)) }
+    ensures ok { HasCleanDisk (state S.Store conn.new) → IsTrue (state S.Store conn.new).is_open → OnOk result (StandIn (state S.Store conn.old).now (stored (state S.Store conn.new))) }
+    ensures err { HasCleanDisk (state S.Store conn.new) → IsTrue (state S.Store conn.new).is_open → OnErr result ((state S.Store conn.new).now ≡ (state S.Store conn.old).now) }
+    ensures not_ours { HasCleanDisk (state S.Store conn.new) → result ≡ Err faults.NotOurs → (lives : Lives) → ¬ StandIn (state S.Store conn.old).now lives }
+    ensures crash { Survives (state S.Store conn.old) (state S.Store conn.new) (HoldsSame (state S.Store conn.old).now) }
+{
+    if conn.is_autocommit() {
+        take_settled(conn, alloc)
+    } else {
+        Err(StoreFault::Refused)
+    }
+}
