@@ -5,6 +5,7 @@ use crate::catalogs::built_in;
 use crate::exchange::{Exchange, request};
 use crate::rows::{bindings, instances};
 use crate::serving::after;
+use crate::standing::standing_by;
 use osb_asks::{Ask, AskFault, read_ask};
 use osb_catalog::Settings;
 use osb_frames::{Limits, Step as Front, next};
@@ -116,35 +117,36 @@ fn have_one_life(
     }
 }
 
-/// Makes the change of an ask to the plain lives, and fails where the records are others.
+/// Makes the change of an ask to the plain lives, and fails where the records are others. What stands
+/// by the view for the ask.
 fn are_beside(
     alloc: Global,
     settings: &Settings,
     records: &mut Records<MemStore>,
     plain: &mut PlainLives,
     ask: &Ask,
-) -> Result<(), Fail> {
+) -> Result<String, Fail> {
     let change = change_by(alloc, settings, plain, ask)?;
     make_plainly(alloc, plain, ask, change)?;
     have_one_view(alloc, records, plain, ask)?;
-    match ask.instance() {
-        Some(instance) => have_one_life(alloc, records, plain, instance.as_str()),
-        None => Ok(()),
+    if let Some(instance) = ask.instance() {
+        have_one_life(alloc, records, plain, instance.as_str())?;
     }
+    standing_by(alloc, records, ask)
 }
 
-/// The same for the ask of an exchange, where it has one.
-fn stay_beside_once(
+/// The same for the ask of an exchange. A request without an ask tells nothing.
+pub(crate) fn stay_beside_once(
     alloc: Global,
     settings: &Settings,
     records: &mut Records<MemStore>,
     plain: &mut PlainLives,
     exchange: Exchange,
-) -> Result<(), Fail> {
+) -> Result<String, Fail> {
     let bytes = request(alloc, exchange.0, exchange.1)?;
     match ask_of(alloc, settings, bytes.as_slice()) {
         Ok(ask) => are_beside(alloc, settings, records, plain, &ask),
-        Err(_) => Ok(()),
+        Err(_) => Ok(String::new(alloc)),
     }
 }
 
@@ -155,7 +157,7 @@ fn stay_beside(alloc: Global, exchanges: &[Exchange]) -> Result<(), Fail> {
     let mut plain = PlainLives::new(alloc);
     for exchange in exchanges {
         records = after(alloc, &settings, records, *exchange)?;
-        stay_beside_once(alloc, &settings, &mut records, &mut plain, *exchange)?;
+        let _ = stay_beside_once(alloc, &settings, &mut records, &mut plain, *exchange)?;
     }
     Ok(())
 }

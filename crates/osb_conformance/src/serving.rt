@@ -103,8 +103,22 @@ pub(crate) fn goes(alloc: Global, exchanges: &[Exchange]) -> Result<(), Fail> {
     goes_over(alloc, &settings, exchanges)
 }
 
-/// Fails where a broker without orders, which takes so many requests of a connection, writes
-/// something else to these bytes.
+/// What a broker without orders, which takes so many requests of a connection, writes to these bytes.
+fn outputs_over(
+    alloc: Global,
+    settings: &Settings,
+    per_connection: u32,
+    bytes: &[u8],
+) -> Result<Vec<Vec<u8>>, Fail>
+    requires some { 1 ≤ per_connection }
+    requires few { per_connection ≤ 1000 }
+{
+    let connection = joined(alloc, &[bytes])?;
+    let mut broker = Broker::new(alloc, settings, open_memory(alloc)?, per_connection);
+    Ok(broker.serve_all(&[connection])?)
+}
+
+/// Fails where it writes something else than the text.
 pub(crate) fn answers(
     alloc: Global,
     per_connection: u32,
@@ -115,10 +129,7 @@ pub(crate) fn answers(
     requires few { per_connection ≤ 1000 }
 {
     let settings = built_in(alloc)?;
-    let mut broker = Broker::new(alloc, &settings, open_memory(alloc)?, per_connection);
-    let mut connection = Vec::new(alloc);
-    connection.extend_from_slice(bytes)?;
-    let outputs = broker.serve_all(&[connection])?;
+    let outputs = outputs_over(alloc, &settings, per_connection, bytes)?;
     match outputs.as_slice() {
         [output] if output.as_slice() == text => Ok(()),
         _ => Err("another text")?,

@@ -1,14 +1,15 @@
 //! What stands of the instance `i` after each request of some conversations, and the life that it
 //! has in the end, read off the orders by hand.
 
+use crate::beside::stay_beside_once;
 use crate::catalogs::built_in;
 use crate::exchange::Exchange;
 use crate::rows::{bindings, instances};
 use crate::serving::after;
-use osb_asks::{Ask, Fetch, Id};
-use osb_orders::{Attributes, Order, View};
+use osb_asks::Ask;
+use osb_catalog::Settings;
+use osb_orders::{Attributes, Order, PlainLives, View};
 use osb_records::{Records, memory, open_memory};
-use osb_text::Text;
 use sqlite::MemStore;
 use std::alloc::{AllocError, Global};
 use std::test::Fail;
@@ -48,24 +49,14 @@ fn order_line(alloc: Global, order: &Order) -> Result<String, Fail> {
     Ok(line)
 }
 
-/// The ask for the instance `i`.
-fn fetch(alloc: Global) -> Result<Ask, Fail> {
-    match Id::new(Text::from_str(alloc, "i")?) {
-        Some(instance) => Ok(Ask::Fetch(Fetch { instance })),
-        None => Err("an id")?,
-    }
-}
-
 /// What stands by the view for an ask.
-fn standing_by(alloc: Global, records: &mut Records<MemStore>, ask: &Ask) -> Result<String, Fail> {
+pub(crate) fn standing_by(
+    alloc: Global,
+    records: &mut Records<MemStore>,
+    ask: &Ask,
+) -> Result<String, Fail> {
     let view = memory::view(records, alloc, ask)?;
     standing_line(alloc, &view)
-}
-
-/// What stands of `i` by the view for a fetch of it.
-fn standing(alloc: Global, records: &mut Records<MemStore>) -> Result<String, Fail> {
-    let ask = fetch(alloc)?;
-    standing_by(alloc, records, &ask)
 }
 
 /// Fails where this isn't that order.
@@ -90,20 +81,25 @@ fn has_orders(alloc: Global, records: &mut Records<MemStore>, orders: &[&str]) -
     Ok(())
 }
 
-/// Fails where something else stands of `i`.
+/// The ask for the instance `i`.
+const FETCH: Exchange = ("GET /v2/service_instances/i", "", "", "");
+
+/// Fails where after an exchange something else stands of `i`.
 fn is_standing(
     alloc: Global,
+    settings: &Settings,
     records: &mut Records<MemStore>,
-    line: &str,
+    plain: &mut PlainLives,
+    exchange: Exchange,
     expected: &str,
 ) -> Result<(), Fail> {
-    let found = standing(alloc, records)?;
+    stay_beside_once(alloc, settings, records, plain, exchange)?;
+    let found = stay_beside_once(alloc, settings, records, plain, FETCH)?;
     if found.as_str() == expected {
-        Ok(())
-    } else {
-        let told = format!(in alloc; "after {line}: {found}, not {expected}")?;
-        Err(Fail::from(told))
+        return Ok(());
     }
+    let told = format!(in alloc; "after {}: {found}, not {expected}", exchange.0)?;
+    Err(Fail::from(told))
 }
 
 /// Fails where after an exchange something else stands of `i`, or in the end it has other orders.
@@ -115,9 +111,17 @@ fn stands(
 ) -> Result<(), Fail> {
     let settings = built_in(alloc)?;
     let mut records = open_memory(alloc)?;
+    let mut plain = PlainLives::new(alloc);
     for (exchange, expected) in exchanges.iter().zip(standings) {
         records = after(alloc, &settings, records, *exchange)?;
-        is_standing(alloc, &mut records, exchange.0, expected)?;
+        is_standing(
+            alloc,
+            &settings,
+            &mut records,
+            &mut plain,
+            *exchange,
+            expected,
+        )?;
     }
     has_orders(alloc, &mut records, orders)
 }
