@@ -1,0 +1,6 @@
+//! The records in a database file.
+#![tactic(auto)]
+
+mod file;
+
+pub use file::open_file;
