@@ -1,14 +1,14 @@
 //! Who is let in, and by which route. Nothing here takes memory.
 
-ghost use Rattle.std.specs.Prelude.{◌≡◌};
+ghost use Rattle.std.specs.Prelude.{◌≡◌, option_map};
 ghost use Rattle.osb_frames.specs.Steps.{message};
 ghost use Rattle.osb_catalog.specs.Rules.{rules_of};
 ghost use Rattle.osb_asks.specs.Admission as spec;
-ghost use Rattle.osb_asks.specs.Seen.{seen_route};
+ghost use Rattle.osb_asks.specs.Seen.{seen_entry, seen_route};
 
 use crate::ask_fault::AskFault;
 use crate::credentials::is_login;
-use crate::door::{Door, entry_of};
+use crate::door::{Door, Entry, entry_of};
 use crate::place::place_at;
 use crate::route::{Route, method_of, route_at};
 use crate::version::is_version;
@@ -42,6 +42,15 @@ fn has_version(request: &Request<'_>, door: Door) -> bool
     }
 }
 
+/// The route of that method and what it leads to behind the door.
+fn route_of<'a>(name: &[u8], entry: Entry<'a>) -> Option<Route<'a>>
+    ensures { option_map seen_route result ≡ spec.route_of name.now (seen_entry entry.entry) }
+{
+    let method = method_of(name)?;
+    let place = place_at(entry.door, entry.segments)?;
+    route_at(method, place)
+}
+
 /// The route that the request takes, or the first fault that keeps it out.
 pub(crate) fn admit<'a>(request: &Request<'a>, settings: &Settings) -> Result<Route<'a>, AskFault>
     ensures { spec.Admits seen_route result (spec.admit_of (rules_of settings.now) (message request.now)) }
@@ -55,13 +64,7 @@ pub(crate) fn admit<'a>(request: &Request<'a>, settings: &Settings) -> Result<Ro
     if !has_version(request, entry.door) {
         return Err(AskFault::Version);
     }
-    let Some(method) = method_of(request.method) else {
-        return Err(AskFault::NoRoute);
-    };
-    let Some(place) = place_at(entry.door, entry.segments) else {
-        return Err(AskFault::NoRoute);
-    };
-    match route_at(method, place) {
+    match route_of(request.method, entry) {
         Some(route) => Ok(route),
         None => Err(AskFault::NoRoute),
     }
