@@ -20,17 +20,17 @@ one : (text word id : List ℕ) → names_one text word id ≡ true → (word �
 one text word id e = let both = and_parts (bytes_eq word text) _ e in (same word text both.0, grind (arith, nat_tests))
 
 binding_leads : (first i third b : List ℕ) (rest : List (List ℕ)) → (first ≡ codes "service_instances") × (0 < length i) → (third ≡ codes "service_bindings") × (0 < length b) → IfSome (of_binding i b rest) (IsPathOf Platform (first ∷ i ∷ third ∷ b ∷ rest))
-binding_leads first i third b [] h k = record { door_is = refl; path_is = rw (h.0, k.0) refl; ids = (h.1, k.1) }
+binding_leads first i third b [] h k = record { door_is = refl; path_is = rw (h.0, k.0) refl; ids = (h.1, (k.1, tt)) }
 binding_leads first i third b (word ∷ []) h k =
     passed Platform _ (bytes_eq word (codes "last_operation")) (Some (binding_operation i b))
-    (λ e. record { door_is = refl; path_is = rw (h.0, k.0, same word _ e) refl; ids = (h.1, k.1) })
+    (λ e. record { door_is = refl; path_is = rw (h.0, k.0, same word _ e) refl; ids = (h.1, (k.1, tt)) })
 binding_leads first i third b (x ∷ y ∷ rest) h k = tt
 
 instance_leads : (first i : List ℕ) (rest : List (List ℕ)) → (first ≡ codes "service_instances") × (0 < length i) → IfSome (of_instance i rest) (IsPathOf Platform (first ∷ i ∷ rest))
-instance_leads first i [] h = record { door_is = refl; path_is = rw h.0 refl; ids = h.1 }
+instance_leads first i [] h = record { door_is = refl; path_is = rw h.0 refl; ids = (h.1, tt) }
 instance_leads first i (word ∷ []) h =
     passed Platform _ (bytes_eq word (codes "last_operation")) (Some (instance_operation i))
-    (λ e. record { door_is = refl; path_is = rw (h.0, same word _ e) refl; ids = h.1 })
+    (λ e. record { door_is = refl; path_is = rw (h.0, same word _ e) refl; ids = (h.1, tt) })
 instance_leads first i (word ∷ b ∷ rest) h =
     passed Platform _ (names_one (codes "service_bindings") word b) (of_binding i b rest)
     (λ e. binding_leads first i word b rest h (one _ word b e))
@@ -40,7 +40,7 @@ orders_lead [] = record { door_is = refl; path_is = refl; ids = tt }
 orders_lead (i ∷ []) = tt
 orders_lead (i ∷ number ∷ []) =
     passed Backend _ (not (length i == 0)) (Some (order i number))
-    (λ e. record { door_is = refl; path_is = refl; ids = grind (arith, nat_tests) })
+    (λ e. record { door_is = refl; path_is = refl; ids = (grind (arith, nat_tests), tt) })
 orders_lead (i ∷ number ∷ x ∷ rest) = tt
 
 leads : (door : Door) (segments : List (List ℕ)) → IfSome (place_at door segments) (IsPathOf door segments)
@@ -63,12 +63,12 @@ kept i o h = cond-true (not (length i == 0)) o None (grind (arith, nat_tests))
 
 back : (named : Named) → HasIds named → place_at (door_of named) (path_to named) ≡ Some named
 back catalog h = refl
-back (instance i) h = kept i _ h
-back (instance_operation i) h = kept i _ h
-back (binding i b) h = kept i _ h.0 ∙ kept b _ h.1
-back (binding_operation i b) h = kept i _ h.0 ∙ kept b _ h.1
+back (instance i) h = kept i _ h.0
+back (instance_operation i) h = kept i _ h.0
+back (binding i b) h = kept i _ h.0 ∙ kept b _ h.1.0
+back (binding_operation i b) h = kept i _ h.0 ∙ kept b _ h.1.0
 back orders h = refl
-back (order i n) h = kept i _ h
+back (order i n) h = kept i _ h.0
 
 pub one_place : (door : Door) (segments : List (List ℕ)) (named : Named) → (place_at door segments ≡ Some named) ↔ IsPathOf door segments named
 one_place door segments named = (

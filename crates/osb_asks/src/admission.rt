@@ -23,10 +23,9 @@ fn is_let_in(request: &Request<'_>, door: Door, settings: &Settings) -> bool
         Door::Platform => settings.platform_token(),
         Door::Backend => settings.backend_token(),
     };
-    match request.field(b"authorization") {
-        Some(value) => is_login(token.as_bytes(), value),
-        None => false,
-    }
+    request
+        .field(b"authorization")
+        .is_some_and(|value| is_login(token.as_bytes(), value))
 }
 
 /// Whether the request names a version that is spoken, where the door asks for one.
@@ -34,10 +33,9 @@ fn has_version(request: &Request<'_>, door: Door) -> bool
     ensures { result ≡ spec.has_version door (message request.now).lines }
 {
     match door {
-        Door::Platform => match request.field(b"x-broker-api-version") {
-            Some(value) => is_version(value),
-            None => false,
-        },
+        Door::Platform => request
+            .field(b"x-broker-api-version")
+            .is_some_and(|value| is_version(value)),
         Door::Backend => true,
     }
 }
