@@ -15,17 +15,16 @@ use Rattle.osb_asks.specs.declared.ask.Bind.{Bind}
 use Rattle.osb_asks.specs.declared.ask.Report.{Report}
 use Rattle.osb_asks.specs.declared.ask.Ask.{Ask}
 use Rattle.osb_asks.specs.declared.ask.Ask.TheVariants as ask
-use Rattle.osb_asks.specs.Reads.{Reads}
+use Rattle.osb_asks.specs.Reads.{Reads, ◌>>=◌, needed}
 use Rattle.osb_asks.specs.Ids as id
 use Rattle.osb_asks.specs.Queries as query
 use Rattle.osb_asks.specs.Bodies as body
 use Rattle.osb_asks.specs.Offers.{has_service, has_plan, has_given_plan}
 use Rattle.osb_asks.specs.Targets.{query_of}
-use Rattle.osb_asks.specs.Doors.{Entrance, entry_of}
-use Rattle.osb_asks.specs.Places.{place_at}
-use Rattle.osb_asks.specs.Routes.{Routed, method_of}
+use Rattle.osb_asks.specs.Doors.{entry_of}
+use Rattle.osb_asks.specs.Routes.{Routed}
 use Rattle.osb_asks.specs.Routes as route
-use Rattle.osb_asks.specs.Admission.{is_let_in, has_version, route_by, or_no_route, admit_at, admit_of}
+use Rattle.osb_asks.specs.Admission.{is_let_in, has_version, route_of, admit_at, admit_of}
 use Rattle.osb_asks.specs.Instances.{provision_in, provision_of, fetch_of, update_in, update_of, deprovision_of, instance_op_of}
 use Rattle.osb_asks.specs.Bindings.{bind_in, bind_of, fetch_binding_of, unbind_of, binding_op_of}
 use Rattle.osb_asks.specs.Backend.{orders_of, report_in, report_of}
@@ -220,22 +219,26 @@ unless_kept_out : (b : Bool) (e : AskFault) (later : Result Routed AskFault) →
 unless_kept_out true e later other h = record { admitted = other }
 unless_kept_out false e later other h = h
 
-routed : (o : Option Routed) → IsAdmitted (or_no_route o)
+needed_or : {A : Type 0} (e : AskFault) (o : Option A) (f : A → Result Routed AskFault) → e ≢ fault.Memory → ((x : A) → IsAdmitted (f x)) → IsAdmitted (needed e o >>= f)
+needed_or e None f other later = record { admitted = other }
+needed_or e (Some x) f other later = later x
+
+routed : (o : Option Routed) → IsAdmitted (needed fault.NoRoute o)
 routed None = record { admitted = λ is. cc }
 routed (Some r) = record { admitted = tt }
 
-admission : (rules : Rules) (m : Message) (e : Option Entrance) → IsAdmitted (admit_at rules m e)
-admission rules m None = record { admitted = λ is. cc }
-admission rules m (Some e) =
-    unless_kept_out (not (is_let_in rules e.door m.lines)) fault.Auth _ (λ is. cc)
-    (unless_kept_out (not (has_version e.door m.lines)) fault.Version _ (λ is. cc) (routed (route_by (place_at e.door e.behind) (method_of m.method))))
+admission : (rules : Rules) (m : Message) → IsAdmitted (admit_of rules m)
+admission rules m =
+    needed_or fault.NoDoor (entry_of m.target) (admit_at rules m) (λ is. cc)
+    (λ e. unless_kept_out (not (is_let_in rules e.door m.lines)) fault.Auth _ (λ is. cc)
+    (unless_kept_out (not (has_version e.door m.lines)) fault.Version _ (λ is. cc) (routed (route_of m.method e))))
 
-told_by : (rules : Rules) (m : Message) (r : Result Routed AskFault) → IsAdmitted r → IsTold rules (asks.ask_by rules m r)
-told_by rules m (Ok r) h = told_at rules (query_of m.target) m.body r
-told_by rules m (Err e) h = record { told = h.admitted }
+told_by : (rules : Rules) (q b : List ℕ) (r : Result Routed AskFault) → IsAdmitted r → IsTold rules (r >>= asks.ask_at rules q b)
+told_by rules q b (Ok r) h = told_at rules q b r
+told_by rules q b (Err e) h = record { told = h.admitted }
 
 told_of : (rules : Rules) (m : Message) → IsTold rules (asks.ask_of rules m)
-told_of rules m = told_by rules m (admit_of rules m) (admission rules m (entry_of m.target))
+told_of rules m = told_by rules (query_of m.target) m.body (admit_of rules m) (admission rules m)
 
 pub never_memory : (rules : Rules) (m : Message) → asks.ask_of rules m ≢ Err fault.Memory
 never_memory rules m is = (subst (λ r. IsTold rules r) is (told_of rules m)).told refl

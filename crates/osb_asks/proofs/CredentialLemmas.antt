@@ -1,69 +1,48 @@
--- The test of a login, and the relation.
-use Rattle.std.proofs.Common.{◌≡◌, ◌≢◌, ◌↔◌, ℕ, zero, suc, ◌==◌, List, [], ◌∷◌, ◌++◌, replicate, take, drop, slice_index, codes, true, refl, ap, ap₂, ◌∙◌, arith, bytes_eq}
+-- The test of a login holds of just the logins.
+use Rattle.std.proofs.Common.{◌≡◌, ◌≢◌, ◌↔◌, ℕ, zero, suc, ◌==◌, List, [], ◌∷◌, ◌++◌, length, replicate, take, drop, slice_index, codes, true, refl, sym, ap, ap₂, ◌∙◌, bytes_eq}
 use Rattle.std.proofs.lemmas.Bool.{and_parts, and_from, cond_both, eqb-true, ne_eqb}
-use Rattle.std.proofs.lemmas.Bool.Decides.{nat_tests}
+use Rattle.std.proofs.lemmas.List.{take-append-drop, take_at, drop_at, length-map}
 use Rattle.std.proofs.lemmas.Slice.Eq.{bytes_eq-Decides}
 use Rattle.std.specs.Char.{to_ascii_lowercase}
 use Rattle.std.specs.Str.{str_to_ascii_lowercase}
-use Rattle.osb_asks.specs.Credentials.{after_spaces, is_login, IsLogin}
+use Rattle.osb_asks.specs.Credentials.{after_spaces, is_spaced, is_login, IsLogin}
 
-lower_space : (f : ℕ) → to_ascii_lowercase f ≡ 32 → f ≡ 32
-lower_space f e = grind (arith, nat_tests)
+-- spaces stand before what is after them
+spaces_before : (bytes : List ℕ) → (n : ℕ) × (bytes ≡ replicate n 32 ++ after_spaces bytes)
+spaces_before [] = (0, refl)
+spaces_before (byte ∷ bytes) =
+    let later = spaces_before bytes in
+    cond_both (byte == 32) (after_spaces bytes) (byte ∷ bytes) (λ after. (n : ℕ) × (byte ∷ bytes ≡ replicate n 32 ++ after))
+    (λ e. (suc later.0, ap₂ (λ x xs. x ∷ xs) (eqb-true byte 32 e) later.1)) (λ e. (0, refl))
 
-record Front (value : List ℕ) : Type 0 where
-  scheme : List ℕ
-  any_case : str_to_ascii_lowercase scheme ≡ codes "basic"
-  parts : value ≡ scheme ++ (32 ∷ drop 6 value)
+-- after spaces comes what doesn't begin with one
+after_those : (n : ℕ) (token : List ℕ) → slice_index token 0 ≢ 32 → after_spaces (replicate n 32 ++ token) ≡ token
+after_those zero [] other = refl
+after_those zero (byte ∷ bytes) other = rw (ne_eqb byte 32 other) refl
+after_those (suc n) token other = after_those n token other
 
-front : (value : List ℕ) → str_to_ascii_lowercase (take 6 value) ≡ codes "basic " → Front value
-front [] h = cc
-front (a ∷ []) h = cc
-front (a ∷ b ∷ []) h = cc
-front (a ∷ b ∷ c ∷ []) h = cc
-front (a ∷ b ∷ c ∷ d ∷ []) h = cc
-front (a ∷ b ∷ c ∷ d ∷ e ∷ []) h = cc
-front (a ∷ b ∷ c ∷ d ∷ e ∷ f ∷ rest) h =
-    let last : to_ascii_lowercase f ≡ 32 = cc in
-    record { scheme = a ∷ b ∷ c ∷ d ∷ e ∷ []; any_case = cc; parts = ap (λ x. a ∷ b ∷ c ∷ d ∷ e ∷ x ∷ rest) (lower_space f last) }
-
-spaces_first : (bs : List ℕ) → (n : ℕ) × (bs ≡ replicate n 32 ++ after_spaces bs)
-spaces_first [] = (0, refl)
-spaces_first (b ∷ bs) =
-    let more = spaces_first bs in
-    cond_both (b == 32) (after_spaces bs) (b ∷ bs) (λ r. (n : ℕ) × (b ∷ bs ≡ replicate n 32 ++ r))
-    (λ e. (suc more.0, ap₂ (λ x xs. x ∷ xs) (eqb-true b 32 e) more.1)) (λ e. (0, refl))
-
-after_token : (token : List ℕ) → slice_index token 0 ≢ 32 → after_spaces token ≡ token
-after_token [] h = refl
-after_token (b ∷ bs) h = rw (ne_eqb b 32 h) refl
-
-after_replicate : (n : ℕ) (token : List ℕ) → slice_index token 0 ≢ 32 → after_spaces (replicate n 32 ++ token) ≡ token
-after_replicate zero token h = after_token token h
-after_replicate (suc n) token h = after_replicate n token h
-
-back : (token scheme : List ℕ) (n : ℕ) → slice_index token 0 ≢ 32 → str_to_ascii_lowercase scheme ≡ codes "basic" → is_login token (scheme ++ (32 ∷ (replicate n 32 ++ token))) ≡ true
-back token [] n h e = cc
-back token (a ∷ []) n h e = cc
-back token (a ∷ b ∷ []) n h e = cc
-back token (a ∷ b ∷ c ∷ []) n h e = cc
-back token (a ∷ b ∷ c ∷ d ∷ []) n h e = cc
-back token (a ∷ b ∷ c ∷ d ∷ x ∷ []) n h e =
-    and_from _ _ ((bytes_eq-Decides (str_to_ascii_lowercase (a ∷ b ∷ c ∷ d ∷ x ∷ 32 ∷ [])) (codes "basic ")).1 (ap (λ s. s ++ 32 ∷ []) e))
-    ((bytes_eq-Decides _ token).1 (after_replicate n token h))
-back token (a ∷ b ∷ c ∷ d ∷ x ∷ y ∷ rest) n h e = cc
+spaced : (token bytes : List ℕ) → is_spaced token bytes ≡ true → (n : ℕ) × (bytes ≡ 32 ∷ (replicate n 32 ++ token))
+spaced token [] e = cc
+spaced token (byte ∷ bytes) e =
+    let both = and_parts (byte == 32) _ e in
+    let spaces = spaces_before bytes in
+    let then_token = spaces.1 ∙ ap (λ t. replicate spaces.0 32 ++ t) ((bytes_eq-Decides _ token).0 both.1) in
+    (spaces.0, ap₂ (λ x xs. x ∷ xs) (eqb-true byte 32 both.0) then_token)
 
 pub login_exact : (token value : List ℕ) → slice_index token 0 ≢ 32 → (is_login token value ≡ true) ↔ IsLogin token value
-login_exact token value h = (
+login_exact token value other = (
   λ e.
-      let both = and_parts (bytes_eq (str_to_ascii_lowercase (take 6 value)) (codes "basic ")) _ e in
-      let f = front value ((bytes_eq-Decides _ _).0 both.0) in
-      let s = spaces_first (drop 6 value) in
-      let token_is = (bytes_eq-Decides (after_spaces (drop 6 value)) token).0 both.1 in
+      let both = and_parts (bytes_eq (str_to_ascii_lowercase (take 5 value)) (codes "basic")) _ e in
+      let behind = spaced token (drop 5 value) both.1 in
       record {
-        scheme = f.scheme;
-        more_spaces = s.0;
-        any_case = f.any_case;
-        parts = f.parts ∙ ap (λ r. f.scheme ++ (32 ∷ r)) (s.1 ∙ ap (λ t. replicate s.0 32 ++ t) token_is);
+        scheme = take 5 value;
+        more_spaces = behind.0;
+        any_case = (bytes_eq-Decides _ _).0 both.0;
+        parts = sym (take-append-drop 5 value) ∙ ap (λ rest. take 5 value ++ rest) behind.1;
       },
-  λ l. ap (is_login token) l.parts ∙ back token l.scheme l.more_spaces h l.any_case,
+  λ l.
+      let rest = 32 ∷ (replicate l.more_spaces 32 ++ token) in
+      let five : length l.scheme ≡ 5 = sym (length-map l.scheme to_ascii_lowercase) ∙ ap length l.any_case in
+      rw (l.parts, take_at l.scheme rest 5 five, drop_at l.scheme rest 5 five)
+      (and_from _ _ ((bytes_eq-Decides _ _).1 l.any_case) ((bytes_eq-Decides _ _).1 (after_those l.more_spaces token other))),
 )

@@ -6,6 +6,7 @@ use Rattle.osb_asks.specs.declared.ask_fault.AskFault.{AskFault}
 use Rattle.osb_asks.specs.declared.ask_fault.AskFault.TheVariants as fault
 use Rattle.osb_asks.specs.declared.ask.Ask.{Ask}
 use Rattle.osb_asks.specs.declared.ask.Ask.TheVariants as ask
+use Rattle.osb_asks.specs.Reads.{◌>>=◌}
 use Rattle.osb_asks.specs.Targets.{query_of}
 use Rattle.osb_asks.specs.Routes.{Routed}
 use Rattle.osb_asks.specs.Routes as route
@@ -29,14 +30,10 @@ ask_at rules query body (route.BindingOp i b) = binding_op_of i b query
 ask_at rules query body route.Orders = orders_of query
 ask_at rules query body (route.Report i n) = report_of i n body
 
-abbrev pub ask_by : Rules → Message → Result Routed AskFault → Result Ask AskFault
-ask_by rules q (Ok route) = ask_at rules (query_of q.target) q.body route
-ask_by rules q (Err fault) = Err fault
-
 -- The ask of a request, or the first fault that stands: NoDoor, Auth, Version and NoRoute of its admission, then Id,
 -- Query, Body and NotInCatalog.
 abbrev pub ask_of : Rules → Message → Result Ask AskFault
-ask_of rules q = ask_by rules q (admit_of rules q)
+ask_of rules q = admit_of rules q >>= ask_at rules (query_of q.target) q.body
 
 -- ---- what is found before an id is read, for which no memory is taken: the faults up to NoRoute, and the catalog
 
@@ -45,11 +42,7 @@ is_early_fault fault.NoDoor = true
 is_early_fault fault.Auth = true
 is_early_fault fault.Version = true
 is_early_fault fault.NoRoute = true
-is_early_fault fault.Id = false
-is_early_fault fault.Query = false
-is_early_fault fault.Body = false
-is_early_fault fault.NotInCatalog = false
-is_early_fault fault.Memory = false
+is_early_fault _ = false
 
 abbrev pub is_catalog : Ask → Bool
 is_catalog ask.Catalog = true

@@ -33,5 +33,5 @@ is_number segment =
     nat_lt 0 (length segment) && (nat_le (length segment) 7 && (not (slice_index segment 0 == 48) && list_all is_ascii_digit segment))
 
 -- the number of an order, as it stands in a path
-unfoldable pub number_of : List ℕ → Result ℕ AskFault
+abbrev pub number_of : List ℕ → Result ℕ AskFault
 number_of segment = if is_number segment then Ok (digits_value 10 segment) else Err Id

@@ -1,14 +1,14 @@
 //! Who is let in, and by which route. Nothing here takes memory.
 
-ghost use Rattle.std.specs.Prelude.{◌≡◌};
+ghost use Rattle.std.specs.Prelude.{◌≡◌, option_map};
 ghost use Rattle.osb_frames.specs.Steps.{message};
 ghost use Rattle.osb_catalog.specs.Rules.{rules_of};
 ghost use Rattle.osb_asks.specs.Admission as spec;
-ghost use Rattle.osb_asks.specs.Seen.{seen_route};
+ghost use Rattle.osb_asks.specs.Seen.{seen_entry, seen_route};
 
 use crate::ask_fault::AskFault;
 use crate::credentials::is_login;
-use crate::door::{Door, entry_of};
+use crate::door::{Door, Entry, entry_of};
 use crate::place::place_at;
 use crate::route::{Route, method_of, route_at};
 use crate::version::is_version;
@@ -23,10 +23,9 @@ fn is_let_in(request: &Request<'_>, door: Door, settings: &Settings) -> bool
         Door::Platform => settings.platform_token(),
         Door::Backend => settings.backend_token(),
     };
-    match request.field(b"authorization") {
-        Some(value) => is_login(token.as_bytes(), value),
-        None => false,
-    }
+    request
+        .field(b"authorization")
+        .is_some_and(|value| is_login(token.as_bytes(), value))
 }
 
 /// Whether the request names a version that is spoken, where the door asks for one.
@@ -34,12 +33,20 @@ fn has_version(request: &Request<'_>, door: Door) -> bool
     ensures { result ≡ spec.has_version door (message request.now).lines }
 {
     match door {
-        Door::Platform => match request.field(b"x-broker-api-version") {
-            Some(value) => is_version(value),
-            None => false,
-        },
+        Door::Platform => request
+            .field(b"x-broker-api-version")
+            .is_some_and(|value| is_version(value)),
         Door::Backend => true,
     }
+}
+
+/// The route of that method and what it leads to behind the door.
+fn route_of<'a>(name: &[u8], entry: Entry<'a>) -> Option<Route<'a>>
+    ensures { option_map seen_route result ≡ spec.route_of name.now (seen_entry entry.entry) }
+{
+    let method = method_of(name)?;
+    let place = place_at(entry.door, entry.segments)?;
+    route_at(method, place)
 }
 
 /// The route that the request takes, or the first fault that keeps it out.
@@ -55,13 +62,7 @@ pub(crate) fn admit<'a>(request: &Request<'a>, settings: &Settings) -> Result<Ro
     if !has_version(request, entry.door) {
         return Err(AskFault::Version);
     }
-    let Some(method) = method_of(request.method) else {
-        return Err(AskFault::NoRoute);
-    };
-    let Some(place) = place_at(entry.door, entry.segments) else {
-        return Err(AskFault::NoRoute);
-    };
-    match route_at(method, place) {
+    match route_of(request.method, entry) {
         Some(route) => Ok(route),
         None => Err(AskFault::NoRoute),
     }

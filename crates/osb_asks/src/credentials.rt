@@ -1,7 +1,7 @@
 //! The login of a door.
 
 ghost use Rattle.std.specs.Prelude.{◌≡◌};
-ghost use Rattle.osb_asks.specs.Credentials.{after_spaces, is_login};
+ghost use Rattle.osb_asks.specs.Credentials.{after_spaces, is_spaced, is_login};
 
 /// The bytes after the spaces at their front.
 fn after_spaces(mut bytes: &[u8]) -> &[u8]
@@ -13,12 +13,22 @@ fn after_spaces(mut bytes: &[u8]) -> &[u8]
     bytes
 }
 
+/// Whether the bytes are one or more spaces, and the token.
+fn is_spaced(token: &[u8], bytes: &[u8]) -> bool
+    ensures { result ≡ is_spaced token.now bytes.now }
+{
+    match bytes {
+        [b' ', rest @ ..] => after_spaces(rest) == token,
+        _ => false,
+    }
+}
+
 /// Whether the value of an Authorization line is the Basic login with that token.
 pub(crate) fn is_login(token: &[u8], value: &[u8]) -> bool
     ensures { result ≡ is_login token.now value.now }
 {
-    if value.len() < 6 {
+    if value.len() < 5 {
         return false;
     }
-    value[..6].eq_ignore_ascii_case(b"basic ") && after_spaces(&value[6..]) == token
+    value[..5].eq_ignore_ascii_case(b"basic") && is_spaced(token, &value[5..])
 }

@@ -1,12 +1,14 @@
 //! The places behind the doors.
 
 ghost use Rattle.std.specs.Prelude.{◌≡◌, option_map};
-ghost use Rattle.osb_asks.specs.SegmentsLeft.{left};
 ghost use Rattle.osb_asks.specs.Places as spec;
 ghost use Rattle.osb_asks.specs.Seen.{seen_place};
+ghost use Rattle.osb_asks.specs.SegmentsLeft.{left};
 
 use crate::door::Door;
 use crate::target::Segments;
+
+const LAST_OPERATION: &[u8] = b"last_operation";
 
 /// What a path names, with the segments of its ids as they stand there.
 #[derive(Clone, Copy, Debug)]
@@ -20,98 +22,59 @@ pub(crate) enum Place<'a> {
     Order(&'a [u8], &'a [u8]),
 }
 
-/// The place, where no segment is left.
-fn at_end<'a>(place: Place<'a>, mut segments: Segments<'a>) -> Option<Place<'a>>
-    ensures { option_map seen_place result ≡ spec.at_end (seen_place place.entry) (left segments.entry) }
-{
-    match segments.take_next() {
-        Some(_) => None,
-        None => Some(place),
-    }
-}
-
 /// The place that the segments name behind the door.
-pub(crate) fn place_at<'a>(door: Door, segments: Segments<'a>) -> Option<Place<'a>>
+pub(crate) fn place_at<'a>(door: Door, mut segments: Segments<'a>) -> Option<Place<'a>>
     ensures { option_map seen_place result ≡ spec.place_at door (left segments.entry) }
 {
-    match door {
-        Door::Platform => platform_place(segments),
-        Door::Backend => backend_place(segments),
+    let first = segments.take_next()?;
+    let second = segments.take_next();
+    match (door, second) {
+        (Door::Platform, None) if first == b"catalog".as_slice() => Some(Place::Catalog),
+        (Door::Platform, Some(id)) if first == b"service_instances".as_slice() && !id.is_empty() =>
+            { of_instance(id, segments) }
+        (Door::Backend, Some(word)) if first == b"v1".as_slice() && word == b"orders".as_slice() =>
+            { of_orders(segments) }
+        _ => None,
     }
 }
 
-fn platform_place<'a>(mut segments: Segments<'a>) -> Option<Place<'a>>
-    ensures { option_map seen_place result ≡ spec.platform_place (left segments.entry) }
+/// The place of an instance, or below it.
+fn of_instance<'a>(id: &'a [u8], mut segments: Segments<'a>) -> Option<Place<'a>>
+    ensures { option_map seen_place result ≡ spec.of_instance id.now (left segments.entry) }
 {
-    let word = segments.take_next()?;
-    if word == b"catalog".as_slice() {
-        at_end(Place::Catalog, segments)
-    } else if word == b"service_instances".as_slice() {
-        instance_place(segments)
-    } else {
-        None
+    match (segments.take_next(), segments.take_next()) {
+        (None, _) => Some(Place::Instance(id)),
+        (Some(word), None) if word == LAST_OPERATION => Some(Place::InstanceOperation(id)),
+        (Some(word), Some(binding))
+            if word == b"service_bindings".as_slice() && !binding.is_empty() => {
+            of_binding(id, binding, segments)
+        }
+        _ => None,
     }
 }
 
-fn instance_place<'a>(mut segments: Segments<'a>) -> Option<Place<'a>>
-    ensures { option_map seen_place result ≡ spec.instance_place (left segments.entry) }
+/// The place of a binding, or below it.
+fn of_binding<'a>(id: &'a [u8], binding: &'a [u8], mut segments: Segments<'a>) -> Option<Place<'a>>
+    ensures { option_map seen_place result ≡ spec.of_binding id.now binding.now (left segments.entry) }
 {
-    let instance = segments.take_next()?;
-    if instance.is_empty() {
-        return None;
-    }
-    let Some(word) = segments.take_next() else {
-        return Some(Place::Instance(instance));
-    };
-    if word == b"last_operation".as_slice() {
-        at_end(Place::InstanceOperation(instance), segments)
-    } else if word == b"service_bindings".as_slice() {
-        binding_place(instance, segments)
-    } else {
-        None
+    match (segments.take_next(), segments.take_next()) {
+        (None, _) => Some(Place::Binding(id, binding)),
+        (Some(word), None) if word == LAST_OPERATION => Some(Place::BindingOperation(id, binding)),
+        _ => None,
     }
 }
 
-fn binding_place<'a>(instance: &'a [u8], mut segments: Segments<'a>) -> Option<Place<'a>>
-    ensures { option_map seen_place result ≡ spec.binding_place instance.now (left segments.entry) }
+/// The place of the orders, or of one of them.
+fn of_orders<'a>(mut segments: Segments<'a>) -> Option<Place<'a>>
+    ensures { option_map seen_place result ≡ spec.of_orders (left segments.entry) }
 {
-    let binding = segments.take_next()?;
-    if binding.is_empty() {
-        return None;
+    match (
+        segments.take_next(),
+        segments.take_next(),
+        segments.take_next(),
+    ) {
+        (None, _, _) => Some(Place::Orders),
+        (Some(id), Some(number), None) if !id.is_empty() => Some(Place::Order(id, number)),
+        _ => None,
     }
-    let Some(word) = segments.take_next() else {
-        return Some(Place::Binding(instance, binding));
-    };
-    if word == b"last_operation".as_slice() {
-        at_end(Place::BindingOperation(instance, binding), segments)
-    } else {
-        None
-    }
-}
-
-fn backend_place<'a>(mut segments: Segments<'a>) -> Option<Place<'a>>
-    ensures { option_map seen_place result ≡ spec.backend_place (left segments.entry) }
-{
-    let version = segments.take_next()?;
-    if version != b"v1".as_slice() {
-        return None;
-    }
-    let word = segments.take_next()?;
-    if word != b"orders".as_slice() {
-        return None;
-    }
-    order_place(segments)
-}
-
-fn order_place<'a>(mut segments: Segments<'a>) -> Option<Place<'a>>
-    ensures { option_map seen_place result ≡ spec.order_place (left segments.entry) }
-{
-    let Some(instance) = segments.take_next() else {
-        return Some(Place::Orders);
-    };
-    if instance.is_empty() {
-        return None;
-    }
-    let number = segments.take_next()?;
-    at_end(Place::Order(instance, number), segments)
 }

@@ -6,6 +6,7 @@ ghost use Rattle.osb_asks.specs.Reads.{Reads};
 
 use crate::ask_fault::AskFault;
 use crate::id::Id;
+use crate::version::are_digits;
 use osb_text::Text;
 use percent_encoding::{DecodeError, percent_decode};
 use std::alloc::Global;
@@ -33,19 +34,25 @@ pub(crate) fn read_id(alloc: Global, segment: &[u8]) -> Result<Id, AskFault>
     id_or(AskFault::Id, Text::from(text.into_owned(alloc)?))
 }
 
+/// Whether the segment is 1 to 7 digits that don't begin with a 0.
+fn is_number(segment: &[u8]) -> bool
+    ensures { result ≡ spec.is_number segment.now }
+{
+    !segment.is_empty() && segment.len() <= 7 && segment[0] != b'0' && are_digits(segment)
+}
+
 /// The number of an order, which isn't decoded.
 pub(crate) fn read_number(segment: &[u8]) -> Result<u32, AskFault>
     ensures { result ≡ spec.number_of segment.now }
 {
-    if segment.is_empty() || segment.len() > 7 || segment[0] == b'0' {
+    if !is_number(segment) {
         return Err(AskFault::Id);
     }
-    let mut number = 0;
-    for digit in segment {
-        if !digit.is_ascii_digit() {
-            return Err(AskFault::Id);
-        }
-        number = 10 * number + u32::from(*digit - b'0');
+    let Ok(digits) = str::from_utf8(segment) else {
+        return Err(AskFault::Id);
+    };
+    match digits.parse::<u32>() {
+        Ok(number) => Ok(number),
+        Err(_) => Err(AskFault::Id),
     }
-    Ok(number)
 }

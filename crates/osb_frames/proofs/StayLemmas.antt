@@ -13,9 +13,9 @@ use Rattle.osb_frames.specs.declared.step.StopKind.{StopKind}
 use Rattle.osb_frames.specs.declared.step.StopKind.TheVariants.{NoHead, Host, Coding, Length, TooLarge, Cut}
 use Rattle.osb_frames.specs.Fields.{Line, values_of, length_given}
 use Rattle.osb_frames.specs.Heads.{HeadAt, lines_of}
-use Rattle.osb_frames.specs.Cuts.{Message, length_fault, fault_of, number_or_zero, body_length, Front, fault, whole, with_body, front_from, IsFront, empty, headless, headed}
-use Rattle.osb_frames.specs.Steps.{Tells, Says, FaultStays, Stays, IfMore, IsFinal}
-use Rattle.osb_frames.proofs.FrontLemmas.{IsFinalIfSome, fault_is_final, final_not_cut, final_not_headless}
+use Rattle.osb_frames.specs.Cuts.{length_fault, fault_of, number_or_zero, body_length, Front, fault, whole, with_body, front_from, IsFront, empty, headless, headed}
+use Rattle.osb_frames.specs.Steps.{message, Tells, Says, FaultStays, Stays, IfMore}
+use Rattle.osb_frames.proofs.FrontLemmas.{IsSettled, IsFinalIfSome, fault_is_final}
 
 head_stays : (limits : Limits) (bytes more : List ℕ) (h : RequestHead) (rest : List ℕ) → HeadAt limits bytes h rest → HeadAt limits (bytes ++ more) h (rest ++ more)
 head_stays limits bytes more h rest x = record { reads = ReadsRequest-append bytes h rest more x.reads; fits = x.fits; room = x.room }
@@ -25,53 +25,40 @@ abbrev request_of : RequestHead → List ℕ → ℕ → Front
 request_of h body n =
     whole record { method = h.method; target = h.target; minor = h.minor; lines = lines_of h; body = body } (length (print_request h) + n)
 
-body_stays : (h : RequestHead) (rest more : List ℕ) (n : ℕ) (q : Message) (size : ℕ) → whole q size ≡ with_body h rest n → whole q size ≡ with_body h (rest ++ more) n
-body_stays h rest more n q size e = by_test (nat_lt (length rest) n) refl e
+-- what is settled by a head stays
+from_stays : (h : RequestHead) (rest more : List ℕ) (f : Option StopKind) (front : Front) → IsSettled front → front ≡ front_from h rest f → front ≡ front_from h (rest ++ more) f
+from_stays h rest more (Some f) front settled e = e
+from_stays h rest more None front settled e = by (nat_lt (length rest) len) refl e
   where
-    by_test : (b : Bool) → nat_lt (length rest) n ≡ b → whole q size ≡ cond b (fault Cut) (request_of h (take n rest) n) → whole q size ≡ with_body h (rest ++ more) n
-    by_test true was is = cc
-    by_test false was is =
-        let enough : n ≤ length rest = ltb-false _ _ was in
-        let still : nat_lt (length (rest ++ more)) n ≡ false = le-ltb _ _ (omega (arith, length-append rest more)) in
+    len : ℕ
+    len = body_length (lines_of h)
+
+    by : (b : Bool) → nat_lt (length rest) len ≡ b → front ≡ cond b (fault Cut) (request_of h (take len rest) len) → front ≡ with_body h (rest ++ more) len
+    by true was is = absurd (subst IsSettled is settled)
+    by false was is =
+        let enough : len ≤ length rest = ltb-false _ _ was in
+        let still : nat_lt (length (rest ++ more)) len ≡ false = le-ltb _ _ (omega (arith, length-append rest more)) in
         is
-        ∙ ap (λ body. request_of h body n) (sym (take-append-le n rest more enough))
-        ∙ ap (λ b. cond b (fault Cut) (request_of h (take n (rest ++ more)) n)) (sym still)
+        ∙ ap (λ body. request_of h body len) (sym (take-append-le len rest more enough))
+        ∙ ap (λ b. cond b (fault Cut) (request_of h (take len (rest ++ more)) len)) (sym still)
 
-whole_from_stays : (h : RequestHead) (rest more : List ℕ) (f : Option StopKind) (q : Message) (n : ℕ) → whole q n ≡ front_from h rest f → whole q n ≡ front_from h (rest ++ more) f
-whole_from_stays h rest more (Some f) q n e = cc
-whole_from_stays h rest more None q n e = body_stays h rest more (body_length (lines_of h)) q n e
-
-whole_stays : (limits : Limits) (bytes : List ℕ) (q : Message) (n : ℕ) → IsFront limits bytes (whole q n) → (more : List ℕ) → IsFront limits (bytes ++ more) (whole q n)
-whole_stays limits bytes q n (empty m e) more = cc
-whole_stays limits bytes q n (headless some none e) more = cc
-whole_stays limits bytes q n (headed h rest x e) more =
-    headed h (rest ++ more) (head_stays limits bytes more h rest x) (whole_from_stays h rest more (fault_of limits h.minor (lines_of h)) q n e)
-
-fault_from_stays : (h : RequestHead) (rest more : List ℕ) (g : Option StopKind) (f : StopKind) → IsFinal f → fault f ≡ front_from h rest g → fault f ≡ front_from h (rest ++ more) g
-fault_from_stays h rest more (Some g) f final e = e
-fault_from_stays h rest more None f final e = absurd (by_test (nat_lt (length rest) (body_length (lines_of h))) e)
-  where
-    by_test : (b : Bool) → fault f ≡ cond b (fault Cut) (request_of h (take (body_length (lines_of h)) rest) (body_length (lines_of h))) → ⊥
-    by_test true is = final_not_cut f final is
-    by_test false is = cc
-
-fault_stays : (limits : Limits) (bytes : List ℕ) (f : StopKind) → IsFinal f → IsFront limits bytes (fault f) → (more : List ℕ) → IsFront limits (bytes ++ more) (fault f)
-fault_stays limits bytes f final (empty m e) more = cc
-fault_stays limits bytes f final (headless some none e) more = absurd (final_not_headless f final e)
-fault_stays limits bytes f final (headed h rest x e) more =
-    headed h (rest ++ more) (head_stays limits bytes more h rest x) (fault_from_stays h rest more (fault_of limits h.minor (lines_of h)) f final e)
+front_stays : (limits : Limits) (bytes : List ℕ) (front : Front) → IsSettled front → IsFront limits bytes front → (more : List ℕ) → IsFront limits (bytes ++ more) front
+front_stays limits bytes front settled (empty m e) more = absurd (subst IsSettled e settled)
+front_stays limits bytes front settled (headless some none e) more = absurd (subst IsSettled e settled)
+front_stays limits bytes front settled (headed h rest x e) more =
+    headed h (rest ++ more) (head_stays limits bytes more h rest x) (from_stays h rest more (fault_of limits h.minor (lines_of h)) front settled e)
 
 told_stays : (limits : Limits) (bytes : List ℕ) (over : Bool) (f : StopKind) → Tells limits bytes over f → FaultStays limits bytes over f
 told_stays limits bytes over NoHead (inl here) = inr (here.1, here.0)
 told_stays limits bytes over NoHead (inr always) = inl always
-told_stays limits bytes over Host at = inl (fault_stays limits bytes Host tt at)
-told_stays limits bytes over Coding at = inl (fault_stays limits bytes Coding tt at)
-told_stays limits bytes over Length at = inl (fault_stays limits bytes Length tt at)
-told_stays limits bytes over TooLarge at = inl (fault_stays limits bytes TooLarge tt at)
+told_stays limits bytes over Host at = inl (front_stays limits bytes (fault Host) tt at)
+told_stays limits bytes over Coding at = inl (front_stays limits bytes (fault Coding) tt at)
+told_stays limits bytes over Length at = inl (front_stays limits bytes (fault Length) tt at)
+told_stays limits bytes over TooLarge at = inl (front_stays limits bytes (fault TooLarge) tt at)
 told_stays limits bytes over Cut at = inr (at.1, at.0)
 
 pub step_stays : (limits : Limits) (bytes : List ℕ) (over : Bool) (step : Step Request) → Says limits bytes over step → Stays limits bytes over step
-step_stays limits bytes over (Whole q n) says = whole_stays limits bytes _ n says
+step_stays limits bytes over (Whole q n) says = front_stays limits bytes (whole (message q) n) tt says
 step_stays limits bytes over (Stop f) says = told_stays limits bytes over f says
 step_stays limits bytes over Ended says = tt
 step_stays limits bytes over More says = tt

@@ -5,7 +5,7 @@ use Rattle.osb_frames.specs.declared.request.Request.{Request}
 use Rattle.osb_frames.specs.declared.step.Step.{Step}
 use Rattle.osb_frames.specs.declared.step.Step.TheVariants.{Whole, Stop, Ended, More}
 use Rattle.osb_frames.specs.declared.step.StopKind.{StopKind}
-use Rattle.osb_frames.specs.declared.step.StopKind.TheVariants.{NoHead, Host, Coding, Length, TooLarge, Cut}
+use Rattle.osb_frames.specs.declared.step.StopKind.TheVariants.{NoHead, Cut}
 use Rattle.osb_frames.specs.Line.{line}
 use Rattle.osb_frames.specs.Heads.{HasNoHead, MayBecomeHead}
 use Rattle.osb_frames.specs.Cuts.{Message, Front, nothing, fault, whole, IsFront}
@@ -25,11 +25,8 @@ abbrev pub Tells : Limits → List ℕ → Bool → StopKind → Type 0
 Tells limits bytes over NoHead =
     (IsTrue over × IsFront limits bytes (fault NoHead))
     ⊎ ((more : List ℕ) → IsFront limits (bytes ++ more) (fault NoHead))
-Tells limits bytes over Host = IsFront limits bytes (fault Host)
-Tells limits bytes over Coding = IsFront limits bytes (fault Coding)
-Tells limits bytes over Length = IsFront limits bytes (fault Length)
-Tells limits bytes over TooLarge = IsFront limits bytes (fault TooLarge)
 Tells limits bytes over Cut = IsTrue over × IsFront limits bytes (fault Cut)
+Tells limits bytes over f = IsFront limits bytes (fault f)
 
 -- no head stands there yet, the limit of a head isn't reached, and a head may still come
 abbrev pub Waits : Limits → List ℕ → Type 0
@@ -52,24 +49,18 @@ FaultStays limits bytes over f =
 abbrev pub Stays : Limits → List ℕ → Bool → Step Request → Type 0
 Stays limits bytes over (Whole q n) = (more : List ℕ) → IsFront limits (bytes ++ more) (whole (message q) n)
 Stays limits bytes over (Stop f) = FaultStays limits bytes over f
-Stays limits bytes over Ended = ⊤
-Stays limits bytes over More = ⊤
+Stays limits bytes over _ = ⊤
 
 -- the step is that request, of so many bytes
 abbrev pub IsWhole : Message → ℕ → Step Request → Type 0
 IsWhole m n (Whole q used) = (message q ≡ m) × (used ≡ n)
-IsWhole m n (Stop f) = ⊥
-IsWhole m n Ended = ⊥
-IsWhole m n More = ⊥
+IsWhole m n _ = ⊥
 
 -- a fault of a whole head, which no further bytes mend
 abbrev pub IsFinal : StopKind → Type 0
 IsFinal NoHead = ⊥
-IsFinal Host = ⊤
-IsFinal Coding = ⊤
-IsFinal Length = ⊤
-IsFinal TooLarge = ⊤
 IsFinal Cut = ⊥
+IsFinal _ = ⊤
 
 -- the step is what stands there
 abbrev pub Shows : Front → Step Request → Type 0
@@ -80,13 +71,9 @@ Shows (whole q n) step = IsWhole q n step
 -- P of the request and of its number of bytes, where there is one
 abbrev pub IfWhole : Step Request → (Request → ℕ → Type 0) → Type 0
 IfWhole (Whole q n) P = P q n
-IfWhole (Stop f) P = ⊤
-IfWhole Ended P = ⊤
-IfWhole More P = ⊤
+IfWhole _ P = ⊤
 
 -- P where more bytes are needed
 abbrev pub IfMore : Step Request → Type 0 → Type 0
-IfMore (Whole q n) P = ⊤
-IfMore (Stop f) P = ⊤
-IfMore Ended P = ⊤
 IfMore More P = P
+IfMore _ P = ⊤

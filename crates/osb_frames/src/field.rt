@@ -1,8 +1,10 @@
 //! Field lines: names without case, values that list items, and numbers.
 
 ghost use Rattle.std.specs.Prelude.{◌≡◌, reverse};
+ghost use Rattle.std.specs.List.{list_all};
+ghost use Rattle.std.specs.Char.{is_ascii_digit};
 ghost use Rattle.httparse.specs.Grammar.{skip_ows, trim_ows};
-ghost use Rattle.osb_frames.specs.Fields.{same_ignoring_case, lists_item, number_in};
+ghost use Rattle.osb_frames.specs.Fields.{same_ignoring_case, lists_item, is_number, number_in};
 
 use httparse::is_space_or_tab;
 
@@ -61,19 +63,32 @@ pub(crate) fn lists_item(word: &[u8], value: &[u8]) -> bool
         .any(|item| same_ignoring_case(trim(item), word))
 }
 
+fn are_digits(bytes: &[u8]) -> bool
+    ensures { result ≡ list_all is_ascii_digit bytes.now }
+{
+    bytes.iter().all(|byte| byte.is_ascii_digit())
+}
+
+/// Whether the value is 1 to 19 digits.
+fn is_number(value: &[u8]) -> bool
+    ensures { result ≡ is_number value.now }
+{
+    !value.is_empty() && value.len() <= 19 && are_digits(value)
+}
+
 /// The number that 1 to 19 digits write, leading zeros among them.
+#[tactic(auto, unfolding(crate::specs::Fields::number_in))]
 pub(crate) fn number_in(value: &[u8]) -> Option<u64>
     ensures { result ≡ number_in value.now }
 {
-    if value.is_empty() || value.len() > 19 {
+    if !is_number(value) {
         return None;
     }
-    let mut number = 0;
-    for digit in value {
-        if !digit.is_ascii_digit() {
-            return None;
-        }
-        number = 10 * number + u64::from(*digit - b'0');
+    let Ok(digits) = str::from_utf8(value) else {
+        return None;
+    };
+    match digits.parse::<u64>() {
+        Ok(number) => Some(number),
+        Err(_) => None,
     }
-    Some(number)
 }
