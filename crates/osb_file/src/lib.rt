@@ -4,3 +4,6 @@
 mod file;
 
 pub use file::open_file;
+
+#[cfg(test)]
+mod tests;
