@@ -70,7 +70,6 @@ id_finds segment = by (is_utf8 (percent_decode segment)) (percent_decode segment
     by false text = record { found = refl }
 
 pub number_finds : (segment : List ℕ) → Finds ℕ Anything (id.number_of segment)
-unfolding id.number_of
 number_finds segment = tested_finds Anything (id.is_number segment) (digits_value 10 segment) fault.Id refl (λ h. tt)
 
 abbrev pub IsGivenId : Option (List ℕ) → Type 0

@@ -1,6 +1,6 @@
 -- The doors of the broker: the platform's is `/v2`, as OSB API 2.17 has its paths; the backend's, `/backend`, is this
 -- project's own.
-use Rattle.std.specs.Prelude.{ℕ, List, [], ◌∷◌, ◌==◌, Option, Some, None, codes, bytes_eq, if◌then◌else◌}
+use Rattle.std.specs.Prelude.{ℕ, List, [], ◌∷◌, ◌==◌, Option, Some, None, option_map, codes, bytes_eq, if◌then◌else◌}
 use Rattle.osb_asks.specs.declared.door.Door.{Door}
 use Rattle.osb_asks.specs.declared.door.Door.TheVariants.{Platform, Backend}
 use Rattle.osb_asks.specs.Targets.{path_of, segments}
@@ -15,14 +15,10 @@ door_at segment =
     if bytes_eq segment (codes "v2") then Some Platform
     else (if bytes_eq segment (codes "backend") then Some Backend else None)
 
-abbrev pub with_behind : List (List ℕ) → Option Door → Option Entrance
-with_behind others None = None
-with_behind others (Some door) = Some record { door = door; behind = others }
-
 -- the first segment names the door
 abbrev pub entered : List (List ℕ) → Option Entrance
 entered [] = None
-entered (first ∷ others) = with_behind others (door_at first)
+entered (first ∷ others) = option_map (λ door. record { door = door; behind = others }) (door_at first)
 
 -- a path begins with a slash, and its segments follow
 abbrev pub entry_at : List ℕ → Option Entrance

@@ -37,12 +37,10 @@ fn door_at(segment: &[u8]) -> Option<Door>
 pub(crate) fn entry_of(target: &[u8]) -> Option<Entry<'_>>
     ensures { option_map seen_entry result ≡ spec.entry_of target.now }
 {
-    let path = path_of(target);
-    if path.is_empty() || path[0] != b'/' {
+    let [b'/', rest @ ..] = path_of(target) else {
         return None;
-    }
-    let mut segments = Segments::of(&path[1..]);
-    let first = segments.take_next()?;
-    let door = door_at(first)?;
+    };
+    let mut segments = Segments::of(rest);
+    let door = door_at(segments.take_next()?)?;
     Some(Entry { door, segments })
 }

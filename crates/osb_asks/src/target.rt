@@ -43,12 +43,8 @@ fn position_of(bytes: &[u8], byte: u8) -> usize
     ensures value { result ≡ position_or_len (λ b. b == byte) bytes.now }
     ensures bound { result ≤ length bytes.now }
 {
-    for (i, b) in bytes.iter().enumerate() {
-        if *b == byte {
-            return i;
-        }
-    }
-    bytes.len()
+    let first = bytes.iter().position(|b| *b == byte);
+    first.unwrap_or(bytes.len())
 }
 
 /// The bytes before the first `?`.

@@ -15,10 +15,10 @@ pub(crate) fn are_digits(bytes: &[u8]) -> bool
 fn is_minor(digits: &[u8]) -> bool
     ensures { result ≡ is_minor digits.now }
 {
-    if digits.is_empty() || digits.len() > 3 || !are_digits(digits) {
-        return false;
-    }
-    digits.len() == 1 || digits[0] != b'0'
+    !digits.is_empty()
+        && digits.len() <= 3
+        && are_digits(digits)
+        && (digits.len() == 1 || digits[0] != b'0')
 }
 
 /// Whether the value names a version 2 of the API.
