@@ -2,7 +2,6 @@
 use Rattle.std.proofs.Common.{◌≡◌, ℕ, Bool, true, false, cond, not, ◌&&◌, ◌||◌, ◌==◌, List, [], ◌∷◌, ◌++◌, Option, None, Some, refl, sym, ◌∙◌, ap, subst}
 use Rattle.std.specs.Prelude.{nat_le, bytes_eq, unwrap_or}
 use Rattle.std.specs.List.{find}
-use Rattle.std.specs.Option.{option_map_or}
 use Rattle.osb_catalog.specs.Rules.{Rules}
 use Rattle.osb_asks.specs.declared.ask.Provision.{Provision}
 use Rattle.osb_asks.specs.declared.ask.Update.{Update}
@@ -34,7 +33,7 @@ use Rattle.osb_orders.specs.Orders.{is_a, is_now, state_number, has_succeeded, i
 use Rattle.osb_orders.specs.Life.{Life, since_birth, phase_by, standing_of, standing_since}
 use Rattle.osb_orders.specs.Bindings.{since_bind, binding_phase_by, without_maintenance, binding_of, binding_since}
 use Rattle.osb_orders.specs.Facts.{Facts, facts_of}
-use Rattle.osb_orders.specs.Changed.{changed, with_outcome, with_last_ended}
+use Rattle.osb_orders.specs.Changed.{changed}
 use Rattle.osb_orders.specs.IsLife.{is_empty, is_absent, IsLifeAfter}
 use Rattle.osb_machine.specs.Reaction.{Reaction, done, empty_object}
 use Rattle.osb_machine.specs.Plans.{catalog_version, is_bindable}
@@ -47,8 +46,8 @@ use Rattle.osb_machine.specs.Bind.{bind_opening, is_of_plan, bind_new, bind_by, 
 use Rattle.osb_machine.specs.Unbind.{unbind_opening, unbind_over, unbind_at}
 use Rattle.osb_machine.specs.Report.{reported_state, kept_outcome, is_outcome, report}
 use Rattle.std.specs.Cmp.Lexicographic.{nat_list_eq_equiv}
-use Rattle.osb_orders.proofs.GrowLemmas.{choose, grow, unless, unless-miss, unless-hit, from_last-hit, from_last-miss, last_where-hit, last_where-miss, last_of-push, since_birth-create, since_birth-later, since_birth-deleted}
-use Rattle.osb_laws.proofs.LifeLemmas.{split, present_of_some}
+use Rattle.osb_orders.proofs.GrowLemmas.{choose, grow, unless, unless-miss, unless-hit, from_last-hit, from_last-miss, last_where-hit, last_where-miss, since_birth-create, since_birth-later, since_birth-deleted}
+use Rattle.osb_laws.proofs.LifeLemmas.{absent_by, found_ended}
 use Rattle.osb_laws.proofs.StepLemmas.{change_of, after_ask, accepted_quiet, provision_over_quiet, bind_over_quiet, poll_quiet, update_running_quiet, fetch_quiet, fetch_binding_quiet}
 
 -- The ask is asked again after the change c, which is its own.
@@ -142,7 +141,7 @@ deprovision_over_again _ rules life listing a s present = deletion_again rules l
 
 deprovision_again : (rules : Rules) (life : Life) (listing : List (List ℕ × Order)) (a : Deprovision) (s : Option Standing) → standing_of life ≡ s → Again rules life listing (the.Deprovision a) (deprovision_at rules (facts_of life listing (the.Deprovision a)) a s).change
 deprovision_again rules life listing a None e = λ h. h
-deprovision_again rules life listing a (Some s) e = deprovision_over_again s.phase rules life listing a s.attributes (present_of_some (since_birth life) s e)
+deprovision_again rules life listing a (Some s) e = deprovision_over_again s.phase rules life listing a s.attributes (absent_by life (Some s) e)
 
 -- Update
 
@@ -245,7 +244,7 @@ update_over_again _ rules life listing a s present = update_checked_again rules 
 
 update_again : (rules : Rules) (life : Life) (listing : List (List ℕ × Order)) (a : Update) (s : Option Standing) → standing_of life ≡ s → Again rules life listing (the.Update a) (update_at rules (facts_of life listing (the.Update a)) a s).change
 update_again rules life listing a None e = λ h. h
-update_again rules life listing a (Some s) e = update_over_again s.phase rules life listing a s (present_of_some (since_birth life) s e)
+update_again rules life listing a (Some s) e = update_over_again s.phase rules life listing a s (absent_by life (Some s) e)
 
 -- Bind
 
@@ -302,7 +301,7 @@ bind_in_again _ rules life listing a s present = bind_by_again rules life listin
 
 bind_again : (rules : Rules) (life : Life) (listing : List (List ℕ × Order)) (a : Bind) (s : Option Standing) → standing_of life ≡ s → Again rules life listing (the.Bind a) (bind_at rules (facts_of life listing (the.Bind a)) a s).change
 bind_again rules life listing a None e = λ h. h
-bind_again rules life listing a (Some s) e = bind_in_again s.phase rules life listing a s.attributes (present_of_some (since_birth life) s e)
+bind_again rules life listing a (Some s) e = bind_in_again s.phase rules life listing a s.attributes (absent_by life (Some s) e)
 
 -- Unbind
 
@@ -357,16 +356,6 @@ unbind_again rules life listing a (Some b) = unbind_over_again b.phase rules lif
 
 -- Report
 
--- once the last order has ended, none runs
-found_still : (p : Order → Bool) (before later : Life) (outcome : Outcome) (o : Order) → IsLifeAfter before later → (state_number outcome.state == 0) ≡ false → find p (with_last_ended outcome later) ≡ Some o → is_now Running o ≡ false
-found_still p before [] outcome o h ended f = cc
-found_still p before (x ∷ []) outcome o h ended f =
-    split (p (with_outcome outcome x)) (with_outcome outcome x) o None f (λ e. sym (ap (is_now Running) e) ∙ ended) (λ e. cc)
-found_still p before (x ∷ y ∷ later) outcome o h ended f =
-    split (p x) x o (find p (with_last_ended outcome (y ∷ later))) f
-    (λ e. sym (ap (is_now Running) e) ∙ sym (ap (λ (l : Option Order). option_map_or (is_now Running) l false) (last_of-push before x)) ∙ h.1.0.ended)
-    (λ f'. found_still p (before ++ x ∷ []) (y ∷ later) outcome o h.1 ended f')
-
 report_quiet : (a : Report) (named : Option Order) → ((o : Order) → named ≡ Some o → is_now Running o ≡ false) → (report a named).change ≡ Nothing
 report_quiet a None still = refl
 report_quiet a (Some o) still =
@@ -382,7 +371,7 @@ report_again rules life listing a None h = λ e. e
 report_again rules life listing a (Some o) h =
     let Q : Reaction → Type 0 = λ r. Again rules life listing (the.Report a) r.change in
     choose Q (is_now Running o) _ _
-    (λ _ _. report_quiet a _ (λ x f. found_still (λ o. o.number == a.number) [] life (kept_outcome a o) x h (ended_by_report a.state) f))
+    (λ _ _. report_quiet a _ (λ x f. found_ended (λ o. o.number == a.number) life (kept_outcome a o) x h (ended_by_report a.state) f))
     (λ _. choose Q (is_outcome o.outcome (kept_outcome a o)) _ _ (λ _ e. e) (λ _ e. e))
 
 -- The whole table
