@@ -1,8 +1,7 @@
 -- An ask whose step was taken changes nothing when it is asked again at once.
-use Rattle.std.proofs.Common.{◌≡◌, ℕ, Bool, true, false, cond, not, ◌&&◌, ◌||◌, ◌==◌, List, [], ◌∷◌, ◌++◌, Option, None, Some, refl, sym, ◌∙◌, ap, subst}
+use Rattle.std.proofs.Common.{◌≡◌, ℕ, Bool, true, false, cond, not, ◌&&◌, ◌==◌, List, [], ◌∷◌, ◌++◌, length, Option, None, Some, refl, sym, ◌∙◌, ap, subst}
 use Rattle.std.specs.Prelude.{nat_le, bytes_eq, unwrap_or}
 use Rattle.std.specs.List.{find}
-use Rattle.std.specs.Option.{option_map_or}
 use Rattle.osb_catalog.specs.Rules.{Rules}
 use Rattle.osb_asks.specs.declared.ask.Provision.{Provision}
 use Rattle.osb_asks.specs.declared.ask.Update.{Update}
@@ -14,7 +13,6 @@ use Rattle.osb_asks.specs.declared.ask.ReportState.{ReportState}
 use Rattle.osb_asks.specs.declared.ask.ReportState.TheVariants as said
 use Rattle.osb_asks.specs.declared.ask.Ask.{Ask}
 use Rattle.osb_asks.specs.declared.ask.Ask.TheVariants as the
-use Rattle.osb_orders.specs.declared.order.OrderKind.{OrderKind}
 use Rattle.osb_orders.specs.declared.order.OrderKind.TheVariants as kind
 use Rattle.osb_orders.specs.declared.order.OrderState.{OrderState}
 use Rattle.osb_orders.specs.declared.order.OrderState.TheVariants.{Running}
@@ -22,19 +20,19 @@ use Rattle.osb_orders.specs.declared.order.Attributes.{Attributes}
 use Rattle.osb_orders.specs.declared.order.Outcome.{Outcome}
 use Rattle.osb_orders.specs.declared.order.Order.{Order}
 use Rattle.osb_orders.specs.declared.order.Change.{Change}
-use Rattle.osb_orders.specs.declared.order.Change.TheVariants.{Nothing, Append}
+use Rattle.osb_orders.specs.declared.order.Change.TheVariants.{Nothing}
 use Rattle.osb_orders.specs.declared.view.InstancePhase.{InstancePhase}
 use Rattle.osb_orders.specs.declared.view.InstancePhase.TheVariants as phase
 use Rattle.osb_orders.specs.declared.view.BindingPhase.{BindingPhase}
 use Rattle.osb_orders.specs.declared.view.BindingPhase.TheVariants as bindings
 use Rattle.osb_orders.specs.declared.view.Standing.{Standing}
 use Rattle.osb_orders.specs.declared.view.BindingNow.{BindingNow}
-use Rattle.osb_orders.specs.Lists.{from_last, last_where}
+use Rattle.osb_orders.specs.Lists.{from_last, last_where, last_of}
 use Rattle.osb_orders.specs.Orders.{is_a, is_now, state_number, has_succeeded, is_of_instance, is_of_binding}
 use Rattle.osb_orders.specs.Life.{Life, since_birth, phase_by, standing_of, standing_since}
-use Rattle.osb_orders.specs.Bindings.{since_bind, binding_phase_by, without_maintenance, binding_of, binding_since}
+use Rattle.osb_orders.specs.Bindings.{since_bind, binding_phase_by, without_maintenance, binding_of, binding_since, has_bindings}
 use Rattle.osb_orders.specs.Facts.{Facts, facts_of}
-use Rattle.osb_orders.specs.Changed.{changed, with_outcome, with_last_ended}
+use Rattle.osb_orders.specs.Changed.{changed}
 use Rattle.osb_orders.specs.IsLife.{is_empty, is_absent, IsLifeAfter}
 use Rattle.osb_machine.specs.Reaction.{Reaction, done, empty_object}
 use Rattle.osb_machine.specs.Plans.{catalog_version, is_bindable}
@@ -42,361 +40,316 @@ use Rattle.osb_machine.specs.Same.{are_same}
 use Rattle.osb_machine.specs.Opened.{Opening, running, succeeded_with, next_order, opened, is_busy, is_unlike}
 use Rattle.osb_machine.specs.Provision.{creation, provision_at, provision}
 use Rattle.osb_machine.specs.Update.{target_plan, target_maintenance, target, update_opening, forbids_change, update_ready, update_by, update_checked, update_over, update_at}
-use Rattle.osb_machine.specs.Deprovision.{deletion, deprovision_idle, deprovision_over, deprovision_at}
-use Rattle.osb_machine.specs.Bind.{bind_opening, is_of_plan, bind_new, bind_by, bind_in, bind_at}
+use Rattle.osb_machine.specs.Deprovision.{deletion, deprovision_over, deprovision_at}
+use Rattle.osb_machine.specs.Bind.{bind_opening, is_of_plan, bind_by, bind_in, bind_at}
 use Rattle.osb_machine.specs.Unbind.{unbind_opening, unbind_over, unbind_at}
 use Rattle.osb_machine.specs.Report.{reported_state, kept_outcome, is_outcome, report}
 use Rattle.std.specs.Cmp.Lexicographic.{nat_list_eq_equiv}
-use Rattle.osb_orders.proofs.GrowLemmas.{choose, grow, unless, unless-miss, unless-hit, from_last-hit, from_last-miss, last_where-hit, last_where-miss, last_of-push, since_birth-create, since_birth-later, since_birth-deleted}
-use Rattle.osb_laws.proofs.LifeLemmas.{split, present_of_some}
+use Rattle.std.proofs.lemmas.Bool.{true≢false}
+use Rattle.osb_orders.proofs.GrowLemmas.{choose, grow, unless, unless-miss, unless-hit, from_last-hit, from_last-miss, last_where-hit, last_where-miss, since_birth-create, since_birth-later, since_birth-deleted}
+use Rattle.osb_laws.proofs.LifeLemmas.{absent_by, found_ended}
 use Rattle.osb_laws.proofs.StepLemmas.{change_of, after_ask, accepted_quiet, provision_over_quiet, bind_over_quiet, poll_quiet, update_running_quiet, fetch_quiet, fetch_binding_quiet}
-
--- The ask is asked again after the change c, which is its own.
-abbrev Again : Rules → Life → List (List ℕ × Order) → Ask → Change → Type 0
-Again rules life again a c = change_of rules life again a ≡ c → change_of rules (changed c life) again a ≡ Nothing
-
--- what may be changed by an order that is opened
-opened_again : (P : Change → Type 0) (rules : Rules) (facts : Facts) (o : Opening) → P Nothing → (o.asynchronous ≡ true → P (Append (next_order facts.count o running))) → (o.asynchronous ≡ false → P (Append (next_order facts.count o (succeeded_with o.credentials)))) → P (opened rules facts o).change
-opened_again P rules facts o none later now =
-    let Q : Reaction → Type 0 = λ r. P r.change in
-    choose Q (o.asynchronous && not o.accepts_incomplete) _ _ (λ _. none) (λ _.
-    choose Q (nat_le rules.order_limit facts.count) _ _ (λ _. none) (λ _.
-    choose Q o.asynchronous _ _ later now))
-
--- an instance and a binding with these phases
-abbrev standing_by : InstancePhase → Order → Standing
-standing_by now o = record { phase = now; attributes = o.attributes }
-
-abbrev binding_by : BindingPhase → Order → BindingNow
-binding_by now o = record { phase = now; attributes = without_maintenance o.attributes; credentials = o.outcome.credentials }
 
 same_bytes : (bytes : List ℕ) → bytes_eq bytes bytes ≡ true
 same_bytes bytes = nat_list_eq_equiv.refl bytes
 
--- Provision
+-- What one more order makes of what is there
 
-provision_quiet_by : (rules : Rules) (facts : Facts) (a : Provision) (s : Standing) → facts.standing ≡ Some s → (provision rules facts a).change ≡ Nothing
-provision_quiet_by rules facts a s e =
-    choose (λ (r : Reaction). r.change ≡ Nothing) (is_unlike a.maintenance (catalog_version rules a.service a.plan)) _ _ (λ _. refl)
-    (λ _. subst (λ (t : Option Standing). (provision_at rules facts a t).change ≡ Nothing) (sym e) (provision_over_quiet s.phase _ a facts))
-
-created_again : (rules : Rules) (life : Life) (listing : List (List ℕ × Order)) (a : Provision) (o : Order) → is_a kind.Create o ≡ true → change_of rules (life ++ o ∷ []) listing (the.Provision a) ≡ Nothing
-created_again rules life listing a o c =
-    provision_quiet_by rules (facts_of (life ++ o ∷ []) listing (the.Provision a)) a
-    (standing_by (phase_by o.outcome.state o.kind o.outcome.state) o) (ap standing_since (since_birth-create life o c))
-
-provision_at_again : (rules : Rules) (life : Life) (listing : List (List ℕ × Order)) (a : Provision) (s : Option Standing) → Again rules life listing (the.Provision a) (provision_at rules (facts_of life listing (the.Provision a)) a s).change
-provision_at_again rules life listing a None =
-    opened_again (Again rules life listing (the.Provision a)) rules (facts_of life listing (the.Provision a)) (creation rules a)
-    (λ e. e) (λ _ _. created_again rules life listing a _ refl) (λ _ _. created_again rules life listing a _ refl)
-provision_at_again rules life listing a (Some s) =
-    subst (Again rules life listing (the.Provision a)) (sym (provision_over_quiet s.phase _ a (facts_of life listing (the.Provision a)))) (λ e. e)
-
-provision_again : (rules : Rules) (life : Life) (listing : List (List ℕ × Order)) (a : Provision) → Again rules life listing (the.Provision a) (change_of rules life listing (the.Provision a))
-provision_again rules life listing a =
-    choose (λ (r : Reaction). Again rules life listing (the.Provision a) r.change) (is_unlike a.maintenance (catalog_version rules a.service a.plan)) _ _ (λ _ e. e)
-    (λ _. provision_at_again rules life listing a (standing_of life))
-
--- Deprovision
-
-deprovision_quiet_by : (rules : Rules) (facts : Facts) (a : Deprovision) (t s : Option Standing) → facts.standing ≡ s → (deprovision_at rules facts a s).change ≡ Nothing → (deprovision_at rules facts a facts.standing).change ≡ Nothing
-deprovision_quiet_by rules facts a t s e h = subst (λ (t : Option Standing). (deprovision_at rules facts a t).change ≡ Nothing) (sym e) h
-
--- an order of this kind and state, in the place of the last
-standing_with : (orders : Life) (o : Order) → is_empty orders ≡ false → is_of_instance o ≡ true → has_succeeded kind.Update o ≡ false → (birth : OrderState) × (b : Order) × (standing_since (grow orders o) ≡ Some (standing_by (phase_by birth o.kind o.outcome.state) b))
-standing_with [] o present hit miss = cc
-standing_with (birth ∷ later) o present hit miss = (
+-- the instance, by an order of it
+standing_grown : (since : Life) (o : Order) → is_empty since ≡ false → is_of_instance o ≡ true → (updates : Bool) → has_succeeded kind.Update o ≡ updates →
+    (birth : OrderState) × (from : Order) × (standing_since (grow since o) ≡ Some (record { phase = phase_by birth o.kind o.outcome.state; attributes = (cond updates o from).attributes }))
+standing_grown [] o present of updates is = cc
+standing_grown (birth ∷ later) o present of updates is = (
   birth.outcome.state,
-  last_where (has_succeeded kind.Update) birth later,
-  ap (λ (l : Order). Some (standing_by (phase_by birth.outcome.state l.kind l.outcome.state) (last_where (has_succeeded kind.Update) birth (later ++ o ∷ [])))) (last_where-hit is_of_instance birth later o hit)
-      ∙ ap (λ (b : Order). Some (standing_by (phase_by birth.outcome.state o.kind o.outcome.state) b)) (last_where-miss (has_succeeded kind.Update) birth later o miss),
+  from,
+  λ i. Some (record {
+    phase = phase_by birth.outcome.state (last_where-hit is_of_instance birth later o of i).kind (last_where-hit is_of_instance birth later o of i).outcome.state;
+    attributes = (now updates is i).attributes;
+  }),
 )
+  where
+    from : Order
+    from = last_where (has_succeeded kind.Update) birth later
 
-deletion_runs_again : (rules : Rules) (life : Life) (listing : List (List ℕ × Order)) (a : Deprovision) (count : ℕ) (s : Attributes) → is_absent life ≡ false → change_of rules (life ++ next_order count (deletion rules s a) running ∷ []) listing (the.Deprovision a) ≡ Nothing
-deletion_runs_again rules life listing a count s present =
-    let o = next_order count (deletion rules s a) running in
-    let w = standing_with (since_birth life) o present refl refl in
-    let facts = facts_of (life ++ o ∷ []) listing (the.Deprovision a) in
-    subst (λ (t : Option Standing). (deprovision_at rules facts a t).change ≡ Nothing) (sym (ap standing_since (since_birth-later life o refl refl) ∙ w.2))
-    (accepted_quiet a.accepts_incomplete facts.last)
+    now : (updates : Bool) → has_succeeded kind.Update o ≡ updates → last_where (has_succeeded kind.Update) birth (later ++ o ∷ []) ≡ cond updates o from
+    now true is = last_where-hit (has_succeeded kind.Update) birth later o is
+    now false is = last_where-miss (has_succeeded kind.Update) birth later o is
 
-deletion_done_again : (rules : Rules) (life : Life) (listing : List (List ℕ × Order)) (a : Deprovision) (count : ℕ) (s : Attributes) (credentials : List ℕ) → change_of rules (life ++ next_order count (deletion rules s a) (succeeded_with credentials) ∷ []) listing (the.Deprovision a) ≡ Nothing
-deletion_done_again rules life listing a count s credentials =
-    let o = next_order count (deletion rules s a) (succeeded_with credentials) in
-    let facts = facts_of (life ++ o ∷ []) listing (the.Deprovision a) in
-    subst (λ (t : Option Standing). (deprovision_at rules facts a t).change ≡ Nothing) (sym (ap standing_since (since_birth-deleted life o refl refl))) refl
+module _ (id : List ℕ) where
+  abbrev is_bind_of : Order → Bool
+  is_bind_of o = is_a kind.Bind o && is_of_binding id o
 
-deletion_again : (rules : Rules) (life : Life) (listing : List (List ℕ × Order)) (a : Deprovision) (s : Attributes) → is_absent life ≡ false → Again rules life listing (the.Deprovision a) (deprovision_idle rules (facts_of life listing (the.Deprovision a)) s a).change
-deletion_again rules life listing a s present =
-    let P : Change → Type 0 = Again rules life listing (the.Deprovision a) in
-    let Q : Reaction → Type 0 = λ r. P r.change in
-    let facts = facts_of life listing (the.Deprovision a) in
-    choose Q (is_busy facts) _ _ (λ _ e. e) (λ _.
-    choose Q facts.bound _ _ (λ _ e. e) (λ _.
-    opened_again P rules facts (deletion rules s a) (λ e. e) (λ _ _. deletion_runs_again rules life listing a _ s present) (λ _ _. deletion_done_again rules life listing a _ s _)))
+  abbrev is_unbind_of : Order → Bool
+  is_unbind_of o = is_a kind.Unbind o && is_of_binding id o
 
-deprovision_over_again : (p : InstancePhase) (rules : Rules) (life : Life) (listing : List (List ℕ × Order)) (a : Deprovision) (s : Attributes) → is_absent life ≡ false → Again rules life listing (the.Deprovision a) (deprovision_over p rules (facts_of life listing (the.Deprovision a)) s a).change
-deprovision_over_again phase.Deleting rules life listing a s present =
-    subst (Again rules life listing (the.Deprovision a)) (sym (accepted_quiet a.accepts_incomplete (facts_of life listing (the.Deprovision a)).last)) (λ e. e)
-deprovision_over_again _ rules life listing a s present = deletion_again rules life listing a s present
+  abbrev is_unbound : Order → Bool
+  is_unbound o = has_succeeded kind.Unbind o && is_of_binding id o
 
-deprovision_again : (rules : Rules) (life : Life) (listing : List (List ℕ × Order)) (a : Deprovision) (s : Option Standing) → standing_of life ≡ s → Again rules life listing (the.Deprovision a) (deprovision_at rules (facts_of life listing (the.Deprovision a)) a s).change
-deprovision_again rules life listing a None e = λ h. h
-deprovision_again rules life listing a (Some s) e = deprovision_over_again s.phase rules life listing a s.attributes (present_of_some (since_birth life) s e)
+  -- a Bind is the birth of its binding
+  bind_grown : (since : Life) (o : Order) → is_empty since ≡ false → is_bind_of o ≡ true → is_unbound o ≡ false → since_bind id (grow since o) ≡ o ∷ []
+  bind_grown [] o present binds stays = cc
+  bind_grown (x ∷ xs) o present binds stays = rw (from_last-hit is_bind_of (x ∷ xs) o binds, stays) refl
 
--- Update
+  -- an Unbind comes after it
+  unbind_grown : (since : Life) (o : Order) → is_bind_of o ≡ false → since_bind id (grow since o) ≡ unless is_unbound (grow (from_last is_bind_of since) o)
+  unbind_grown [] o other = refl
+  unbind_grown (x ∷ xs) o other = ap (unless is_unbound) (from_last-miss is_bind_of (x ∷ xs) o other)
 
-update_checked_quiet : (rules : Rules) (facts : Facts) (s : Standing) (a : Update) → (update_by s.phase rules facts s.attributes a (target rules s.attributes a)).change ≡ Nothing → (update_checked rules facts s a).change ≡ Nothing
-update_checked_quiet rules facts s a h =
-    let Q : Reaction → Type 0 = λ r. r.change ≡ Nothing in
-    choose Q (not (bytes_eq a.service s.attributes.service)) _ _ (λ _. refl) (λ _.
-    choose Q (is_unlike a.maintenance (catalog_version rules s.attributes.service (target_plan s.attributes a))) _ _ (λ _. refl) (λ _. h))
-
-update_runs_again : (rules : Rules) (life : Life) (listing : List (List ℕ × Order)) (a : Update) (count : ℕ) (s aim : Attributes) → is_absent life ≡ false → change_of rules (life ++ next_order count (update_opening rules s a aim) running ∷ []) listing (the.Update a) ≡ Nothing
-update_runs_again rules life listing a count s aim present =
-    let o = next_order count (update_opening rules s a aim) running in
-    let w = standing_with (since_birth life) o present refl refl in
-    let facts = facts_of (life ++ o ∷ []) listing (the.Update a) in
-    let s' = standing_by phase.Updating w.1 in
-    subst (λ (t : Option Standing). (update_at rules facts a t).change ≡ Nothing) (sym (ap standing_since (since_birth-later life o refl refl) ∙ w.2))
-    (update_checked_quiet rules facts s' a (update_running_quiet facts a (target rules s'.attributes a)))
-
-standing_updated : (orders : Life) (o : Order) → is_empty orders ≡ false → is_of_instance o ≡ true → has_succeeded kind.Update o ≡ true → (birth : OrderState) × (standing_since (grow orders o) ≡ Some (standing_by (phase_by birth o.kind o.outcome.state) o))
-standing_updated [] o present hit done = cc
-standing_updated (birth ∷ later) o present hit done = (
-  birth.outcome.state,
-  ap (λ (l : Order). Some (standing_by (phase_by birth.outcome.state l.kind l.outcome.state) (last_where (has_succeeded kind.Update) birth (later ++ o ∷ [])))) (last_where-hit is_of_instance birth later o hit)
-      ∙ ap (λ (b : Order). Some (standing_by (phase_by birth.outcome.state o.kind o.outcome.state) b)) (last_where-hit (has_succeeded kind.Update) birth later o done),
-)
+-- What was asked for is there
 
 given_twice : (given : Option (List ℕ)) (standing : List ℕ) → unwrap_or given (unwrap_or given standing) ≡ unwrap_or given standing
 given_twice None standing = refl
 given_twice (Some given) standing = refl
 
-maintenance_twice : (rules : Rules) (s s' : Attributes) (a : Update) (v : Option (List ℕ)) → s'.plan ≡ target_plan s a → s'.maintenance ≡ target_maintenance rules s a v → target_maintenance rules s' a v ≡ s'.maintenance
-maintenance_twice rules s s' a (Some given) p m = sym m
-maintenance_twice rules s s' a None p m =
-    let same : target_plan s' a ≡ s'.plan = ap (λ x. unwrap_or a.plan x) p ∙ given_twice a.plan s.plan ∙ sym p in
-    let test : bytes_eq (target_plan s' a) s'.plan ≡ true = ap (λ x. bytes_eq x s'.plan) same ∙ same_bytes s'.plan in
-    ap (λ b. cond b s'.maintenance (catalog_version rules s'.service (target_plan s' a))) test
+module _ (rules : Rules) (s : Attributes) (a : Update) where
+  maintenance_twice : (given : Option (List ℕ)) (aim : Attributes) → aim.plan ≡ target_plan s a → aim.maintenance ≡ target_maintenance rules s a given → target_maintenance rules aim a given ≡ aim.maintenance
+  maintenance_twice (Some given) aim plan is = sym is
+  maintenance_twice None aim plan is =
+      let same : target_plan aim a ≡ aim.plan = ap (unwrap_or a.plan) plan ∙ given_twice a.plan s.plan ∙ sym plan in
+      ap (λ same. cond same aim.maintenance (catalog_version rules aim.service (target_plan aim a))) (ap (λ plan. bytes_eq plan aim.plan) same ∙ same_bytes aim.plan)
 
--- the target of an instance that has it
-target_settled : (rules : Rules) (s : Attributes) (a : Update) → target rules (target rules s a) a ≡ target rules s a
-target_settled rules s a = λ i. record {
-  service = s.service;
-  plan = given_twice a.plan s.plan i;
-  place = s.place;
-  spot = s.spot;
-  parameters = given_twice a.parameters s.parameters i;
-  maintenance = maintenance_twice rules s (target rules s a) a a.maintenance refl refl i;
-}
+  -- an instance that has its target
+  target_twice : target rules (target rules s a) a ≡ target rules s a
+  target_twice = λ i. record {
+    service = s.service;
+    plan = given_twice a.plan s.plan i;
+    place = s.place;
+    spot = s.spot;
+    parameters = given_twice a.parameters s.parameters i;
+    maintenance = maintenance_twice a.maintenance (target rules s a) refl refl i;
+  }
 
-and_both : (b c : Bool) → b ≡ true → c ≡ true → (b && c) ≡ true
-and_both true true p q = refl
-and_both true false p q = cc
-and_both false c p q = cc
+same_twice : (a : Attributes) → are_same a a ≡ true
+same_twice a = rw (same_bytes a.service, same_bytes a.plan, same_bytes a.place, same_bytes a.spot, same_bytes a.parameters, same_bytes a.maintenance) refl
 
-are_same_self : (a : Attributes) → are_same a a ≡ true
-are_same_self a = and_both _ _ (and_both _ _ (and_both _ _ (and_both _ _ (and_both _ _ (same_bytes a.service) (same_bytes a.plan)) (same_bytes a.place)) (same_bytes a.spot)) (same_bytes a.parameters)) (same_bytes a.maintenance)
+-- Answers that change nothing, to what is there
 
-choose_true : {A : Type 0} (P : A → Type 0) (b : Bool) (x y : A) → b ≡ true → P x → P (cond b x y)
-choose_true P true x y e h = h
-choose_true P false x y e h = cc
+checked_quiet : (rules : Rules) (facts : Facts) (a : Update) (s : Standing) → (update_by s.phase rules facts s.attributes a (target rules s.attributes a)).change ≡ Nothing → (update_checked rules facts s a).change ≡ Nothing
+checked_quiet rules facts a s quiet =
+    let Quiet : Reaction → Type 0 = λ reaction. reaction.change ≡ Nothing in
+    choose Quiet (not (bytes_eq a.service s.attributes.service)) _ _ (λ _. refl)
+    (λ _. choose Quiet (is_unlike a.maintenance (catalog_version rules s.attributes.service (target_plan s.attributes a))) _ _ (λ _. refl) (λ _. quiet))
 
-settled_quiet : (rules : Rules) (facts : Facts) (s : Attributes) (a : Update) (aim : Attributes) → aim ≡ s → (update_ready rules facts s a aim).change ≡ Nothing
-settled_quiet rules facts s a aim e =
-    let test : are_same aim s ≡ true = ap (λ x. are_same x s) e ∙ are_same_self s in
-    choose_true (λ (r : Reaction). r.change ≡ Nothing) (are_same aim s) done _ test refl
+ready_quiet : (rules : Rules) (facts : Facts) (a : Update) (s : Attributes) → target rules s a ≡ s → (update_ready rules facts s a (target rules s a)).change ≡ Nothing
+ready_quiet rules facts a s is =
+    let same : are_same (target rules s a) s ≡ true = ap (λ aim. are_same aim s) is ∙ same_twice s in
+    choose (λ (r : Reaction). r.change ≡ Nothing) (are_same (target rules s a) s) done _ (λ _. refl) (λ other. absurd (true≢false (sym same ∙ other)))
 
-update_done_again : (rules : Rules) (life : Life) (listing : List (List ℕ × Order)) (a : Update) (count : ℕ) (s : Attributes) → is_absent life ≡ false → change_of rules (life ++ next_order count (update_opening rules s a (target rules s a)) (succeeded_with empty_object) ∷ []) listing (the.Update a) ≡ Nothing
-update_done_again rules life listing a count s present =
-    let o = next_order count (update_opening rules s a (target rules s a)) (succeeded_with empty_object) in
-    let w = standing_updated (since_birth life) o present refl refl in
-    let facts = facts_of (life ++ o ∷ []) listing (the.Update a) in
-    subst (λ (t : Option Standing). (update_at rules facts a t).change ≡ Nothing) (sym (ap standing_since (since_birth-later life o refl refl) ∙ w.1))
-    (update_checked_quiet rules facts (record { phase = phase.Ready; attributes = target rules s a }) a (settled_quiet rules facts (target rules s a) a (target rules (target rules s a) a) (target_settled rules s a)))
-
-update_ready_again : (rules : Rules) (life : Life) (listing : List (List ℕ × Order)) (a : Update) (s : Attributes) → is_absent life ≡ false → Again rules life listing (the.Update a) (update_ready rules (facts_of life listing (the.Update a)) s a (target rules s a)).change
-update_ready_again rules life listing a s present =
-    let P : Change → Type 0 = Again rules life listing (the.Update a) in
-    let Q : Reaction → Type 0 = λ r. P r.change in
-    let facts = facts_of life listing (the.Update a) in
-    choose Q (are_same (target rules s a) s) _ _ (λ _ e. e) (λ _.
-    choose Q (is_busy facts) _ _ (λ _ e. e) (λ _.
-    choose Q (forbids_change rules s (target rules s a)) _ _ (λ _ e. e) (λ _.
-    opened_again P rules facts (update_opening rules s a (target rules s a)) (λ e. e) (λ _ _. update_runs_again rules life listing a _ s _ present) (λ _ _. update_done_again rules life listing a _ s present))))
-
-update_by_again : (p : InstancePhase) (rules : Rules) (life : Life) (listing : List (List ℕ × Order)) (a : Update) (s : Attributes) → is_absent life ≡ false → Again rules life listing (the.Update a) (update_by p rules (facts_of life listing (the.Update a)) s a (target rules s a)).change
-update_by_again phase.Updating rules life listing a s present =
-    subst (Again rules life listing (the.Update a)) (sym (update_running_quiet (facts_of life listing (the.Update a)) a (target rules s a))) (λ e. e)
-update_by_again _ rules life listing a s present = update_ready_again rules life listing a s present
-
-update_checked_again : (rules : Rules) (life : Life) (listing : List (List ℕ × Order)) (a : Update) (s : Standing) → is_absent life ≡ false → Again rules life listing (the.Update a) (update_checked rules (facts_of life listing (the.Update a)) s a).change
-update_checked_again rules life listing a s present =
-    let Q : Reaction → Type 0 = λ r. Again rules life listing (the.Update a) r.change in
-    choose Q (not (bytes_eq a.service s.attributes.service)) _ _ (λ _ e. e) (λ _.
-    choose Q (is_unlike a.maintenance (catalog_version rules s.attributes.service (target_plan s.attributes a))) _ _ (λ _ e. e) (λ _. update_by_again s.phase rules life listing a s.attributes present))
-
-update_over_again : (p : InstancePhase) (rules : Rules) (life : Life) (listing : List (List ℕ × Order)) (a : Update) (s : Standing) → is_absent life ≡ false → Again rules life listing (the.Update a) (update_over p rules (facts_of life listing (the.Update a)) s a).change
-update_over_again phase.Failed rules life listing a s present = λ e. e
-update_over_again phase.Creating rules life listing a s present = λ e. e
-update_over_again phase.Deleting rules life listing a s present = λ e. e
-update_over_again _ rules life listing a s present = update_checked_again rules life listing a s present
-
-update_again : (rules : Rules) (life : Life) (listing : List (List ℕ × Order)) (a : Update) (s : Option Standing) → standing_of life ≡ s → Again rules life listing (the.Update a) (update_at rules (facts_of life listing (the.Update a)) a s).change
-update_again rules life listing a None e = λ h. h
-update_again rules life listing a (Some s) e = update_over_again s.phase rules life listing a s (present_of_some (since_birth life) s e)
-
--- Bind
-
-bind_quiet_by : (rules : Rules) (facts : Facts) (a : Bind) (b : BindingNow) (s : Option Standing) → facts.binding ≡ Some b → (bind_at rules facts a s).change ≡ Nothing
-bind_quiet_by rules facts a b None e = refl
-bind_quiet_by rules facts a b (Some s) e = over s.phase
+bind_quiet : (rules : Rules) (facts : Facts) (a : Bind) (b : BindingNow) (s : Option Standing) → facts.binding ≡ Some b → (bind_at rules facts a s).change ≡ Nothing
+bind_quiet rules facts a b None is = refl
+bind_quiet rules facts a b (Some s) is = over s.phase
   where
     by : (bind_by rules facts s.attributes a facts.binding).change ≡ Nothing
-    by = subst (λ (t : Option BindingNow). (bind_by rules facts s.attributes a t).change ≡ Nothing) (sym e) (bind_over_quiet b.phase _ b facts a)
+    by = subst (λ found. (bind_by rules facts s.attributes a found).change ≡ Nothing) (sym is) (bind_over_quiet b.phase _ b facts a)
 
     over : (p : InstancePhase) → (bind_in p rules facts s.attributes a).change ≡ Nothing
     over phase.Failed = refl
     over phase.Creating = refl
-    over phase.Ready = by
-    over phase.Updating = by
-    over phase.Deleting = by
-
-abbrev is_bind_of : List ℕ → Order → Bool
-is_bind_of id o = is_a kind.Bind o && is_of_binding id o
-
-abbrev is_unbound : List ℕ → Order → Bool
-is_unbound id o = has_succeeded kind.Unbind o && is_of_binding id o
-
--- a Bind is the birth of its binding
-since_bind-bind : (id : List ℕ) (orders : Life) (o : Order) → is_empty orders ≡ false → is_bind_of id o ≡ true → is_unbound id o ≡ false → since_bind id (grow orders o) ≡ o ∷ []
-since_bind-bind id [] o present hit miss = cc
-since_bind-bind id (x ∷ xs) o present hit miss = ap (unless (is_unbound id)) (from_last-hit (is_bind_of id) (x ∷ xs) o hit) ∙ ap (λ b. cond (b || false) [] (o ∷ [])) miss
-
-bound_again : (rules : Rules) (life : Life) (listing : List (List ℕ × Order)) (a : Bind) (count : ℕ) (s : Attributes) (outcome : Outcome) → is_absent life ≡ false → change_of rules (life ++ next_order count (bind_opening rules s a) outcome ∷ []) listing (the.Bind a) ≡ Nothing
-bound_again rules life listing a count s outcome present =
-    let o = next_order count (bind_opening rules s a) outcome in
-    let facts = facts_of (life ++ o ∷ []) listing (the.Bind a) in
-    let there : since_bind a.binding (since_birth (life ++ o ∷ [])) ≡ o ∷ [] = ap (since_bind a.binding) (since_birth-later life o refl refl) ∙ since_bind-bind a.binding (since_birth life) o present (same_bytes a.binding) refl in
-    bind_quiet_by rules facts a _ (standing_of (life ++ o ∷ [])) (ap (binding_since a.binding) there)
-
-bind_new_again : (rules : Rules) (life : Life) (listing : List (List ℕ × Order)) (a : Bind) (s : Attributes) → is_absent life ≡ false → Again rules life listing (the.Bind a) (bind_new rules (facts_of life listing (the.Bind a)) s a).change
-bind_new_again rules life listing a s present =
-    let P : Change → Type 0 = Again rules life listing (the.Bind a) in
-    let Q : Reaction → Type 0 = λ r. P r.change in
-    let facts = facts_of life listing (the.Bind a) in
-    choose Q (is_busy facts) _ _ (λ _ e. e) (λ _.
-    choose Q (not (is_of_plan a s)) _ _ (λ _ e. e) (λ _.
-    choose Q (not (is_bindable rules s.service s.plan)) _ _ (λ _ e. e) (λ _.
-    opened_again P rules facts (bind_opening rules s a) (λ e. e) (λ _ _. bound_again rules life listing a _ s _ present) (λ _ _. bound_again rules life listing a _ s _ present))))
-
-bind_by_again : (rules : Rules) (life : Life) (listing : List (List ℕ × Order)) (a : Bind) (s : Attributes) (b : Option BindingNow) → is_absent life ≡ false → Again rules life listing (the.Bind a) (bind_by rules (facts_of life listing (the.Bind a)) s a b).change
-bind_by_again rules life listing a s None present = bind_new_again rules life listing a s present
-bind_by_again rules life listing a s (Some b) present = subst (Again rules life listing (the.Bind a)) (sym (bind_over_quiet b.phase _ b (facts_of life listing (the.Bind a)) a)) (λ e. e)
-
-bind_in_again : (p : InstancePhase) (rules : Rules) (life : Life) (listing : List (List ℕ × Order)) (a : Bind) (s : Attributes) → is_absent life ≡ false → Again rules life listing (the.Bind a) (bind_in p rules (facts_of life listing (the.Bind a)) s a).change
-bind_in_again phase.Failed rules life listing a s present = λ e. e
-bind_in_again phase.Creating rules life listing a s present = λ e. e
-bind_in_again _ rules life listing a s present = bind_by_again rules life listing a s (binding_of a.binding life) present
-
-bind_again : (rules : Rules) (life : Life) (listing : List (List ℕ × Order)) (a : Bind) (s : Option Standing) → standing_of life ≡ s → Again rules life listing (the.Bind a) (bind_at rules (facts_of life listing (the.Bind a)) a s).change
-bind_again rules life listing a None e = λ h. h
-bind_again rules life listing a (Some s) e = bind_in_again s.phase rules life listing a s.attributes (present_of_some (since_birth life) s e)
-
--- Unbind
-
-abbrev is_unbind_of : List ℕ → Order → Bool
-is_unbind_of id o = is_a kind.Unbind o && is_of_binding id o
-
-from_last-grow : {A : Type 0} (p : A → Bool) (xs : List A) (y : A) → p y ≡ false → from_last p (grow xs y) ≡ grow (from_last p xs) y
-from_last-grow p [] y miss = refl
-from_last-grow p (x ∷ xs) y miss = from_last-miss p (x ∷ xs) y miss
-
--- an order that is no Bind of the id and doesn't end it comes after the Bind
-since_bind-later : (id : List ℕ) (orders : Life) (o : Order) → is_bind_of id o ≡ false → is_unbound id o ≡ false → since_bind id (grow orders o) ≡ grow (since_bind id orders) o
-since_bind-later id orders o miss stays = ap (unless (is_unbound id)) (from_last-grow (is_bind_of id) orders o miss) ∙ unless-miss (is_unbound id) (from_last (is_bind_of id) orders) o stays
-
-since_bind-unbound : (id : List ℕ) (orders : Life) (o : Order) → is_bind_of id o ≡ false → is_unbound id o ≡ true → since_bind id (grow orders o) ≡ []
-since_bind-unbound id orders o miss ends = ap (unless (is_unbound id)) (from_last-grow (is_bind_of id) orders o miss) ∙ unless-hit (is_unbound id) (from_last (is_bind_of id) orders) o ends
-
-unbinding_quiet : (id : List ℕ) (orders : Life) (o : Order) (rules : Rules) (facts : Facts) (a : Unbind) → o.kind ≡ kind.Unbind → o.outcome.state ≡ Running → is_unbind_of id o ≡ true → (unbind_at rules facts a (binding_since id (grow orders o))).change ≡ Nothing
-unbinding_quiet id [] o rules facts a k r hit = refl
-unbinding_quiet id (bind ∷ later) o rules facts a k r hit =
-    let last : last_where (is_unbind_of id) bind (later ++ o ∷ []) ≡ o = last_where-hit (is_unbind_of id) bind later o hit in
-    let now : binding_phase_by (last_where (is_unbind_of id) bind (later ++ o ∷ [])).kind (last_where (is_unbind_of id) bind (later ++ o ∷ [])).outcome.state ≡ bindings.Unbinding
-    = ap (λ (l : Order). binding_phase_by l.kind l.outcome.state) last ∙ ap (λ (x : OrderKind). binding_phase_by x o.outcome.state) k ∙ ap (λ (x : OrderState). binding_phase_by kind.Unbind x) r in
-    subst (λ (p : BindingPhase). (unbind_at rules facts a (Some (binding_by p bind))).change ≡ Nothing) (sym now) (accepted_quiet a.accepts_incomplete facts.last)
-
-unbind_runs_again : (rules : Rules) (life : Life) (listing : List (List ℕ × Order)) (a : Unbind) (count : ℕ) (s : Option Standing) (b : BindingNow) → change_of rules (life ++ next_order count (unbind_opening rules s b a) running ∷ []) listing (the.Unbind a) ≡ Nothing
-unbind_runs_again rules life listing a count s b =
-    let o = next_order count (unbind_opening rules s b a) running in
-    let facts = facts_of (life ++ o ∷ []) listing (the.Unbind a) in
-    let there : since_bind a.binding (since_birth (life ++ o ∷ [])) ≡ grow (since_bind a.binding (since_birth life)) o = ap (since_bind a.binding) (since_birth-later life o refl refl) ∙ since_bind-later a.binding (since_birth life) o refl refl in
-    subst (λ (orders : Life). (unbind_at rules facts a (binding_since a.binding orders)).change ≡ Nothing) (sym there)
-    (unbinding_quiet a.binding (since_bind a.binding (since_birth life)) o rules facts a refl refl (same_bytes a.binding))
-
-unbind_done_again : (rules : Rules) (life : Life) (listing : List (List ℕ × Order)) (a : Unbind) (count : ℕ) (s : Option Standing) (b : BindingNow) (credentials : List ℕ) → change_of rules (life ++ next_order count (unbind_opening rules s b a) (succeeded_with credentials) ∷ []) listing (the.Unbind a) ≡ Nothing
-unbind_done_again rules life listing a count s b credentials =
-    let o = next_order count (unbind_opening rules s b a) (succeeded_with credentials) in
-    let facts = facts_of (life ++ o ∷ []) listing (the.Unbind a) in
-    let there : since_bind a.binding (since_birth (life ++ o ∷ [])) ≡ [] = ap (since_bind a.binding) (since_birth-later life o refl refl) ∙ since_bind-unbound a.binding (since_birth life) o refl (same_bytes a.binding) in
-    subst (λ (orders : Life). (unbind_at rules facts a (binding_since a.binding orders)).change ≡ Nothing) (sym there) refl
-
-unbind_over_again : (p : BindingPhase) (rules : Rules) (life : Life) (listing : List (List ℕ × Order)) (a : Unbind) (b : BindingNow) → Again rules life listing (the.Unbind a) (unbind_over p rules (facts_of life listing (the.Unbind a)) b a).change
-unbind_over_again bindings.Unbinding rules life listing a b = subst (Again rules life listing (the.Unbind a)) (sym (accepted_quiet a.accepts_incomplete (facts_of life listing (the.Unbind a)).last)) (λ e. e)
-unbind_over_again _ rules life listing a b =
-    let P : Change → Type 0 = Again rules life listing (the.Unbind a) in
-    let facts = facts_of life listing (the.Unbind a) in
-    choose (λ (r : Reaction). P r.change) (is_busy facts) _ _ (λ _ e. e) (λ _.
-    opened_again P rules facts (unbind_opening rules facts.standing b a) (λ e. e) (λ _ _. unbind_runs_again rules life listing a _ (standing_of life) b) (λ _ _. unbind_done_again rules life listing a _ (standing_of life) b _))
-
-unbind_again : (rules : Rules) (life : Life) (listing : List (List ℕ × Order)) (a : Unbind) (b : Option BindingNow) → Again rules life listing (the.Unbind a) (unbind_at rules (facts_of life listing (the.Unbind a)) a b).change
-unbind_again rules life listing a None = λ h. h
-unbind_again rules life listing a (Some b) = unbind_over_again b.phase rules life listing a b
-
--- Report
-
--- once the last order has ended, none runs
-found_still : (p : Order → Bool) (before later : Life) (outcome : Outcome) (o : Order) → IsLifeAfter before later → (state_number outcome.state == 0) ≡ false → find p (with_last_ended outcome later) ≡ Some o → is_now Running o ≡ false
-found_still p before [] outcome o h ended f = cc
-found_still p before (x ∷ []) outcome o h ended f =
-    split (p (with_outcome outcome x)) (with_outcome outcome x) o None f (λ e. sym (ap (is_now Running) e) ∙ ended) (λ e. cc)
-found_still p before (x ∷ y ∷ later) outcome o h ended f =
-    split (p x) x o (find p (with_last_ended outcome (y ∷ later))) f
-    (λ e. sym (ap (is_now Running) e) ∙ sym (ap (λ (l : Option Order). option_map_or (is_now Running) l false) (last_of-push before x)) ∙ h.1.0.ended)
-    (λ f'. found_still p (before ++ x ∷ []) (y ∷ later) outcome o h.1 ended f')
+    over _ = by
 
 report_quiet : (a : Report) (named : Option Order) → ((o : Order) → named ≡ Some o → is_now Running o ≡ false) → (report a named).change ≡ Nothing
-report_quiet a None still = refl
-report_quiet a (Some o) still =
-    choose (λ (r : Reaction). r.change ≡ Nothing) (is_now Running o) _ _ (λ run. let e : true ≡ false = sym run ∙ still o refl in cc)
-    (λ _. choose (λ (r : Reaction). r.change ≡ Nothing) (is_outcome o.outcome (kept_outcome a o)) _ _ (λ _. refl) (λ _. refl))
+report_quiet a None ended = refl
+report_quiet a (Some o) ended =
+    let Quiet : Reaction → Type 0 = λ reaction. reaction.change ≡ Nothing in
+    choose Quiet (is_now Running o) _ _ (λ runs. absurd (true≢false (sym runs ∙ ended o refl)))
+    (λ _. choose Quiet (is_outcome o.outcome (kept_outcome a o)) _ _ (λ _. refl) (λ _. refl))
 
-ended_by_report : (state : ReportState) → (state_number (reported_state state) == 0) ≡ false
-ended_by_report said.Succeeded = refl
-ended_by_report said.Failed = refl
+ended_by : (state : ReportState) → (state_number (reported_state state) == 0) ≡ false
+ended_by said.Succeeded = refl
+ended_by said.Failed = refl
 
-report_again : (rules : Rules) (life : Life) (listing : List (List ℕ × Order)) (a : Report) (named : Option Order) → IsLifeAfter [] life → Again rules life listing (the.Report a) (report a named).change
-report_again rules life listing a None h = λ e. e
-report_again rules life listing a (Some o) h =
-    let Q : Reaction → Type 0 = λ r. Again rules life listing (the.Report a) r.change in
-    choose Q (is_now Running o) _ _
-    (λ _ _. report_quiet a _ (λ x f. found_still (λ o. o.number == a.number) [] life (kept_outcome a o) x h (ended_by_report a.state) f))
-    (λ _. choose Q (is_outcome o.outcome (kept_outcome a o)) _ _ (λ _ e. e) (λ _ e. e))
+-- The ask is asked again after its own change
 
--- The whole table
+module _ (rules : Rules) (life : Life) (listing : List (List ℕ × Order)) where
+  abbrev Settled : Ask → Change → Type 0
+  Settled ask c = change_of rules life listing ask ≡ c → change_of rules (changed c life) listing ask ≡ Nothing
+
+  -- with one order more
+  abbrev Rests : Ask → Order → Type 0
+  Rests ask o = change_of rules (life ++ o ∷ []) listing ask ≡ Nothing
+
+  module _ (ask : Ask) where
+    abbrev Settles : Reaction → Type 0
+    Settles reaction = Settled ask reaction.change
+
+    still : (c : Change) → c ≡ Nothing → Settled ask c
+    still c is = subst (Settled ask) (sym is) (λ own. own)
+
+    past : (test : Bool) (here other : Reaction) → here.change ≡ Nothing → Settles other → Settles (cond test here other)
+    past test here other quiet otherwise = choose Settles test here other (λ _. still here.change quiet) (λ _. otherwise)
+
+    opening : (o : Opening) → Rests ask (next_order (length life) o running) → Rests ask (next_order (length life) o (succeeded_with o.credentials)) → Settles (opened rules (facts_of life listing ask) o)
+    opening o later now =
+        past (o.asynchronous && not o.accepts_incomplete) _ _ refl
+        (past (nat_le rules.order_limit (length life)) _ _ refl
+        (choose Settles o.asynchronous _ _ (λ _ _. later) (λ _ _. now)))
+
+  provision_settles : (a : Provision) → Settles (the.Provision a) (provision rules (facts_of life listing (the.Provision a)) a)
+  provision_settles a = past (the.Provision a) (is_unlike a.maintenance (catalog_version rules a.service a.plan)) _ _ refl (at (standing_of life))
+    where
+      created : (o : Order) → is_a kind.Create o ≡ true → Rests (the.Provision a) o
+      created o creates =
+          let facts = facts_of (life ++ o ∷ []) listing (the.Provision a) in
+          choose (λ (r : Reaction). r.change ≡ Nothing) (is_unlike a.maintenance (catalog_version rules a.service a.plan)) _ (provision_at rules facts a facts.standing) (λ _. refl)
+          (λ _. subst (λ s. (provision_at rules facts a s).change ≡ Nothing) (sym (ap standing_since (since_birth-create life o creates)))
+          (provision_over_quiet (phase_by o.outcome.state o.kind o.outcome.state) _ a facts))
+
+      at : (s : Option Standing) → Settles (the.Provision a) (provision_at rules (facts_of life listing (the.Provision a)) a s)
+      at None = opening (the.Provision a) (creation rules a) (created _ refl) (created _ refl)
+      at (Some s) = still (the.Provision a) _ (provision_over_quiet s.phase _ a (facts_of life listing (the.Provision a)))
+
+  deprovision_settles : (a : Deprovision) (s : Standing) → is_absent life ≡ false → Settles (the.Deprovision a) (deprovision_at rules (facts_of life listing (the.Deprovision a)) a (Some s))
+  deprovision_settles a s present = over s.phase
+    where
+      o : Outcome → Order
+      o outcome = next_order (length life) (deletion rules s.attributes a) outcome
+
+      rests : (outcome : Outcome) (now : Option Standing) → standing_of (life ++ o outcome ∷ []) ≡ now → (deprovision_at rules (facts_of (life ++ o outcome ∷ []) listing (the.Deprovision a)) a now).change ≡ Nothing → Rests (the.Deprovision a) (o outcome)
+      rests outcome now is quiet = subst (λ s. (deprovision_at rules (facts_of (life ++ o outcome ∷ []) listing (the.Deprovision a)) a s).change ≡ Nothing) (sym is) quiet
+
+      runs : Rests (the.Deprovision a) (o running)
+      runs = rests running _ (ap standing_since (since_birth-later life (o running) refl refl) ∙ (standing_grown (since_birth life) (o running) present refl false refl).2) (accepted_quiet a.accepts_incomplete (last_of (life ++ o running ∷ [])))
+
+      ended : Rests (the.Deprovision a) (o (succeeded_with empty_object))
+      ended = rests (succeeded_with empty_object) None (ap standing_since (since_birth-deleted life (o (succeeded_with empty_object)) refl refl)) refl
+
+      over : (p : InstancePhase) → Settles (the.Deprovision a) (deprovision_over p rules (facts_of life listing (the.Deprovision a)) s.attributes a)
+      over phase.Deleting = still (the.Deprovision a) _ (accepted_quiet a.accepts_incomplete (last_of life))
+      over _ = past (the.Deprovision a) (is_busy (facts_of life listing (the.Deprovision a))) _ _ refl (past (the.Deprovision a) (has_bindings life) _ _ refl (opening (the.Deprovision a) (deletion rules s.attributes a) runs ended))
+
+  update_settles : (a : Update) (s : Standing) → is_absent life ≡ false → Settles (the.Update a) (update_at rules (facts_of life listing (the.Update a)) a (Some s))
+  update_settles a s present = over s.phase
+    where
+      aim : Attributes
+      aim = target rules s.attributes a
+
+      o : Outcome → Order
+      o outcome = next_order (length life) (update_opening rules s.attributes a aim) outcome
+
+      facts : Outcome → Facts
+      facts outcome = facts_of (life ++ o outcome ∷ []) listing (the.Update a)
+
+      rests : (outcome : Outcome) (now : Standing) → standing_since (grow (since_birth life) (o outcome)) ≡ Some now → (update_at rules (facts outcome) a (Some now)).change ≡ Nothing → Rests (the.Update a) (o outcome)
+      rests outcome now is quiet = subst (λ s. (update_at rules (facts outcome) a s).change ≡ Nothing) (sym (ap standing_since (since_birth-later life (o outcome) refl refl) ∙ is)) quiet
+
+      runs : Rests (the.Update a) (o running)
+      runs =
+          let grown = standing_grown (since_birth life) (o running) present refl false refl in
+          let now : Standing = record { phase = phase.Updating; attributes = grown.1.attributes } in
+          rests running now grown.2 (checked_quiet rules (facts running) a now (update_running_quiet (facts running) a (target rules now.attributes a)))
+
+      ended : Rests (the.Update a) (o (succeeded_with empty_object))
+      ended =
+          let outcome = succeeded_with empty_object in
+          rests outcome (record { phase = phase.Ready; attributes = aim }) (standing_grown (since_birth life) (o outcome) present refl true refl).2
+          (checked_quiet rules (facts outcome) a (record { phase = phase.Ready; attributes = aim }) (ready_quiet rules (facts outcome) a aim (target_twice rules s.attributes a)))
+
+      by : (p : InstancePhase) → Settles (the.Update a) (update_by p rules (facts_of life listing (the.Update a)) s.attributes a aim)
+      by phase.Updating = still (the.Update a) _ (update_running_quiet (facts_of life listing (the.Update a)) a aim)
+      by _ =
+          past (the.Update a) (are_same aim s.attributes) _ _ refl
+          (past (the.Update a) (is_busy (facts_of life listing (the.Update a))) _ _ refl
+          (past (the.Update a) (forbids_change rules s.attributes aim) _ _ refl (opening (the.Update a) (update_opening rules s.attributes a aim) runs ended)))
+
+      checked : Settles (the.Update a) (update_checked rules (facts_of life listing (the.Update a)) s a)
+      checked =
+          past (the.Update a) (not (bytes_eq a.service s.attributes.service)) _ _ refl
+          (past (the.Update a) (is_unlike a.maintenance (catalog_version rules s.attributes.service (target_plan s.attributes a))) _ _ refl (by s.phase))
+
+      over : (p : InstancePhase) → Settles (the.Update a) (update_over p rules (facts_of life listing (the.Update a)) s a)
+      over phase.Failed = λ own. own
+      over phase.Creating = λ own. own
+      over phase.Deleting = λ own. own
+      over _ = checked
+
+  bind_settles : (a : Bind) (s : Standing) → is_absent life ≡ false → Settles (the.Bind a) (bind_at rules (facts_of life listing (the.Bind a)) a (Some s))
+  bind_settles a s present = over s.phase
+    where
+      rests : (outcome : Outcome) → Rests (the.Bind a) (next_order (length life) (bind_opening rules s.attributes a) outcome)
+      rests outcome =
+          let o = next_order (length life) (bind_opening rules s.attributes a) outcome in
+          bind_quiet rules (facts_of (life ++ o ∷ []) listing (the.Bind a)) a _ (standing_of (life ++ o ∷ []))
+          (ap (λ since. binding_since a.binding (since_bind a.binding since)) (since_birth-later life o refl refl) ∙ ap (binding_since a.binding) (bind_grown a.binding (since_birth life) o present (same_bytes a.binding) refl))
+
+      by : (b : Option BindingNow) → Settles (the.Bind a) (bind_by rules (facts_of life listing (the.Bind a)) s.attributes a b)
+      by None =
+          past (the.Bind a) (is_busy (facts_of life listing (the.Bind a))) _ _ refl
+          (past (the.Bind a) (not (is_of_plan a s.attributes)) _ _ refl
+          (past (the.Bind a) (not (is_bindable rules s.attributes.service s.attributes.plan)) _ _ refl (opening (the.Bind a) (bind_opening rules s.attributes a) (rests running) (rests (succeeded_with (bind_opening rules s.attributes a).credentials)))))
+      by (Some b) = still (the.Bind a) _ (bind_over_quiet b.phase _ b (facts_of life listing (the.Bind a)) a)
+
+      over : (p : InstancePhase) → Settles (the.Bind a) (bind_in p rules (facts_of life listing (the.Bind a)) s.attributes a)
+      over phase.Failed = λ own. own
+      over phase.Creating = λ own. own
+      over _ = by (binding_of a.binding life)
+
+  unbind_settles : (a : Unbind) (b : BindingNow) → Settles (the.Unbind a) (unbind_at rules (facts_of life listing (the.Unbind a)) a (Some b))
+  unbind_settles a b = over b.phase
+    where
+      o : Outcome → Order
+      o outcome = next_order (length life) (unbind_opening rules (standing_of life) b a) outcome
+
+      facts : Outcome → Facts
+      facts outcome = facts_of (life ++ o outcome ∷ []) listing (the.Unbind a)
+
+      kept : Life
+      kept = from_last (is_bind_of a.binding) (since_birth life)
+
+      rests : (outcome : Outcome) (since : Life) → unless (is_unbound a.binding) (grow kept (o outcome)) ≡ since → (unbind_at rules (facts outcome) a (binding_since a.binding since)).change ≡ Nothing → Rests (the.Unbind a) (o outcome)
+      rests outcome since is quiet =
+          let there : since_bind a.binding (since_birth (life ++ o outcome ∷ [])) ≡ since = ap (since_bind a.binding) (since_birth-later life (o outcome) refl refl) ∙ unbind_grown a.binding (since_birth life) (o outcome) refl ∙ is in
+          subst (λ since. (unbind_at rules (facts outcome) a (binding_since a.binding since)).change ≡ Nothing) (sym there) quiet
+
+      unbinding : (since : Life) → (unbind_at rules (facts running) a (binding_since a.binding (grow since (o running)))).change ≡ Nothing
+      unbinding [] = refl
+      unbinding (bind ∷ later) =
+          subst (λ (last : Order). (unbind_at rules (facts running) a (Some (record { phase = binding_phase_by last.kind last.outcome.state; attributes = without_maintenance bind.attributes; credentials = bind.outcome.credentials }))).change ≡ Nothing)
+          (sym (last_where-hit (is_unbind_of a.binding) bind later (o running) (same_bytes a.binding))) (accepted_quiet a.accepts_incomplete (last_of (life ++ o running ∷ [])))
+
+      over : (p : BindingPhase) → Settles (the.Unbind a) (unbind_over p rules (facts_of life listing (the.Unbind a)) b a)
+      over bindings.Unbinding = still (the.Unbind a) _ (accepted_quiet a.accepts_incomplete (last_of life))
+      over _ =
+          past (the.Unbind a) (is_busy (facts_of life listing (the.Unbind a))) _ _ refl
+          (opening (the.Unbind a) (unbind_opening rules (standing_of life) b a)
+          (rests running _ (unless-miss (is_unbound a.binding) kept (o running) refl) (unbinding (unless (is_unbound a.binding) kept)))
+          (rests (succeeded_with empty_object) [] (unless-hit (is_unbound a.binding) kept (o (succeeded_with empty_object)) (same_bytes a.binding)) refl))
+
+  report_settles : (a : Report) (named : Option Order) → IsLifeAfter [] life → Settles (the.Report a) (report a named)
+  report_settles a None h = λ own. own
+  report_settles a (Some o) h =
+      choose (Settles (the.Report a)) (is_now Running o) _ _
+      (λ _ _. report_quiet a _ (λ found is. found_ended (λ o. o.number == a.number) life (kept_outcome a o) found h (ended_by a.state) is))
+      (λ _. past (the.Report a) (is_outcome o.outcome (kept_outcome a o)) _ _ refl (λ own. own))
+
+  -- where there is none, nothing is changed in either turn
+  update_at_settles : (a : Update) (s : Option Standing) → standing_of life ≡ s → Settles (the.Update a) (update_at rules (facts_of life listing (the.Update a)) a s)
+  update_at_settles a None is = λ own. own
+  update_at_settles a (Some s) is = update_settles a s (absent_by life (Some s) is)
+
+  deprovision_at_settles : (a : Deprovision) (s : Option Standing) → standing_of life ≡ s → Settles (the.Deprovision a) (deprovision_at rules (facts_of life listing (the.Deprovision a)) a s)
+  deprovision_at_settles a None is = λ own. own
+  deprovision_at_settles a (Some s) is = deprovision_settles a s (absent_by life (Some s) is)
+
+  bind_at_settles : (a : Bind) (s : Option Standing) → standing_of life ≡ s → Settles (the.Bind a) (bind_at rules (facts_of life listing (the.Bind a)) a s)
+  bind_at_settles a None is = λ own. own
+  bind_at_settles a (Some s) is = bind_settles a s (absent_by life (Some s) is)
+
+  unbind_at_settles : (a : Unbind) (b : Option BindingNow) → Settles (the.Unbind a) (unbind_at rules (facts_of life listing (the.Unbind a)) a b)
+  unbind_at_settles a None = λ own. own
+  unbind_at_settles a (Some b) = unbind_settles a b
+
+-- every ask
 
 pub again_all : (rules : Rules) (life : Life) (listing again : List (List ℕ × Order)) (ask : Ask) → IsLifeAfter [] life → change_of rules (after_ask rules life listing ask) again ask ≡ Nothing
 again_all rules life listing again the.Catalog h = refl
-again_all rules life listing again (the.Provision a) h = provision_again rules life again a refl
+again_all rules life listing again (the.Provision a) h = provision_settles rules life again a refl
 again_all rules life listing again (the.Fetch id) h = fetch_quiet _
-again_all rules life listing again (the.Update a) h = update_again rules life again a (standing_of life) refl refl
-again_all rules life listing again (the.Deprovision a) h = deprovision_again rules life again a (standing_of life) refl refl
+again_all rules life listing again (the.Update a) h = update_at_settles rules life again a (standing_of life) refl refl
+again_all rules life listing again (the.Deprovision a) h = deprovision_at_settles rules life again a (standing_of life) refl refl
 again_all rules life listing again (the.InstanceOp a) h = poll_quiet kind.Delete a.operation (facts_of (after_ask rules life listing (the.InstanceOp a)) again (the.InstanceOp a))
-again_all rules life listing again (the.Bind a) h = bind_again rules life again a (standing_of life) refl refl
+again_all rules life listing again (the.Bind a) h = bind_at_settles rules life again a (standing_of life) refl refl
 again_all rules life listing again (the.FetchBinding a) h = fetch_binding_quiet _
-again_all rules life listing again (the.Unbind a) h = unbind_again rules life again a (binding_of a.binding life) refl
+again_all rules life listing again (the.Unbind a) h = unbind_at_settles rules life again a (binding_of a.binding life) refl
 again_all rules life listing again (the.BindingOp a) h = poll_quiet kind.Unbind a.operation (facts_of (after_ask rules life listing (the.BindingOp a)) again (the.BindingOp a))
 again_all rules life listing again (the.Orders after) h = refl
-again_all rules life listing again (the.Report a) h = report_again rules life again a (find (λ o. o.number == a.number) life) h refl
+again_all rules life listing again (the.Report a) h = report_settles rules life again a (find (λ o. o.number == a.number) life) h refl
