@@ -7,3 +7,4 @@ mod FixedLemmas
 mod TextLemmas
 mod StepLemmas
 mod HandleLemmas
+mod LateLemmas
