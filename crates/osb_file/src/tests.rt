@@ -3,9 +3,8 @@
 use super::*;
 use osb_records::StoreFault;
 use sqlite::Unknown;
-use std::env;
-use std::fs;
 use std::test::Fail;
+use std::{env, fs};
 
 const ORDER: &str =
     "INSERT INTO orders (instance_id, seq, kind, binding_id, service_id, plan_id, place, spot, params, maint, state, note, credentials) VALUES ('i', 1, 1, '', 's', 'p', 'o', 'q', '{}', '', 1, '', '{}')";
