@@ -263,7 +263,7 @@ fn words_of_no_command(rt: HostRuntime) -> Result<(), Fail> {
         &["bogus"],
         &["check"],
         &["check", "a", "b"],
-        &["replay", "a"],
+        &["replay", "--connections", "1"],
         &["--bogus"],
         &["replay", "--per-connection", "0"],
         &["replay", "--per-connection", "1001"],
