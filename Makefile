@@ -1,5 +1,6 @@
 # make        builds ./osb-broker
-# make run    builds it and serves 127.0.0.1:8080 with the settings of examples/settings.json
+# make run    builds it and serves 127.0.0.1:8080 with the settings of examples/settings.json, over the
+#             database osb-broker.db in the working folder
 # make test   is the whole gate: every proof from nothing, then the built program tried from outside
 
 RT ?= rt
@@ -15,13 +16,15 @@ osb-broker: FORCE
 	cp crates/osb_program/out/osb_program $@
 
 run: osb-broker
-	./osb-broker serve --settings examples/settings.json --listen 127.0.0.1:8080
+	./osb-broker serve --settings examples/settings.json --database osb-broker.db --listen 127.0.0.1:8080
 
 test:
 	$(RT) ci
 	$(MAKE) osb-broker
 	python3 tests/program.py ./osb-broker
 	python3 tests/served.py ./osb-broker
+	python3 tests/database.py ./osb-broker
+	python3 tests/killed.py ./osb-broker
 	python3 tests/refused.py ./osb-broker
 	python3 tests/readme.py ./osb-broker
 

@@ -31,7 +31,8 @@ for each in 1 100; do
         port=$((port + 1))
         echo "osb-broker"
         run "${kind%:*}" "$connections" "$each" "${kind#*:}" "$port" "$program" serve \
-            --settings "$here/../examples/settings.json" --listen "127.0.0.1:$port" --per-connection "$each"
+            --settings "$here/../examples/settings.json" --database "$made/$port.db" \
+            --listen "127.0.0.1:$port" --per-connection "$each"
     done
     for kind in catalog:365 create:77; do
         port=$((port + 1))

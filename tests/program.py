@@ -357,7 +357,7 @@ def try_broken_streams(tries, folder):
 
 
 def try_words(tries):
-    for words in [["--help"], ["check", "--help"], ["replay", "--help"]]:
+    for words in [["--help"], ["check", "--help"], ["replay", "--help"], ["serve", "--help"]]:
         ended = tries.run(words)
         helps = ended.returncode == 0 and b"osb-broker" in ended.stdout and not ended.stderr
         tries.tell(f"help {words}", [] if helps else [repr(ended)])

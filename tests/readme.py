@@ -3,25 +3,35 @@
 
 usage: tests/readme.py PROGRAM
 
-What each command writes has to be the lines that the README has below it.
+What each command writes has to be the lines that the README has below it. The commands below
+'With the program stopped' run once the program has been stopped.
 """
 
 import os
 import re
-import socket
+import shutil
 import subprocess
 import sys
+import tempfile
 
-ROOT = os.path.join(os.path.dirname(os.path.abspath(__file__)), "..")
+from serving import EXAMPLES, ROOT, Serving, tell
+
 SHOWN = "127.0.0.1:8090"
+STOPPED = "With the program stopped"
 
 
-def commands():
-    """Each command with the lines below it."""
+def section():
+    """The section for an operator: while the program runs, and with it stopped."""
     with open(os.path.join(ROOT, "README.md"), encoding="utf-8") as file:
-        section = file.read().partition("## For an operator\n")[2].partition("\n## ")[0]
+        text = file.read().partition("## For an operator\n")[2].partition("\n## ")[0]
+    while_running, _, stopped = text.partition(STOPPED)
+    return while_running, stopped
+
+
+def commands(text):
+    """Each command with the lines below it."""
     found = []
-    for line in re.findall("^    (.*)$", section, re.MULTILINE):
+    for line in re.findall("^    (.*)$", text, re.MULTILINE):
         if line.startswith("$ "):
             found.append((line[2:], []))
         else:
@@ -29,34 +39,32 @@ def commands():
     return found
 
 
-def main():
-    program = os.path.abspath(sys.argv[1])
-    with socket.socket() as free:
-        free.bind(("127.0.0.1", 0))
-        address = f"127.0.0.1:{free.getsockname()[1]}"
-    served = subprocess.Popen(
-        [program, "serve", "--settings", "examples/queues.json", "--listen", address],
-        cwd=ROOT,
-        stdout=subprocess.PIPE,
-    )
-    served.stdout.readline()
-    shown = commands()
+def shown(text, folder, address):
+    """What each command writes, and should write by the README."""
+    expected = commands(text)
     script = "shopt -s expand_aliases\n"
-    for command, _ in shown:
-        command = command.replace(SHOWN, address).replace("./osb-broker", program)
-        script += f"{command}\necho '--'\n"
-    ended = subprocess.run(["bash"], input=script.encode(), cwd=ROOT, capture_output=True, timeout=60)
-    served.kill()
-    served.communicate()
+    for command, _ in expected:
+        script += f"{command.replace(SHOWN, address)}\necho '--'\n"
+    ended = subprocess.run(["bash"], input=script.encode(), cwd=folder, capture_output=True, timeout=60)
     found = ended.stdout.decode().split("--\n")[:-1]
-    failed = len(shown) - len(found)
-    for (command, lines), text in zip(shown, found):
-        if text.splitlines() != lines:
-            failed += 1
-            print(f"readme: {command}: {text!r:.300}")
-    print(f"readme: {len(shown) - failed} passed, {failed} failed")
-    return 1 if failed or not shown else 0
+    yield "the commands", len(found), len(expected)
+    for (command, lines), written in zip(expected, found):
+        yield command, written.splitlines(), lines
+
+
+def tries(program):
+    while_running, stopped = section()
+    with tempfile.TemporaryDirectory() as folder:
+        os.symlink(program, os.path.join(folder, "osb-broker"))
+        os.symlink(EXAMPLES, os.path.join(folder, "examples"))
+        settings = "examples/queues.json"
+        with Serving(program, "queues.db", settings=settings, cwd=folder) as serving:
+            yield from shown(while_running, folder, serving.address)
+        if shutil.which("sqlite3"):
+            yield from shown(stopped, folder, SHOWN)
+        else:
+            print("readme: without sqlite3 the commands on the database aren't run")
 
 
 if __name__ == "__main__":
-    sys.exit(main())
+    sys.exit(tell("readme", tries(os.path.abspath(sys.argv[1]))))

@@ -9,16 +9,13 @@ refusal is answered 500 and changes nothing, or goes as it should; and then it g
 
 import mmap
 import os
-import socket
 import struct
 import subprocess
 import sys
 import tempfile
 
 from conversations import CONVERSATIONS, I, PUT_TWICE, REPORT, SUCCEEDED, reply, request
-
-HERE = os.path.dirname(os.path.abspath(__file__))
-SETTINGS = os.path.join(HERE, "..", "examples", "settings.json")
+from serving import ROOT, Serving, new_database
 
 REFUSED = (
     b"HTTP/1.1 500 Internal Server Error\r\nContent-Type: application/json\r\n"
@@ -26,7 +23,7 @@ REFUSED = (
 )
 
 
-class Served:
+class Served(Serving):
     """The program, serving until it is stopped, with one growth of each connection refused or none."""
 
     def __init__(self, program, library, folder):
@@ -35,33 +32,13 @@ class Served:
             file.write(bytes(16))
         with open(path, "r+b") as file:
             self.control = mmap.mmap(file.fileno(), 16)
-        with socket.socket() as free:
-            free.bind(("127.0.0.1", 0))
-            self.port = free.getsockname()[1]
-        words = ["serve", "--settings", SETTINGS, "--listen", f"127.0.0.1:{self.port}"]
-        self.process = subprocess.Popen(
-            [program, *words],
-            stdout=subprocess.PIPE,
-            stderr=subprocess.PIPE,
-            env={**os.environ, "LD_PRELOAD": library, "REFUSE": path},
-        )
-        self.process.stdout.readline()
+        environment = {**os.environ, "LD_PRELOAD": library, "REFUSE": path}
+        super().__init__(program, new_database(folder), env=environment)
 
-    def __enter__(self):
-        return self
-
-    def __exit__(self, *_):
-        self.process.kill()
-        self.process.communicate()
-
-    def sends(self, bytes_sent, growth=0):
+    def refusing(self, bytes_sent, growth):
         """The reply, with that growth refused; and whether there was such a growth."""
         self.control[:16] = struct.pack("qq", growth, 0)
-        with socket.create_connection(("127.0.0.1", self.port), timeout=30) as client:
-            client.sendall(bytes_sent)
-            read = b""
-            while piece := client.recv(65536):
-                read += piece
+        read = self.sends(bytes_sent)
         _, growths = struct.unpack("qq", self.control[:16])
         return read, 0 < growth <= growths
 
@@ -81,7 +58,7 @@ class Wrong(Exception):
 def exchange(served, asked, growth=0):
     """Whether the reply is the one that it should be, and not the 500; and whether a growth was refused."""
     method, target, body, status, text = asked
-    found, refused = served.sends(request(method, target, body), growth)
+    found, refused = served.refusing(request(method, target, body), growth)
     if found == reply(status, text):
         return True, refused
     if refused and found == REFUSED:
@@ -130,7 +107,7 @@ def main():
     failed = 0
     with tempfile.TemporaryDirectory() as folder:
         library = os.path.join(folder, "refuse.so")
-        source = os.path.join(HERE, "refuse.c")
+        source = os.path.join(ROOT, "tests", "refuse.c")
         subprocess.run(
             ["cc", "-O2", "-shared", "-fPIC", "-o", library, source, "-ldl"], check=True
         )

@@ -10,15 +10,12 @@ import http.client
 import json
 import os
 import shutil
-import socket
 import subprocess
 import sys
+import tempfile
 
 from conversations import CONVERSATIONS, I
-
-HERE = os.path.dirname(os.path.abspath(__file__))
-EXAMPLES = os.path.join(HERE, "..", "examples")
-SETTINGS = os.path.join(EXAMPLES, "settings.json")
+from serving import EXAMPLES, SETTINGS, Serving, new_database, tell
 
 PLATFORM = {
     "X-Broker-API-Version": "2.17",
@@ -49,35 +46,17 @@ NO_BODY_REPLY = (
 )
 
 
-class Served:
-    """The program, serving a number of connections on a free port."""
+class Served(Serving):
+    """The program, serving a number of connections over a new database."""
 
-    def __init__(self, program, connections, *more):
-        with socket.socket() as free:
-            free.bind(("127.0.0.1", 0))
-            self.port = free.getsockname()[1]
-        self.address = f"127.0.0.1:{self.port}"
-        words = ["serve", "--settings", SETTINGS, "--listen", self.address]
-        words += ["--connections", str(connections), *more]
-        self.process = subprocess.Popen(
-            [program, *words], stdout=subprocess.PIPE, stderr=subprocess.PIPE
-        )
-        self.first = self.process.stdout.readline()
+    def __init__(self, program, folder, connections, *more):
+        database = new_database(folder)
+        super().__init__(program, database, "--connections", str(connections), *more)
+        self.listens()
 
-    def ended(self):
+    def is_done(self):
         """Whether it ended by itself, silent but for its first line."""
-        output, errors = self.process.communicate(timeout=60)
-        line = f"listening on {self.address}\n".encode()
-        return (self.process.returncode, self.first + output, errors) == (0, line, b"")
-
-    def raw(self, sent):
-        """What a client reads that sends these bytes and keeps its sending side open."""
-        with socket.create_connection(("127.0.0.1", self.port), timeout=30) as client:
-            client.sendall(sent)
-            read = b""
-            while piece := client.recv(65536):
-                read += piece
-            return read
+        return self.ended() == (0, f"listening on {self.address}\n".encode(), b"")
 
     def call(self, method, target, body=None):
         """The status and the object of a reply, by http.client."""
@@ -136,11 +115,11 @@ def whole_life(served):
 CONNECTIONS_OF_A_LIFE = 9 + 4 * 2
 
 
-def try_life(program):
-    served = Served(program, CONNECTIONS_OF_A_LIFE)
+def try_life(program, folder):
+    served = Served(program, folder, CONNECTIONS_OF_A_LIFE)
     for found, expected in whole_life(served):
         yield "a life", found, expected
-    yield "a life ends", served.ended(), True
+    yield "a life ends", served.is_done(), True
 
 
 BACKEND = {"Authorization": "Basic " + base64.b64encode(b"backend:worker").decode()}
@@ -221,10 +200,10 @@ def converse(served, conversation):
     client.close()
 
 
-def try_conversations(program):
+def try_conversations(program, folder):
     for name, conversation in CONVERSATIONS.items():
         asked = [("GET", "/v2/catalog"), ("GET", I + "/last_operation?operation=none")]
-        served = Served(program, 1 + len(asked), "--per-connection", "1000")
+        served = Served(program, folder, 1 + len(asked), "--per-connection", "1000")
         for target, found, expected in converse(served, conversation):
             yield f"{name}: {target}", found, expected
         for method, target in asked:
@@ -233,50 +212,44 @@ def try_conversations(program):
             response = client.getresponse()
             yield target, against_the_api(method, target, response, response.read()), []
             client.close()
-        yield f"{name} ends", served.ended(), True
+        yield f"{name} ends", served.is_done(), True
 
 
-def try_sockets(program):
-    served = Served(program, 3, "--per-connection", "2")
-    yield "put twice", served.raw(PUT_TWICE), TWO_REPLIES
+def try_sockets(program, folder):
+    served = Served(program, folder, 3, "--per-connection", "2")
+    yield "put twice", served.sends(PUT_TWICE), TWO_REPLIES
     # More was sent than is read, and the reply still comes.
     large = b"PUT / HTTP/1.1\r\nHost: b\r\nContent-Length: 200000\r\n\r\n" + b"b" * 200_000
-    yield "a large body", served.raw(large), NO_BODY_REPLY
-    # Every order is gone with the program, and none with a connection.
+    yield "a large body", served.sends(large), NO_BODY_REPLY
+    # No order is gone with a connection.
     yield "put again", served.call("PUT", INSTANCE, SYNC)[0], 200
-    yield "sockets end", served.ended(), True
+    yield "sockets end", served.is_done(), True
 
 
-def try_words(program):
+def try_words(program, folder):
     def ended(*words):
         run = subprocess.run([program, "serve", *words], capture_output=True, timeout=60)
         return run.returncode, run.stdout, run.stderr
 
     yield "no words", ended()[0], 2
-    settings = ["--settings", SETTINGS]
+    files = ["--settings", SETTINGS, "--database", new_database(folder)]
+    listen = ["--listen", "127.0.0.1:0"]
     for address in ["nowhere", "127.0.0.1", "localhost:80", "192.0.2.1:80"]:
         line = f"osb-broker: cannot listen on {address}\n".encode()
-        yield "an address", ended(*settings, "--listen", address), (1, b"", line)
+        yield "an address", ended(*files, "--listen", address), (1, b"", line)
     for number in ["0", "1000001", "x"]:
-        words = [*settings, "--listen", "127.0.0.1:0", "--connections", number]
-        yield "connections", ended(*words)[0], 2
-    missing = ended("--settings", "no/such/file", "--listen", "127.0.0.1:0")
+        yield "connections", ended(*files, *listen, "--connections", number)[0], 2
+    yield "no database", ended("--settings", SETTINGS, *listen)[0], 2
+    yield "no settings", ended("--database", new_database(folder), *listen)[0], 2
+    missing = ended("--settings", "no/such/file", *files[2:], *listen)
     yield "settings", missing, (1, b"", b"osb-broker: cannot read no/such/file\n")
 
 
-def main():
-    program = os.path.abspath(sys.argv[1])
-    passed = failed = 0
-    for tries in (try_life, try_conversations, try_sockets, try_words):
-        for name, found, expected in tries(program):
-            if found == expected:
-                passed += 1
-            else:
-                failed += 1
-                print(f"served: {name}: {found!r:.300}, expected {expected!r:.300}")
-    print(f"served: {passed} passed, {failed} failed")
-    return 1 if failed or not passed else 0
+def tries(program):
+    with tempfile.TemporaryDirectory() as folder:
+        for trial in (try_life, try_conversations, try_sockets, try_words):
+            yield from trial(program, folder)
 
 
 if __name__ == "__main__":
-    sys.exit(main())
+    sys.exit(tell("served", tries(os.path.abspath(sys.argv[1]))))

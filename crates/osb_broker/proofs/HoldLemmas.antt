@@ -1,12 +1,12 @@
 -- The steps of the loop over a buffer.
-use Rattle.std.proofs.Common.{◌≡◌, ℕ, zero-add, suc, ◌+◌, ◌-◌, ◌<◌, ◌≤◌, ◌==◌, inl, inr, Bool, true, false, cond, List, [], ◌∷◌, ◌++◌, length, take, drop, Option, Some, None, Ok, Err, IfSome, sym, refl, ap, subst, ◌∙◌, arith}
+use Rattle.std.proofs.Common.{◌≡◌, ℕ, zero, zero-add, suc, ◌+◌, ◌-◌, ◌<◌, ◌≤◌, ◌==◌, inl, inr, Bool, true, false, cond, List, [], ◌∷◌, ◌++◌, length, take, drop, Option, Some, None, Ok, Err, IfSome, sym, refl, ap, subst, ◌∙◌, arith}
 use Rattle.std.specs.Io.KnownBytes.{Consumes, IsAtEnd, Keeps}
 use Rattle.std.specs.List.{copy_within}
 use Rattle.std.proofs.lemmas.List.Edits.{take-paste}
 use Rattle.std.proofs.lemmas.List.{drop-take, append_assoc, append-nil, drop-append-le, length-append, length-take, length-drop}
 use Rattle.osb_frames.specs.declared.limits.Limits.{Limits}
 use Rattle.osb_frames.specs.declared.step.StopKind.{StopKind}
-use Rattle.osb_frames.specs.Cuts.{Message, whole, IsFront}
+use Rattle.osb_frames.specs.Cuts.{Message, closes, whole, IsFront}
 use Rattle.osb_frames.specs.Steps.{FaultStays}
 use Rattle.osb_replies.specs.declared.write.WriteFault.{WriteFault}
 use Rattle.osb_replies.specs.Text.{reply_text}
@@ -14,7 +14,7 @@ use Rattle.osb_broker.specs.Machine.{Machine, fault_reply}
 use Rattle.osb_broker.specs.Connection.{After}
 use Rattle.osb_broker.specs.Served.{Served, Reached, BrokenOff}
 use Rattle.osb_broker.specs.Answering.{Answers, WritesText}
-use Rattle.osb_broker.specs.Serving.{Gave, OfConnection, Holding, Looked}
+use Rattle.osb_broker.specs.Serving.{Gave, OfConnection, Holding, Past, Left, Looked}
 use Rattle.osb_broker.proofs.RunLemmas.{after_more, concat_more, served_silent, text_of_end, text_of_none, not_marked}
 use Rattle.osb_broker.proofs.LoopLemmas.{AtRequest, closing, breaking, refusing}
 
@@ -138,13 +138,35 @@ known_all (Some all) (Some rest) got P consumed (inr last) = subst P (sym (appen
 
 -- ---- how much was read
 
-pub looked : {S : Type 0} (machine : Machine S) (limits : Limits) (k : ℕ) (s : S) (got old : List ℕ) (left : ℕ) (now : List ℕ) (u : S) (buf : List ℕ) (filled room reads_old reads_new : ℕ) → Holding machine limits k s got old left now u (take filled buf) → length buf ≡ room → reads_new ≤ reads_old + length got + 1 → Looked machine limits k s got room reads_old reads_new
-looked machine limits k s got old left now u buf filled room reads_old reads_new h len few = record {
-  texts = h.texts;
+pub left_start : (limits : Limits) (k : ℕ) → Left limits k [] k []
+left_start limits k = record { count = 0; is = λ more. refl; fewer = omega arith }
+
+pub left_fed : (limits : Limits) (k : ℕ) (got : List ℕ) (left : ℕ) (held piece : List ℕ) → Left limits k got left held → Left limits k (got ++ piece) left (held ++ piece)
+left_fed limits k got left held piece at = record {
+  count = at.count;
+  is = λ more.
+      subst (λ l. Past limits at.count l ((held ++ piece) ++ more)) (sym (append_assoc got piece more))
+      (subst (λ l. Past limits at.count (got ++ (piece ++ more)) l) (sym (append_assoc held piece more)) (at.is (piece ++ more)));
+  fewer = at.fewer;
+}
+
+-- one request more
+past_more : (limits : Limits) (count : ℕ) (bytes rest : List ℕ) (q : Message) (n : ℕ) → Past limits count bytes rest → IsFront limits rest (whole q n) → closes q ≡ false → Past limits (suc count) bytes (drop n rest)
+past_more limits zero bytes rest q n past front going = (q, n, subst (λ l. IsFront limits l (whole q n)) past front, going, ap (drop n) past)
+past_more limits (suc count) bytes rest q n (first, m, at, stays, past) front going = (first, m, at, stays, past_more limits count (drop m bytes) rest q n past front going)
+
+pub left_more : (limits : Limits) (k : ℕ) (got : List ℕ) (left : ℕ) (held : List ℕ) (q : Message) (n j : ℕ) → Left limits k got left held → ((more : List ℕ) → IsFront limits (held ++ more) (whole q n)) → n ≤ length held → left ≡ suc j → closes q ≡ false → Left limits k got j (drop n held)
+left_more limits k got left held q n j at front inside fewer going = record {
+  count = suc at.count;
+  is = λ more. subst (λ l. Past limits (suc at.count) (got ++ more) l) (drop-append-le n held more inside) (past_more limits at.count (got ++ more) (held ++ more) q n (at.is more) (front more) going);
+  fewer = let before = at.fewer in omega arith;
+}
+
+pub looked : (limits : Limits) (k : ℕ) (got : List ℕ) (left : ℕ) (buf : List ℕ) (filled room reads_old reads_new : ℕ) → Left limits k got left (take filled buf) → length buf ≡ room → reads_new ≤ reads_old + length got + 1 → Looked limits k got room reads_old reads_new
+looked limits k got left buf filled room reads_old reads_new at len few = record {
   left = left;
-  u = u;
   held = take filled buf;
-  is = h.is;
+  past = at;
   small = omega (arith, length-take filled buf);
   few = few;
 }

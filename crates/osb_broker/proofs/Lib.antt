@@ -6,5 +6,6 @@ mod WholeLemmas
 mod FixedLemmas
 mod TextLemmas
 mod StepLemmas
+mod StoreLemmas
 mod HandleLemmas
 mod LateLemmas

@@ -1,25 +1,35 @@
 -- What a broker keeps.
-use Rattle.std.specs.Prelude.{ℕ}
+use Rattle.std.specs.Prelude.{◌≡◌, ◌⊎◌, ℕ, Option, IsTrue}
 use Rattle.osb_broker.specs.declared.broker.Broker.{Broker}
 use Rattle.osb_replies.specs.Body.{body_bytes}
 use Rattle.osb_machine.specs.declared.step.Answer as code
 use Rattle.osb_catalog.specs.Rules as catalog
 use Rattle.osb_broker.specs.Machine.{Answer}
 use Rattle.osb_orders.specs.Lives.{Lives}
+use Rattle.sqlite_trees.specs.declared.store.Store.{Ghosts}
 use Rattle.sqlite.specs.Held.{state}
-use Rattle.sqlite.specs.Steps.{over_memory}
+use Rattle.sqlite.specs.State.{State, HasCleanDisk}
 use Rattle.osb_records.specs.Steps.{stored}
 
+-- the store behind its records, as a database connection shows it
+abbrev pub store_of : {S : Type 0} → Ghosts S → Broker S → State
+store_of store broker = state store broker.records
+
+-- the store works: its disk has returned what was written, and it is open
+pub record Works (s : State) : Type 0 where
+  pub clean : HasCleanDisk s
+  pub live : IsTrue s.is_open
+
 -- the lives of all instances, as its records store them
-unfoldable pub lives_of : Broker → Lives
-lives_of broker = stored (state over_memory broker.records)
+unfoldable pub lives_of : {S : Type 0} → Ghosts S → Broker S → Lives
+lives_of store broker = stored (store_of store broker)
 
 -- how many requests of a connection it takes
-abbrev pub most_of : Broker → ℕ
+abbrev pub most_of : {S : Type 0} → Broker S → ℕ
 most_of broker = broker.per_connection
 
 -- the settings that it decides by
-abbrev pub rules_of : Broker → catalog.Rules
+abbrev pub rules_of : {S : Type 0} → Broker S → catalog.Rules
 rules_of broker = catalog.rules_of broker.settings.now
 
 -- an answer of the code

@@ -7,5 +7,6 @@ pub mod Faults
 pub mod Steps
 pub mod Kept
 pub mod Prepared
+pub mod Plans
 pub mod Room
 pub mod Laws

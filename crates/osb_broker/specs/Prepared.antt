@@ -1,10 +1,13 @@
 -- An answer that is ready, before its change is made.
-use Rattle.std.specs.Prelude.{◌≡◌, ℕ, List, Option, None, Some}
+use Rattle.std.specs.Prelude.{◌≡◌, ◌⊎◌, ℕ, List, Option, None, Some, IsTrue}
+use Rattle.sqlite.specs.Tree.{Trees}
+use Rattle.sqlite.specs.State.{State}
 use Rattle.osb_orders.specs.declared.order.Change.{Change}
 use Rattle.osb_orders.specs.Lives.{Lives, life_of}
 use Rattle.osb_orders.specs.Changed.{lives_changed}
 use Rattle.osb_orders.specs.IsLife.{IsLives}
 use Rattle.osb_records.specs.Commit.{FinishesLast}
+use Rattle.osb_records.specs.Stored.{lives_stored}
 use Rattle.osb_broker.specs.declared.prepared.Pending.{Pending}
 use Rattle.osb_broker.specs.declared.prepared.Prepared.{Prepared}
 use Rattle.osb_broker.specs.Machine.{Answer}
@@ -25,6 +28,12 @@ abbrev pub IsSettleable : Option Pending → Lives → Type 0
 IsSettleable None lives = Unit {0}
 IsSettleable (Some pending) lives =
     IsLives (lives_changed pending.change pending.instance lives) × FinishesLast (life_of lives pending.instance) pending.change
+
+-- what a crash may leave once the change is made: the lives after it, where the store was open; or what it could leave
+-- before, where there was nothing to change
+abbrev pub LastsSettled : State → Lives → Option Pending → Trees → Type 0
+LastsSettled s lives pending db =
+    (IsTrue s.is_open × (lives_stored db ≡ settled pending lives)) ⊎ (((any : Lives) → settled pending any ≡ any) × s.may_leave db)
 
 -- the answer is that of the step; the change may be made, and leaves the lives of the step
 pub record Prepares (lives : Lives) (prepared : Prepared) (step : Answer × Lives) : Type 0 where

@@ -1,10 +1,10 @@
 -- What serving a connection did, of bytes that came in pieces.
-use Rattle.std.specs.Prelude.{◌≡◌, ℕ, ◌<◌, ◌≤◌, ◌+◌, ◌⊎◌, List, ◌++◌, length, ⊤, Option, Result, Ok, Err}
+use Rattle.std.specs.Prelude.{◌≡◌, ℕ, zero, suc, ◌<◌, ◌≤◌, ◌+◌, ◌⊎◌, false, List, ◌++◌, length, drop, ⊤, Option, Result, Ok, Err}
 use Rattle.std.specs.List.{concat}
 use Rattle.std.specs.Io.KnownBytes.{Consumes, IsAtEnd}
 use Rattle.osb_frames.specs.declared.limits.Limits.{Limits}
 use Rattle.osb_frames.specs.declared.step.StopKind.{StopKind}
-use Rattle.osb_frames.specs.Cuts.{Message, fault, whole, IsFront}
+use Rattle.osb_frames.specs.Cuts.{Message, closes, fault, whole, IsFront}
 use Rattle.osb_frames.specs.Steps.{IsFinal}
 use Rattle.osb_broker.specs.declared.fault.ServeFault.{ServeFault}
 use Rattle.osb_broker.specs.declared.fault.ServeFault.TheVariants.{Read, Write}
@@ -46,14 +46,24 @@ pub record ReadBroken {S : Type 0} (machine : Machine S) (limits : Limits) (k : 
   pub reached : Reached machine limits k s got old left new t held
   pub waits : NothingWaits limits held
 
+-- the bytes begin with so many requests, one behind the other, of which none closes; rest follows them
+abbrev pub Past : Limits → ℕ → List ℕ → List ℕ → Type 0
+Past limits zero bytes rest = rest ≡ bytes
+Past limits (suc count) bytes rest =
+    (q : Message) × (n : ℕ) × IsFront limits bytes (whole q n) × (closes q ≡ false) × Past limits count (drop n bytes) rest
+
+-- Whatever follows, got is requests of which none closes, and then held. Of k requests so many may still come.
+pub record Left (limits : Limits) (k : ℕ) (got : List ℕ) (left : ℕ) (held : List ℕ) : Type 0 where
+  pub count : ℕ
+  pub is : (more : List ℕ) → Past limits count (got ++ more) (held ++ more)
+  pub fewer : left + count ≡ k
+
 -- what was taken goes no further than the room past the start of the last request that was looked for, held being what
 -- follows that start; and there was at most one read for each byte, and one more
-pub record Looked {S : Type 0} (machine : Machine S) (limits : Limits) (k : ℕ) (s : S) (got : List ℕ) (room reads_old reads_new : ℕ) : Type 0 where
-  pub texts : List (List ℕ)
+pub record Looked (limits : Limits) (k : ℕ) (got : List ℕ) (room reads_old reads_new : ℕ) : Type 0 where
   pub left : ℕ
-  pub u : S
   pub held : List ℕ
-  pub is : (more : List ℕ) → After machine limits k s (got ++ more) texts left u (held ++ more)
+  pub past : Left limits k got left held
   pub small : length held ≤ room
   pub few : reads_new ≤ reads_old + length got + 1
 

@@ -7,6 +7,7 @@ use Rattle.osb_asks.specs.Asks.{ask_of, is_early}
 use Rattle.osb_orders.specs.Lives.{Lives}
 use Rattle.osb_machine.specs.Reaction.{Reaction}
 use Rattle.osb_machine.specs.Machine.{answer_to, after_step}
+use Rattle.osb_frames.specs.Cuts.{Message}
 use Rattle.osb_broker.specs.Machine.{Answer, Machine}
 use Rattle.osb_broker.specs.Faults.{fault_answer}
 
@@ -31,6 +32,10 @@ machine rules = record {
   takes_memory = λ q. not (is_early (ask_of rules q));
 }
 
--- the same where any reply may find no room
+-- the lives after a request that is answered
+abbrev pub lives_after : Rules → Lives → Message → Lives
+lives_after rules lives q = (step_for rules lives (ask_of rules q)).1
+
+-- the same machine where any reply may find no room
 abbrev pub crowded : Rules → Machine Lives
 crowded rules = record (machine rules) { takes_memory = λ q. true }

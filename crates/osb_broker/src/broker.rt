@@ -1,8 +1,10 @@
 //! The broker.
 
-ghost use Rattle.std.specs.Prelude.{◌≡◌, ◌≢◌, ◌≤◌, ◌+◌, ◌⊎◌, length, true, false, IfOk, OnOk, OnErr, None, Ok};
+ghost use Rattle.std.specs.Prelude.{◌≡◌, ◌≢◌, ◌≤◌, ◌+◌, ◌⊎◌, length, true, false, IfOk, IfErr, OnOk, OnErr, None, Ok};
 ghost use Rattle.sqlite.specs.Held.{state};
-ghost use Rattle.sqlite.specs.Steps.{over_memory};
+ghost use Rattle.sqlite.specs.Tree.{Trees};
+ghost use Rattle.sqlite.specs.State.{HasCleanDisk, Survives};
+ghost use Rattle.osb_frames.specs.Cuts.{closes};
 ghost use Rattle.osb_frames.specs.Steps.{message};
 ghost use Rattle.osb_replies.specs.Parts.{parts, refused};
 ghost use Rattle.osb_replies.specs.Text.{reply_text};
@@ -14,15 +16,20 @@ ghost use Rattle.osb_orders.specs.Lives.{Lives, life_of};
 ghost use Rattle.osb_orders.specs.Facts.{facts, view_of};
 ghost use Rattle.osb_orders.specs.Changed.{lives_changed};
 ghost use Rattle.osb_orders.specs.IsLife.{IsLives};
-ghost use Rattle.osb_records.specs.Commit.{FinishesLast};
-ghost use Rattle.osb_records.specs.Steps.{stored};
+ghost use Rattle.osb_audit.specs.Plans.{plans_in_use};
+ghost use Rattle.osb_records.specs.Commit.{Commits, FinishesLast, Lasts};
+ghost use Rattle.osb_records.specs.Kept.{KeepsLives};
+ghost use Rattle.osb_records.specs.Steps.{LeavesOnly, stored};
 ghost use Rattle.osb_machine.specs.Machine.{answer_to};
 ghost use Rattle.osb_machine.specs.Steps.{reaction};
 ghost use Rattle.osb_broker.specs.Machine.{Answered, Handled};
-ghost use Rattle.osb_broker.specs.Steps.{step_of, step_for, machine, crowded};
-ghost use Rattle.osb_broker.specs.Prepared.{settled, IsSettleable, Prepares};
+ghost use Rattle.osb_broker.specs.Plans.{first_lacking, Tells};
+ghost use Rattle.osb_broker.specs.Steps.{step_of, step_for, lives_after, machine, crowded};
+ghost use Rattle.osb_broker.specs.Prepared.{settled, IsSettleable, LastsSettled, Prepares};
 
 use crate::answer::{fault_answer, reply_to};
+use crate::fault::NewFault;
+use crate::plans::find_plans;
 use crate::prepared::{Pending, Prepared, pending_for};
 use crate::rooms::{Room, make_room};
 use osb_asks::{Ask, AskFault, read_ask};
@@ -30,18 +37,18 @@ use osb_catalog::Settings;
 use osb_frames::Request;
 use osb_machine::{Answer, Step, decide};
 use osb_orders::{Change, View};
-use osb_records::{Records, memory};
+use osb_records::Records;
 use osb_replies::{Body, REFUSED, Reply, Status};
-use sqlite::MemStore;
+use sqlite::Alter;
 use std::alloc::{AllocError, Global};
 
 /// The broker: the settings that it was given, the records of all instances, and how many requests
 /// a connection may have.
 #[derive(Drop)]
-pub struct Broker<'s> {
+pub struct Broker<'s, S: Alter> {
     pub(crate) alloc: Global,
     settings: &'s Settings,
-    records: Records<MemStore>,
+    records: Records<S>,
     pub(crate) per_connection: u32,
 }
 
@@ -64,50 +71,73 @@ fn decide_by<'s>(
     decide(alloc, settings, &view, ask)
 }
 
-impl<'s> Broker<'s> {
-    ghost use Rattle.osb_broker.specs.Kept.{lives_of, most_of, rules_of, answer_parts};
+impl<'s, S: Alter> Broker<'s, S> {
+    ghost use Rattle.osb_broker.specs.Kept.{Works, lives_of, most_of, rules_of, store_of, answer_parts};
 
     /// A broker over these settings and records, which takes up to `per_connection` requests of a
-    /// connection. It takes no memory.
+    /// connection. Where the catalog lacks a plan that is in use, or the records can't be read, the
+    /// records come back, with their lives.
     #[tactic(auto, unfolding(crate::specs::Kept::lives_of))]
     pub fn new(
         alloc: Global,
         settings: &'s Settings,
-        records: Records<MemStore>,
+        mut records: Records<S>,
         per_connection: u32,
-    ) -> Broker<'s>
+    ) -> Result<Broker<'s, S>, (NewFault, Records<S>)>
         requires some { 1 ≤ per_connection }
         requires few { per_connection ≤ 1000 }
-        ensures lives { lives_of result ≡ stored (state over_memory records) }
-        ensures most { most_of result ≡ per_connection }
-        ensures rules { rules_of result ≡ catalog.rules_of settings.now }
+        ensures lives { IfOk result (λ broker. Works (store_of S.Store broker) → lives_of S.Store broker ≡ stored (state S.Store records)) }
+        ensures works { IfOk result (λ broker. Works (store_of S.Store broker) → Works (state S.Store records)) }
+        ensures most { IfOk result (λ broker. most_of broker ≡ per_connection) }
+        ensures rules { IfOk result (λ broker. rules_of broker ≡ catalog.rules_of settings.now) }
+        ensures offered { IfOk result (λ broker. HasCleanDisk (store_of S.Store broker) → first_lacking (catalog.rules_of settings.now) (plans_in_use (stored (state S.Store records))) ≡ None) }
+        ensures in_use { IfErr result (λ fault. HasCleanDisk (state S.Store fault.1) → Tells fault.0 (first_lacking (catalog.rules_of settings.now) (plans_in_use (stored (state S.Store records))))) }
+        ensures err { IfErr result (λ fault. Works (state S.Store fault.1) → stored (state S.Store fault.1) ≡ stored (state S.Store records)) }
+        ensures crash { IfOk result (λ broker. Survives (state S.Store records) (store_of S.Store broker) (λ _. ⊥)) }
+        ensures fault_crash { IfErr result (λ fault. Survives (state S.Store records) (state S.Store fault.1) (λ _. ⊥)) }
     {
-        Broker {
-            alloc,
-            settings,
-            records,
-            per_connection,
+        match find_plans(&mut records, alloc, settings) {
+            Ok(()) => Ok(Broker {
+                alloc,
+                settings,
+                records,
+                per_connection,
+            }),
+            Err(fault) => Err((fault, records)),
         }
     }
 
     /// The records, as the last reply left them. It takes no memory.
     #[tactic(auto, unfolding(crate::specs::Kept::lives_of))]
-    pub fn into_records(self) -> Records<MemStore>
-        ensures { stored (state over_memory result) ≡ lives_of self.entry }
+    pub fn into_records(self) -> Records<S>
+        ensures lives { stored (state S.Store result) ≡ lives_of S.Store self.entry }
+        ensures works { Works (state S.Store result) → Works (store_of S.Store self.entry) }
+        ensures crash { Survives (store_of S.Store self.entry) (state S.Store result) (λ _. ⊥) }
     {
         self.records
+    }
+
+    /// What a store that works has: well-formed lives, of which a crash now leaves a database and
+    /// nothing else. It does nothing when it runs.
+    #[tactic(auto, unfolding(crate::specs::Kept::lives_of))]
+    pub fn are_whole(&self)
+        ensures whole { Works (store_of S.Store self.now) → IsLives (lives_of S.Store self.now) }
+        ensures kept { Works (store_of S.Store self.now) → KeepsLives (store_of S.Store self.now) (lives_of S.Store self.now) }
+    {
+        self.records.are_whole();
     }
 
     /// The facts that an ask needs.
     #[tactic(auto, unfolding(crate::specs::Kept::lives_of))]
     fn view(&mut self, ask: &Ask) -> Result<View, AllocError>
-        ensures ok { IfOk result (λ view. facts view ≡ view_of (lives_of self.old) ask.now) }
-        ensures same { lives_of self.new ≡ lives_of self.old }
-        ensures whole { IsLives (lives_of self.old) }
+        ensures ok { HasCleanDisk (store_of S.Store self.new) → IfOk result (λ view. facts view ≡ view_of (lives_of S.Store self.old) ask.now) }
+        ensures same { Works (store_of S.Store self.new) → lives_of S.Store self.new ≡ lives_of S.Store self.old }
+        ensures works { Works (store_of S.Store self.new) → Works (store_of S.Store self.old) }
+        ensures crash { Survives (store_of S.Store self.old) (store_of S.Store self.new) (λ _. ⊥) }
         ensures most { most_of self.new ≡ most_of self.old }
         ensures rules { rules_of self.new ≡ rules_of self.old }
     {
-        match memory::view(&mut self.records, self.alloc, ask) {
+        match self.records.view(self.alloc, ask) {
             Ok(view) => Ok(view),
             Err(_) => Err(AllocError),
         }
@@ -115,9 +145,10 @@ impl<'s> Broker<'s> {
 
     /// What the table has for an ask.
     fn decided(&mut self, ask: &Ask) -> Result<Step<'s>, AllocError>
-        ensures ok { IfOk result (λ step. reaction step ≡ answer_to (rules_of self.old) (lives_of self.old) ask.now) }
-        ensures same { lives_of self.new ≡ lives_of self.old }
-        ensures whole { IsLives (lives_of self.old) }
+        ensures ok { HasCleanDisk (store_of S.Store self.new) → IfOk result (λ step. reaction step ≡ answer_to (rules_of self.old) (lives_of S.Store self.old) ask.now) }
+        ensures same { Works (store_of S.Store self.new) → lives_of S.Store self.new ≡ lives_of S.Store self.old }
+        ensures works { Works (store_of S.Store self.new) → Works (store_of S.Store self.old) }
+        ensures crash { Survives (store_of S.Store self.old) (store_of S.Store self.new) (λ _. ⊥) }
         ensures most { most_of self.new ≡ most_of self.old }
         ensures rules { rules_of self.new ≡ rules_of self.old }
     {
@@ -128,12 +159,15 @@ impl<'s> Broker<'s> {
     /// The machine's step for an ask, up to its change.
     fn step(&mut self, ask: &Ask) -> Result<Prepared<'s>, AllocError>
         requires { IsWorded ask.now }
-        ensures ok { IfOk result (λ prepared. Prepares (lives_of self.old) prepared (step_of (rules_of self.old) (lives_of self.old) ask.now)) }
-        ensures same { lives_of self.new ≡ lives_of self.old }
+        ensures ok { Works (store_of S.Store self.old) → HasCleanDisk (store_of S.Store self.new) → IfOk result (λ prepared. Prepares (lives_of S.Store self.old) prepared (step_of (rules_of self.old) (lives_of S.Store self.old) ask.now)) }
+        ensures same { Works (store_of S.Store self.new) → lives_of S.Store self.new ≡ lives_of S.Store self.old }
+        ensures works { Works (store_of S.Store self.new) → Works (store_of S.Store self.old) }
+        ensures crash { Survives (store_of S.Store self.old) (store_of S.Store self.new) (λ _. ⊥) }
         ensures most { most_of self.new ≡ most_of self.old }
         ensures rules { rules_of self.new ≡ rules_of self.old }
     {
         look_at(self.settings);
+        self.are_whole();
         let Step { answer, change } = self.decided(ask)?;
         let pending = pending_for(ask, change)?;
         Ok(Prepared { answer, pending })
@@ -142,10 +176,12 @@ impl<'s> Broker<'s> {
     /// The answer to an ask, up to its change. The catalog takes no memory and no view.
     fn asked(&mut self, ask: &Ask) -> Result<Prepared<'s>, AllocError>
         requires { IsWorded ask.now }
-        ensures ok { IfOk result (λ prepared. Prepares (lives_of self.old) prepared (step_of (rules_of self.old) (lives_of self.old) ask.now)) }
+        ensures ok { Works (store_of S.Store self.old) → HasCleanDisk (store_of S.Store self.new) → IfOk result (λ prepared. Prepares (lives_of S.Store self.old) prepared (step_of (rules_of self.old) (lives_of S.Store self.old) ask.now)) }
         ensures quiet { IfOk result (λ prepared. is_early (Ok ask.now) ≡ true → prepared.pending ≡ None) }
         ensures late { OnErr result (is_early (Ok ask.now) ≡ false) }
-        ensures same { lives_of self.new ≡ lives_of self.old }
+        ensures same { Works (store_of S.Store self.new) → lives_of S.Store self.new ≡ lives_of S.Store self.old }
+        ensures works { Works (store_of S.Store self.new) → Works (store_of S.Store self.old) }
+        ensures crash { Survives (store_of S.Store self.old) (store_of S.Store self.new) (λ _. ⊥) }
         ensures most { most_of self.new ≡ most_of self.old }
         ensures rules { rules_of self.new ≡ rules_of self.old }
     {
@@ -170,15 +206,19 @@ impl<'s> Broker<'s> {
 
     /// The answer to a request, to its ask or to the fault for which it has none, up to its change.
     fn prepared(&mut self, request: &Request<'_>) -> Result<Prepared<'s>, AllocError>
-        ensures ok { IfOk result (λ prepared. Prepares (lives_of self.old) prepared
-            (step_for (rules_of self.old) (lives_of self.old) (ask_of (rules_of self.old) (message request.now)))) }
+        ensures ok { Works (store_of S.Store self.old) → HasCleanDisk (store_of S.Store self.new) → IfOk result (λ prepared. Prepares (lives_of S.Store self.old) prepared
+            (step_for (rules_of self.old) (lives_of S.Store self.old) (ask_of (rules_of self.old) (message request.now)))) }
         ensures quiet { IfOk result (λ prepared.
             is_early (ask_of (rules_of self.old) (message request.now)) ≡ true → prepared.pending ≡ None) }
         ensures late { OnErr result (is_early (ask_of (rules_of self.old) (message request.now)) ≡ false) }
-        ensures same { lives_of self.new ≡ lives_of self.old }
+        ensures kept { Works (store_of S.Store self.old) → KeepsLives (store_of S.Store self.old) (lives_of S.Store self.old) }
+        ensures same { Works (store_of S.Store self.new) → lives_of S.Store self.new ≡ lives_of S.Store self.old }
+        ensures works { Works (store_of S.Store self.new) → Works (store_of S.Store self.old) }
+        ensures crash { Survives (store_of S.Store self.old) (store_of S.Store self.new) (λ _. ⊥) }
         ensures most { most_of self.new ≡ most_of self.old }
         ensures rules { rules_of self.new ≡ rules_of self.old }
     {
+        self.are_whole();
         match read_ask(self.alloc, request, self.settings) {
             Ok(ask) => self.asked(&ask),
             Err(AskFault::Memory) => Err(AllocError),
@@ -189,14 +229,17 @@ impl<'s> Broker<'s> {
     /// Makes a change to the life of an instance.
     #[tactic(auto, unfolding(crate::specs::Kept::lives_of))]
     fn commit(&mut self, instance: &str, change: &Change) -> Result<(), AllocError>
-        requires whole { IsLives (lives_changed change.now instance.now (lives_of self.old)) }
-        requires finishes { FinishesLast (life_of (lives_of self.old) instance.now) change.now }
-        ensures ok { OnOk result (lives_of self.new ≡ lives_changed change.now instance.now (lives_of self.old)) }
-        ensures err { OnErr result (lives_of self.new ≡ lives_of self.old) }
+        requires whole { Works (store_of S.Store self.old) → IsLives (lives_changed change.now instance.now (lives_of S.Store self.old)) }
+        requires finishes { Works (store_of S.Store self.old) → FinishesLast (life_of (lives_of S.Store self.old) instance.now) change.now }
+        ensures ok { HasCleanDisk (store_of S.Store self.new) → OnOk result (lives_of S.Store self.new ≡ lives_changed change.now instance.now (lives_of S.Store self.old)) }
+        ensures err { Works (store_of S.Store self.new) → OnErr result (lives_of S.Store self.new ≡ lives_of S.Store self.old) }
+        ensures works { Works (store_of S.Store self.new) → Works (store_of S.Store self.old) }
+        ensures crash { Survives (store_of S.Store self.old) (store_of S.Store self.new) (Commits (store_of S.Store self.old) (lives_changed change.now instance.now (lives_of S.Store self.old))) }
+        ensures lasts { HasCleanDisk (store_of S.Store self.new) → OnOk result ((db : Trees) → (store_of S.Store self.new).may_leave db → Lasts (store_of S.Store self.old) change.now instance.now db) }
         ensures most { most_of self.new ≡ most_of self.old }
         ensures rules { rules_of self.new ≡ rules_of self.old }
     {
-        match memory::commit(&mut self.records, instance, change) {
+        match self.records.commit(instance, change) {
             Ok(()) => Ok(()),
             Err(_) => Err(AllocError),
         }
@@ -204,9 +247,13 @@ impl<'s> Broker<'s> {
 
     /// Makes the change that is pending. Where the records refuse it, the lives stay.
     fn settle(&mut self, pending: &Option<Pending>) -> Result<(), AllocError>
-        requires { IsSettleable pending.now (lives_of self.old) }
-        ensures ok { OnOk result (lives_of self.new ≡ settled pending.now (lives_of self.old)) }
-        ensures err { OnErr result ((pending.now ≢ None) × (lives_of self.new ≡ lives_of self.old)) }
+        requires { Works (store_of S.Store self.old) → IsSettleable pending.now (lives_of S.Store self.old) }
+        ensures ok { HasCleanDisk (store_of S.Store self.new) → OnOk result (lives_of S.Store self.new ≡ settled pending.now (lives_of S.Store self.old)) }
+        ensures err { Works (store_of S.Store self.new) → OnErr result (lives_of S.Store self.new ≡ lives_of S.Store self.old) }
+        ensures some { OnErr result (pending.now ≢ None) }
+        ensures works { Works (store_of S.Store self.new) → Works (store_of S.Store self.old) }
+        ensures crash { Survives (store_of S.Store self.old) (store_of S.Store self.new) (Commits (store_of S.Store self.old) (settled pending.now (lives_of S.Store self.old))) }
+        ensures lasts { HasCleanDisk (store_of S.Store self.new) → OnOk result ((db : Trees) → (store_of S.Store self.new).may_leave db → LastsSettled (store_of S.Store self.old) (lives_of S.Store self.old) pending.now db) }
         ensures most { most_of self.new ≡ most_of self.old }
         ensures rules { rules_of self.new ≡ rules_of self.old }
     {
@@ -220,9 +267,13 @@ impl<'s> Broker<'s> {
     fn replied<'a>(&mut self, request: &Request<'a>, last: bool) -> Result<Reply<'a>, AllocError>
     where
         's: 'a,
-        ensures ok { IfOk result (λ reply. Answered (machine (rules_of self.old)) (message request.now) last false (lives_of self.old) (parts reply) (lives_of self.new)) }
+        ensures ok { Works (store_of S.Store self.new) → IfOk result (λ reply. Answered (machine (rules_of self.old)) (message request.now) last false (lives_of S.Store self.old) (parts reply) (lives_of S.Store self.new)) }
+        ensures closes { IfOk result (λ reply. closes (message request.now) ≡ true → (parts reply).close ≡ true) }
         ensures late { OnErr result (is_early (ask_of (rules_of self.old) (message request.now)) ≡ false) }
-        ensures err { OnErr result (lives_of self.new ≡ lives_of self.old) }
+        ensures err { Works (store_of S.Store self.new) → OnErr result (lives_of S.Store self.new ≡ lives_of S.Store self.old) }
+        ensures works { Works (store_of S.Store self.new) → Works (store_of S.Store self.old) }
+        ensures crash { Survives (store_of S.Store self.old) (store_of S.Store self.new) (Commits (store_of S.Store self.old) (lives_after (rules_of self.old) (lives_of S.Store self.old) (message request.now))) }
+        ensures durable { Works (store_of S.Store self.old) → HasCleanDisk (store_of S.Store self.new) → OnOk result (LeavesOnly (store_of S.Store self.new) (lives_after (rules_of self.old) (lives_of S.Store self.old) (message request.now))) }
         ensures most { most_of self.new ≡ most_of self.old }
         ensures rules { rules_of self.new ≡ rules_of self.old }
     {
@@ -239,7 +290,11 @@ impl<'s> Broker<'s> {
     pub fn handle<'a>(&mut self, request: &Request<'a>, last: bool) -> Reply<'a>
     where
         's: 'a,
-        ensures handled { Handled (machine (rules_of self.old)) (message request.now) last (lives_of self.old) (parts result) (lives_of self.new) }
+        ensures handled { Works (store_of S.Store self.new) → Handled (machine (rules_of self.old)) (message request.now) last (lives_of S.Store self.old) (parts result) (lives_of S.Store self.new) }
+        ensures closes { closes (message request.now) ≡ true → (parts result).close ≡ true }
+        ensures works { Works (store_of S.Store self.new) → Works (store_of S.Store self.old) }
+        ensures crash { Survives (store_of S.Store self.old) (store_of S.Store self.new) (Commits (store_of S.Store self.old) (lives_after (rules_of self.old) (lives_of S.Store self.old) (message request.now))) }
+        ensures durable { Works (store_of S.Store self.old) → HasCleanDisk (store_of S.Store self.new) → parts result ≢ refused → LeavesOnly (store_of S.Store self.new) (lives_after (rules_of self.old) (lives_of S.Store self.old) (message request.now)) }
         ensures most { most_of self.new ≡ most_of self.old }
         ensures rules { rules_of self.new ≡ rules_of self.old }
     {
@@ -259,8 +314,12 @@ impl<'s> Broker<'s> {
     ) -> Result<Reply<'a>, AllocError>
     where
         's: 'a,
-        ensures ok { IfOk result (λ reply. Answered (machine (rules_of self.old)) (message request.now) last false (lives_of self.old) (parts reply) (lives_of self.new)) }
-        ensures err { OnErr result (lives_of self.new ≡ lives_of self.old) }
+        ensures ok { Works (store_of S.Store self.new) → IfOk result (λ reply. Answered (machine (rules_of self.old)) (message request.now) last false (lives_of S.Store self.old) (parts reply) (lives_of S.Store self.new)) }
+        ensures closes { IfOk result (λ reply. closes (message request.now) ≡ true → (parts reply).close ≡ true) }
+        ensures err { Works (store_of S.Store self.new) → OnErr result (lives_of S.Store self.new ≡ lives_of S.Store self.old) }
+        ensures works { Works (store_of S.Store self.new) → Works (store_of S.Store self.old) }
+        ensures crash { Survives (store_of S.Store self.old) (store_of S.Store self.new) (Commits (store_of S.Store self.old) (lives_after (rules_of self.old) (lives_of S.Store self.old) (message request.now))) }
+        ensures durable { Works (store_of S.Store self.old) → HasCleanDisk (store_of S.Store self.new) → OnOk result (LeavesOnly (store_of S.Store self.new) (lives_after (rules_of self.old) (lives_of S.Store self.old) (message request.now))) }
         ensures room { IfOk result (λ reply. length (reply_text (parts reply)) + spare ≤ W.room room.new) }
         ensures spare { OnErr result (spare ≤ W.room room.old → spare ≤ W.room room.new) }
         ensures taken { W.taken room.new ≡ W.taken room.old }
@@ -284,7 +343,10 @@ impl<'s> Broker<'s> {
     ) -> Reply<'a>
     where
         's: 'a,
-        ensures handled { Handled (crowded (rules_of self.old)) (message request.now) last (lives_of self.old) (parts result) (lives_of self.new) }
+        ensures handled { Works (store_of S.Store self.new) → Handled (crowded (rules_of self.old)) (message request.now) last (lives_of S.Store self.old) (parts result) (lives_of S.Store self.new) }
+        ensures works { Works (store_of S.Store self.new) → Works (store_of S.Store self.old) }
+        ensures crash { Survives (store_of S.Store self.old) (store_of S.Store self.new) (Commits (store_of S.Store self.old) (lives_after (rules_of self.old) (lives_of S.Store self.old) (message request.now))) }
+        ensures durable { Works (store_of S.Store self.old) → HasCleanDisk (store_of S.Store self.new) → parts result ≢ refused → LeavesOnly (store_of S.Store self.new) (lives_after (rules_of self.old) (lives_of S.Store self.old) (message request.now)) }
         ensures room { (parts result ≡ refused) ⊎ (length (reply_text (parts result)) + spare ≤ W.room room.new) }
         ensures spare { spare ≤ W.room room.old → spare ≤ W.room room.new }
         ensures taken { W.taken room.new ≡ W.taken room.old }
@@ -309,7 +371,10 @@ impl<'s> Broker<'s> {
     ) -> Reply<'a>
     where
         's: 'a,
-        ensures handled { Handled (crowded (rules_of self.old)) (message request.now) last (lives_of self.old) (parts result) (lives_of self.new) }
+        ensures handled { Works (store_of S.Store self.new) → Handled (crowded (rules_of self.old)) (message request.now) last (lives_of S.Store self.old) (parts result) (lives_of S.Store self.new) }
+        ensures works { Works (store_of S.Store self.new) → Works (store_of S.Store self.old) }
+        ensures crash { Survives (store_of S.Store self.old) (store_of S.Store self.new) (Commits (store_of S.Store self.old) (lives_after (rules_of self.old) (lives_of S.Store self.old) (message request.now))) }
+        ensures durable { Works (store_of S.Store self.old) → HasCleanDisk (store_of S.Store self.new) → parts result ≢ refused → LeavesOnly (store_of S.Store self.new) (lives_after (rules_of self.old) (lives_of S.Store self.old) (message request.now)) }
         ensures room { (parts result ≡ refused) ⊎ (length (reply_text (parts result)) ≤ W.room room.new) }
         ensures taken { W.taken room.new ≡ W.taken room.old }
         ensures most { most_of self.new ≡ most_of self.old }

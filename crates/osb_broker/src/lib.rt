@@ -10,7 +10,11 @@ mod broker;
 mod buffer;
 mod fault;
 mod filling;
+#[cfg(test)]
+mod fixtures;
 mod laws;
+pub mod memory;
+mod plans;
 mod prepared;
 mod refuse;
 mod rooms;
@@ -21,6 +25,6 @@ mod tests;
 
 pub use broker::Broker;
 pub use buffer::Buffer;
-pub use fault::ServeFault;
+pub use fault::{NewFault, ServeFault};
 pub use laws::{runs_go_on, texts_are_of_the_cut};
 pub use rooms::Room;

@@ -15,6 +15,7 @@ use crate::broker::Broker;
 use crate::refuse::refuse;
 use osb_frames::{Kept, Limits, Request, Step, StopKind, next};
 use osb_replies::write_reply;
+use sqlite::Alter;
 use std::alloc::{AllocError, Global};
 
 /// The room in which each fixed reply fits: the largest has 145 bytes.
@@ -40,15 +41,16 @@ fn refuse_into(output: &mut Kept, kind: StopKind)
     let _ = refuse(output, kind);
 }
 
-impl Broker<'_> {
-    ghost use Rattle.osb_broker.specs.Kept.{lives_of, most_of, rules_of};
+impl<S: Alter> Broker<'_, S> {
+    ghost use Rattle.osb_broker.specs.Kept.{Works, lives_of, most_of, rules_of, store_of};
 
     /// Answers a request into an output that has room for a fixed reply. Whether the connection
     /// closes; where it doesn't, there still is that room.
     fn reply_into(&mut self, request: &Request<'_>, last: bool, output: &mut Kept) -> bool
         requires { 512 ≤ room_of output.old }
-        ensures answers { AnswersWhole (crowded (rules_of self.old)) (message request.now) last (lives_of self.old) (lives_of self.new) (bytes_of output.old) (bytes_of output.new) result }
+        ensures answers { Works (store_of S.Store self.new) → AnswersWhole (crowded (rules_of self.old)) (message request.now) last (lives_of S.Store self.old) (lives_of S.Store self.new) (bytes_of output.old) (bytes_of output.new) result }
         ensures room { result ≡ false → 512 ≤ room_of output.new }
+        ensures works { Works (store_of S.Store self.new) → Works (store_of S.Store self.old) }
         ensures most { most_of self.new ≡ most_of self.old }
         ensures rules { rules_of self.new ≡ rules_of self.old }
     {
@@ -60,7 +62,8 @@ impl Broker<'_> {
     /// Serves a connection whose bytes are all there.
     fn serve_into(&mut self, limits: &Limits, bytes: &[u8], output: &mut Kept)
         requires { 512 ≤ room_of output.old }
-        ensures served { Served (crowded (rules_of self.old)) limits.now (most_of self.old) (lives_of self.old) bytes.now (bytes_of output.old) (bytes_of output.new) (lives_of self.new) }
+        ensures served { Works (store_of S.Store self.new) → Served (crowded (rules_of self.old)) limits.now (most_of self.old) (lives_of S.Store self.old) bytes.now (bytes_of output.old) (bytes_of output.new) (lives_of S.Store self.new) }
+        ensures works { Works (store_of S.Store self.new) → Works (store_of S.Store self.old) }
         ensures most { most_of self.new ≡ most_of self.old }
         ensures rules { rules_of self.new ≡ rules_of self.old }
     {
@@ -89,7 +92,8 @@ impl Broker<'_> {
     /// The output of a connection whose bytes are all there, in an output that was blank.
     fn output_of(&mut self, limits: &Limits, bytes: &[u8], blank: Vec<u8>) -> Vec<u8>
         requires { IsBlank blank }
-        ensures served { Served (crowded (rules_of self.old)) limits.now (most_of self.old) (lives_of self.old) bytes.now [] result.items (lives_of self.new) }
+        ensures served { Works (store_of S.Store self.new) → Served (crowded (rules_of self.old)) limits.now (most_of self.old) (lives_of S.Store self.old) bytes.now [] result.items (lives_of S.Store self.new) }
+        ensures works { Works (store_of S.Store self.new) → Works (store_of S.Store self.old) }
         ensures most { most_of self.new ≡ most_of self.old }
         ensures rules { rules_of self.new ≡ rules_of self.old }
     {
@@ -104,9 +108,10 @@ impl Broker<'_> {
         limits: &Limits,
         connections: &[Vec<u8>],
     ) -> Result<Vec<Vec<u8>>, AllocError>
-        ensures ok { IfOk result (λ outputs.
-            RunServed (crowded (rules_of self.old)) limits.now (most_of self.old) (lives_of self.old) (map vec_items connections.now) (map vec_items outputs.items) (lives_of self.new)) }
-        ensures err { OnErr result (lives_of self.new ≡ lives_of self.old) }
+        ensures ok { Works (store_of S.Store self.new) → IfOk result (λ outputs.
+            RunServed (crowded (rules_of self.old)) limits.now (most_of self.old) (lives_of S.Store self.old) (map vec_items connections.now) (map vec_items outputs.items) (lives_of S.Store self.new)) }
+        ensures err { Works (store_of S.Store self.new) → OnErr result (lives_of S.Store self.new ≡ lives_of S.Store self.old) }
+        ensures works { Works (store_of S.Store self.new) → Works (store_of S.Store self.old) }
         ensures most { most_of self.new ≡ most_of self.old }
         ensures rules { rules_of self.new ≡ rules_of self.old }
     {
@@ -124,14 +129,17 @@ impl Broker<'_> {
     /// Serves connections whose bytes are all there, one after the other and within
     /// [`Limits::STANDARD`], and gives the output of each.
     ///
+    /// What is said of outputs and lives is said where the store works still.
+    ///
     /// Each output first gets room for a fixed reply, and only there want of memory is an error,
     /// with nothing changed. Later each reply asks for its room before its change is made; where
     /// that is refused it is the fixed 500, whatever the request is, and the connection ends.
     pub fn serve_all(&mut self, connections: &[Vec<u8>]) -> Result<Vec<Vec<u8>>, AllocError>
-        ensures ok { IfOk result (λ outputs.
+        ensures ok { Works (store_of S.Store self.new) → IfOk result (λ outputs.
             (limits : Limits) × AreStandard limits
-            × RunServed (crowded (rules_of self.old)) limits (most_of self.old) (lives_of self.old) (map vec_items connections.now) (map vec_items outputs.items) (lives_of self.new)) }
-        ensures err { OnErr result (lives_of self.new ≡ lives_of self.old) }
+            × RunServed (crowded (rules_of self.old)) limits (most_of self.old) (lives_of S.Store self.old) (map vec_items connections.now) (map vec_items outputs.items) (lives_of S.Store self.new)) }
+        ensures err { Works (store_of S.Store self.new) → OnErr result (lives_of S.Store self.new ≡ lives_of S.Store self.old) }
+        ensures works { Works (store_of S.Store self.new) → Works (store_of S.Store self.old) }
         ensures most { most_of self.new ≡ most_of self.old }
         ensures rules { rules_of self.new ≡ rules_of self.old }
     {

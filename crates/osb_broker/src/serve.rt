@@ -1,6 +1,7 @@
 //! One connection after another, each read in pieces.
 
-ghost use Rattle.std.specs.Prelude.{◌≡◌, ◌<◌, ◌≤◌, ◌+◌, ℕ, List, length, OnOk, IfSome};
+ghost use Rattle.std.specs.Prelude.{◌≡◌, ◌<◌, ◌≤◌, ◌+◌, ℕ, List, length, false, IfOk, OnOk, OnErr, IfSome};
+ghost use Rattle.osb_frames.specs.Cuts.{closes};
 ghost use Rattle.osb_frames.specs.Steps.{message};
 ghost use Rattle.osb_broker.specs.Steps.{machine};
 ghost use Rattle.osb_broker.specs.Answering.{Answers};
@@ -14,9 +15,10 @@ use crate::filling::{fill, shift};
 use crate::refuse::refuse;
 use osb_frames::{Limits, Request, Sink, Source, Step, next};
 use osb_replies::{WriteFault, write_reply};
+use sqlite::Alter;
 
-impl Broker<'_> {
-    ghost use Rattle.osb_broker.specs.Kept.{lives_of, most_of, rules_of};
+impl<S: Alter> Broker<'_, S> {
+    ghost use Rattle.osb_broker.specs.Kept.{Works, lives_of, most_of, rules_of, store_of};
     ghost use Rattle.osb_broker.specs.Room.{limits_of};
 
     /// Handles a request and writes its reply. Whether the connection closes.
@@ -26,8 +28,12 @@ impl Broker<'_> {
         last: bool,
         sink: &mut W,
     ) -> Result<bool, WriteFault>
-        ensures answers { Answers (machine (rules_of self.old)) (message request.now) last (lives_of self.old) (lives_of self.new)
+        ensures answers { Works (store_of S.Store self.new) → Answers (machine (rules_of self.old)) (message request.now) last (lives_of S.Store self.old) (lives_of S.Store self.new)
             (W.taken sink.old) (W.fruitless sink.old) (W.taken sink.new) (W.fruitless sink.new) result }
+        ensures works { Works (store_of S.Store self.new) → Works (store_of S.Store self.old) }
+        ensures ok { OnOk result (W.fruitless sink.new ≡ W.fruitless sink.old) }
+        ensures err { OnErr result (W.fruitless sink.old < W.fruitless sink.new) }
+        ensures closes { IfOk result (λ close. close ≡ false → closes (message request.now) ≡ false) }
         ensures most { most_of self.new ≡ most_of self.old }
         ensures rules { rules_of self.new ≡ rules_of self.old }
     {
@@ -49,9 +55,10 @@ impl Broker<'_> {
         ensures most { most_of self.new ≡ most_of self.old }
         ensures rules { rules_of self.new ≡ rules_of self.old }
         ensures cause { HasCause result (R.failures source.old < R.failures source.new) (W.fruitless sink.old < W.fruitless sink.new) }
+        ensures works { Works (store_of S.Store self.new) → Works (store_of S.Store self.old) }
         ensures outcome { (got : List ℕ) × Gave (R.given source.old) (R.given source.new) (R.rest source.old) (R.rest source.new) got
-            × Looked (machine (rules_of self.old)) limits.now (most_of self.old) (lives_of self.old) got (length room.old) (R.reads source.old) (R.reads source.new)
-            × Outcome result (machine (rules_of self.old)) limits.now (most_of self.old) (lives_of self.old) got (R.rest source.new) (W.taken sink.old) (W.taken sink.new) (lives_of self.new) }
+            × Looked limits.now (most_of self.old) got (length room.old) (R.reads source.old) (R.reads source.new)
+            × (Works (store_of S.Store self.new) → Outcome result (machine (rules_of self.old)) limits.now (most_of self.old) (lives_of S.Store self.old) got (R.rest source.new) (W.taken sink.old) (W.taken sink.new) (lives_of S.Store self.new)) }
     {
         let mut filled = 0;
         let mut ended = false;
@@ -94,7 +101,8 @@ impl Broker<'_> {
     /// are taken, and none after a reply that closes.
     ///
     /// It takes no memory of its own. After a fault of the sink the text of one reply may have been
-    /// written in part; the lives are those after that request.
+    /// written in part; the lives are those after that request. What is said of texts and lives is
+    /// said where the store works still.
     pub fn serve<R: Source, W: Sink>(
         &mut self,
         buffer: &mut Buffer,
@@ -106,14 +114,15 @@ impl Broker<'_> {
         ensures limits { limits_of buffer.new ≡ limits_of buffer.old }
 
         // What is written is the texts of the connection, whatever pieces it came in.
-        ensures ok { OnOk result (IfSome (R.rest source.old) (λ all.
-            Served (machine (rules_of self.old)) (limits_of buffer.old) (most_of self.old) (lives_of self.old) all (W.taken sink.old) (W.taken sink.new) (lives_of self.new))) }
+        ensures ok { Works (store_of S.Store self.new) → OnOk result (IfSome (R.rest source.old) (λ all.
+            Served (machine (rules_of self.old)) (limits_of buffer.old) (most_of self.old) (lives_of S.Store self.old) all (W.taken sink.old) (W.taken sink.new) (lives_of S.Store self.new))) }
+        ensures works { Works (store_of S.Store self.new) → Works (store_of S.Store self.old) }
 
         // A fault has its cause in this call, and leaves a prefix.
         ensures cause { HasCause result (R.failures source.old < R.failures source.new) (W.fruitless sink.old < W.fruitless sink.new) }
         ensures outcome { (got : List ℕ) × Gave (R.given source.old) (R.given source.new) (R.rest source.old) (R.rest source.new) got
-            × Looked (machine (rules_of self.old)) (limits_of buffer.old) (most_of self.old) (lives_of self.old) got ((limits_of buffer.old).head + (limits_of buffer.old).body) (R.reads source.old) (R.reads source.new)
-            × Outcome result (machine (rules_of self.old)) (limits_of buffer.old) (most_of self.old) (lives_of self.old) got (R.rest source.new) (W.taken sink.old) (W.taken sink.new) (lives_of self.new) }
+            × Looked (limits_of buffer.old) (most_of self.old) got ((limits_of buffer.old).head + (limits_of buffer.old).body) (R.reads source.old) (R.reads source.new)
+            × (Works (store_of S.Store self.new) → Outcome result (machine (rules_of self.old)) (limits_of buffer.old) (most_of self.old) (lives_of S.Store self.old) got (R.rest source.new) (W.taken sink.old) (W.taken sink.new) (lives_of S.Store self.new)) }
     {
         let limits = buffer.limits;
         self.serve_in(buffer.room.as_mut_slice(), &limits, source, sink)

@@ -2,9 +2,9 @@
 //! stand in a crate of their own above this one.
 
 use super::*;
-use osb_catalog::{BUILT_IN, Settings};
+use crate::fixtures::{built_in, new_broker};
 use osb_frames::{Counted, Limits};
-use osb_records::open_memory;
+use sqlite::MemStore;
 use std::alloc::Global;
 use std::io::{self, Read, Write};
 use std::test::Fail;
@@ -67,18 +67,10 @@ impl Write for Writer {
     }
 }
 
-/// The settings that the program has built in.
-fn built_in(alloc: Global) -> Result<Settings, Fail> {
-    match Settings::read(alloc, BUILT_IN.as_bytes()) {
-        Ok(settings) => Ok(settings),
-        Err(_) => Err("the built-in settings")?,
-    }
-}
-
 /// What the broker writes to a connection whose bytes come in pieces of that size.
 fn served(
     alloc: Global,
-    broker: &mut Broker<'_>,
+    broker: &mut Broker<'_, MemStore>,
     bytes: &[u8],
     piece: usize,
 ) -> Result<Vec<u8>, Fail> {
@@ -133,7 +125,7 @@ fn no_beginning_of_a_request_is_one(rt: HostRuntime) -> Result<(), Fail> {
     let alloc = rt.alloc();
     let settings = built_in(alloc)?;
     for length in 1..GET_CATALOG.len() {
-        let mut broker = Broker::new(alloc, &settings, open_memory(alloc)?, 1);
+        let mut broker = new_broker(alloc, &settings, 1)?;
         let text = served(alloc, &mut broker, &GET_CATALOG[..length], 100_000)?;
         assert_eq!(rt; text.as_slice(), NO_HEAD);
     }
@@ -144,7 +136,7 @@ fn no_beginning_of_a_request_is_one(rt: HostRuntime) -> Result<(), Fail> {
 /// that read is made.
 fn answers_before_a_failure(alloc: Global, bytes: &[u8], text: &[u8]) -> Result<bool, Fail> {
     let settings = built_in(alloc)?;
-    let mut broker = Broker::new(alloc, &settings, open_memory(alloc)?, 1);
+    let mut broker = new_broker(alloc, &settings, 1)?;
     let mut buffer = Buffer::new(alloc, &Limits::STANDARD)?;
     let mut source = Counted::new(Reader {
         bytes,
@@ -177,7 +169,7 @@ fn a_read_that_fails_leaves_whole_replies(rt: HostRuntime) -> Result<(), Fail> {
     // The last piece is the rest of both requests.
     for reads in 0..bytes.len().div_ceil(PIECE) {
         let first_is_whole = reads * PIECE >= PUT_I.len();
-        let mut broker = Broker::new(alloc, &settings, open_memory(alloc)?, 2);
+        let mut broker = new_broker(alloc, &settings, 2)?;
         let mut source = Counted::new(Reader {
             bytes: bytes.as_slice(),
             piece: PIECE,
@@ -209,7 +201,7 @@ fn a_write_that_fails_leaves_a_prefix(rt: HostRuntime) -> Result<(), Fail> {
     let mut buffer = Buffer::new(alloc, &Limits::STANDARD)?;
     for writes in 0..text.len().div_ceil(PIECE) {
         for last in [Last::Fails, Last::TakesNothing] {
-            let mut broker = Broker::new(alloc, &settings, open_memory(alloc)?, 2);
+            let mut broker = new_broker(alloc, &settings, 2)?;
             let mut source = Counted::new(Reader {
                 bytes: bytes.as_slice(),
                 piece: 100,
@@ -238,7 +230,7 @@ fn a_write_that_fails_leaves_a_prefix(rt: HostRuntime) -> Result<(), Fail> {
 fn a_reply_goes_out_in_one_write(rt: HostRuntime) -> Result<(), Fail> {
     let alloc = rt.alloc();
     let settings = built_in(alloc)?;
-    let mut broker = Broker::new(alloc, &settings, open_memory(alloc)?, 1);
+    let mut broker = new_broker(alloc, &settings, 1)?;
     let mut buffer = Buffer::new(alloc, &Limits::STANDARD)?;
     let mut source = Counted::new(GET_CATALOG);
     let mut sink = Counted::new(Writer {
@@ -262,7 +254,7 @@ fn smaller_buffers_keep_to_their_limits(rt: HostRuntime) -> Result<(), Fail> {
         body: 3,
     };
     let mut buffer = Buffer::new(alloc, &limits)?;
-    let mut broker = Broker::new(alloc, &settings, open_memory(alloc)?, 2);
+    let mut broker = new_broker(alloc, &settings, 2)?;
     let bytes =
         b"PUT /v1/service_instances/i HTTP/1.1\r\nHost: b\r\nA: b\r\n\r\nPUT / HTTP/1.1\r\nHost: b\r\nContent-Length: 4\r\n\r\nabcd";
     let mut source = Counted::new(bytes.as_slice());

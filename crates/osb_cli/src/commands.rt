@@ -3,7 +3,7 @@
 ghost use Rattle.std.specs.Prelude.{◌≤◌};
 
 use crate::check::check;
-use crate::fault::Fault;
+use crate::fault::{Fault, Unserved};
 use crate::listen::listen;
 use crate::replay::{replay_files, replay_input};
 use crate::settings::settings_or_built_in;
@@ -77,17 +77,17 @@ fn perform_serve<'a, W: Sink, E: Sink>(
     words: &'a [String],
     output: &mut W,
     errors: &mut E,
-) -> Result<(), Fault<'a>> {
+) -> Result<(), Unserved<'a>> {
     let order = match read(rt.alloc(), words) {
         Ok(order) => order,
-        Err(error) => return answer_words(rt.alloc(), &error, output),
+        Err(error) => return Ok(answer_words(rt.alloc(), &error, output)?),
     };
     match order {
         Order::Serve(asked) => listen(rt, &asked, output, errors),
-        Order::Check { .. } | Order::Replay(_) => other_command(
+        Order::Check { .. } | Order::Replay(_) => Ok(other_command(
             rt.alloc(),
             "the command is not serve\n",
-        ),
+        )?),
     }
 }
 
@@ -102,6 +102,17 @@ fn status_of<E: Sink>(done: Result<(), Fault<'_>>, errors: &mut E) -> u8
             fault.status()
         }
     }
+}
+
+/// The same of `serve`.
+fn serve_status_of<E: Sink>(done: Result<(), Unserved<'_>>, errors: &mut E) -> u8
+    ensures { result ≤ 4 }
+{
+    let Err(fault) = done else {
+        return 0;
+    };
+    fault.tell(errors);
+    fault.status()
 }
 
 /// Does what the words after the program's name ask for, and gives the status that the process
@@ -122,19 +133,20 @@ pub fn run<R: Source, W: Sink, E: Sink>(
 }
 
 /// Does what the words ask for where they name `serve`: takes connections at an address, one after
-/// the other, and answers them from one broker, which keeps its orders in memory. A fault of a
-/// connection is a line on `errors`, and the next connection is taken.
+/// the other, and answers them from one broker, which keeps its orders in a database file. A fault
+/// of a connection is a line on `errors`, and the next connection is taken.
 ///
-/// The status is that of [`run`]: also 1 where the address can't be listened at or a connection
-/// can't be taken, and 2 where the words name another command.
+/// The status is that of [`run`]: also 1 where the database can't be used, the address can't be
+/// listened at or a connection can't be taken, 2 where the words name another command, and 4 where
+/// the catalog lacks a plan that the database has in use.
 pub fn serve_command<W: Sink, E: Sink>(
     rt: &HostRuntime,
     words: &[String],
     output: &mut W,
     errors: &mut E,
 ) -> u8
-    ensures { result ≤ 3 }
+    ensures { result ≤ 4 }
 {
     let done = perform_serve(rt, words, output, errors);
-    status_of(done, errors)
+    serve_status_of(done, errors)
 }

@@ -3,9 +3,11 @@
 ghost use Rattle.std.specs.Prelude.{◌≤◌};
 
 use itoa::Buffer;
+use osb_broker::NewFault;
 use osb_catalog::SettingsFault;
 use osb_frames::{Sink, send_all};
 use osb_records::StoreFault;
+use osb_text::Text;
 use std::alloc::AllocError;
 
 /// Why a command ends with another status than 0.
@@ -17,8 +19,8 @@ pub(crate) enum Fault<'a> {
     TooLarge(&'a str),
     /// Memory was refused.
     OutOfMemory,
-    /// The database refused.
-    Database,
+    /// The database can't be used.
+    Database(StoreFault),
     /// Standard output doesn't take what is written.
     CannotWrite,
     /// Connections can't be taken at that address.
@@ -29,6 +31,15 @@ pub(crate) enum Fault<'a> {
     Words(String),
     /// The settings aren't accepted.
     Settings(SettingsFault),
+}
+
+/// Why `serve` ends with another status than 0.
+#[derive(Debug, Drop)]
+pub(crate) enum Unserved<'a> {
+    /// As another command might.
+    Fault(Fault<'a>),
+    /// The database has that service and plan in use, and the catalog doesn't have them.
+    PlanInUse(Text, Text),
 }
 
 impl From<AllocError> for Fault<'_> {
@@ -46,10 +57,25 @@ impl From<StoreFault> for Fault<'_> {
     ghost use Rattle.std.specs.Prelude.{◌≡◌};
     ghost use Rattle.osb_cli.specs.declared.fault.Fault.TheVariants.{Database};
 
-    ghost from_gives = { λ _ fault. fault ≡ Database };
+    ghost from_gives = { λ store fault. fault ≡ Database store };
 
-    fn from(_error: StoreFault) -> Self {
-        Fault::Database
+    fn from(store: StoreFault) -> Self {
+        Fault::Database(store)
+    }
+}
+
+impl<'a> From<Fault<'a>> for Unserved<'a> {
+    fn from(fault: Fault<'a>) -> Self {
+        Unserved::Fault(fault)
+    }
+}
+
+impl From<NewFault> for Unserved<'_> {
+    fn from(fault: NewFault) -> Self {
+        match fault {
+            NewFault::PlanInUse(service, plan) => Unserved::PlanInUse(service, plan),
+            NewFault::Refused => Unserved::Fault(Fault::Database(StoreFault::Refused)),
+        }
     }
 }
 
@@ -83,6 +109,14 @@ fn tell_settings<E: Sink>(fault: SettingsFault, errors: &mut E) {
     }
 }
 
+/// Writes the line of a fault of the database: its number and its name.
+fn tell_database<E: Sink>(fault: StoreFault, errors: &mut E) {
+    match fault {
+        StoreFault::Refused => say(errors, &["database: 1 Refused\n"]),
+        StoreFault::NotOurs => say(errors, &["database: 2 NotOurs\n"]),
+    }
+}
+
 impl Fault<'_> {
     /// The status that the process ends with.
     pub(crate) fn status(&self) -> u8
@@ -92,7 +126,7 @@ impl Fault<'_> {
             Fault::CannotRead(_)
             | Fault::TooLarge(_)
             | Fault::OutOfMemory
-            | Fault::Database
+            | Fault::Database(_)
             | Fault::CannotWrite
             | Fault::CannotListen(_)
             | Fault::CannotAccept => 1,
@@ -107,7 +141,7 @@ impl Fault<'_> {
             Fault::CannotRead(file) => say(errors, &["osb-broker: cannot read ", file, "\n"]),
             Fault::TooLarge(file) => say(errors, &["osb-broker: too large ", file, "\n"]),
             Fault::OutOfMemory => say(errors, &["osb-broker: out of memory\n"]),
-            Fault::Database => say(errors, &["database: 1 Refused\n"]),
+            Fault::Database(fault) => tell_database(*fault, errors),
             Fault::CannotWrite => say(errors, &["osb-broker: cannot write\n"]),
             Fault::CannotListen(address) => say(
                 errors,
@@ -116,6 +150,29 @@ impl Fault<'_> {
             Fault::CannotAccept => say(errors, &["osb-broker: cannot accept\n"]),
             Fault::Words(text) => say(errors, &[text.as_str()]),
             Fault::Settings(fault) => tell_settings(*fault, errors),
+        }
+    }
+}
+
+impl Unserved<'_> {
+    /// The status that the process ends with.
+    pub(crate) fn status(&self) -> u8
+        ensures { result ≤ 4 }
+    {
+        match self {
+            Unserved::Fault(fault) => fault.status(),
+            Unserved::PlanInUse(_, _) => 4,
+        }
+    }
+
+    /// Writes the line that tells it. It takes no memory.
+    pub(crate) fn tell<E: Sink>(&self, errors: &mut E) {
+        match self {
+            Unserved::Fault(fault) => fault.tell(errors),
+            Unserved::PlanInUse(service, plan) => say(
+                errors,
+                &["plan in use: ", service.as_str(), " ", plan.as_str(), "\n"],
+            ),
         }
     }
 }

@@ -1,11 +1,14 @@
 //! `serve`: TCP connections, one after the other.
 
-use crate::fault::{Fault, say};
+use crate::fault::{Fault, Unserved, say};
+use crate::per_connection::PerConnection;
 use crate::settings::read_settings;
 use crate::words::Listen;
 use osb_broker::{Broker, Buffer, ServeFault};
+use osb_catalog::Settings;
+use osb_file::open_file;
 use osb_frames::{Counted, Limits, Sink, send_all};
-use osb_records::open_memory;
+use sqlite::{Alter, FileFrom, FileStore, Unknown};
 use std::io::Read;
 use std::net::{Shutdown, SocketAddr, TcpListener, TcpStream};
 use std::time::Duration;
@@ -38,8 +41,8 @@ fn end(stream: &TcpStream) {
 }
 
 /// Serves a connection. A fault of it is told, and is none of the next connection.
-pub(crate) fn serve_stream<E: Sink>(
-    broker: &mut Broker<'_>,
+pub(crate) fn serve_stream<S: Alter, E: Sink>(
+    broker: &mut Broker<'_, S>,
     buffer: &mut Buffer,
     stream: &TcpStream,
     errors: &mut E,
@@ -57,8 +60,8 @@ pub(crate) fn serve_stream<E: Sink>(
 }
 
 /// Serves so many connections of a listener, one after the other.
-pub(crate) fn serve_listener<E: Sink>(
-    broker: &mut Broker<'_>,
+pub(crate) fn serve_listener<S: Alter, E: Sink>(
+    broker: &mut Broker<'_, S>,
     buffer: &mut Buffer,
     listener: &TcpListener,
     connections: u32,
@@ -94,29 +97,45 @@ fn tell_listening<W: Sink>(address: &str, output: &mut W) -> Result<(), Fault<'s
     Ok(())
 }
 
-/// Serves connections at an address, with the settings of a file.
+/// The broker over the database of a file.
+fn broker_over<'s>(
+    rt: &HostRuntime,
+    settings: &'s Settings,
+    database: &str,
+    per_connection: PerConnection,
+) -> Result<Broker<'s, FileStore<FileFrom<Unknown>>>, Unserved<'static>> {
+    let records = match open_file(rt, database, Unknown) {
+        Ok(records) => records,
+        Err(fault) => return Err(Unserved::Fault(Fault::Database(fault))),
+    };
+    match Broker::new(rt.alloc(), settings, records, per_connection.number()) {
+        Ok(broker) => Ok(broker),
+        Err((fault, _)) => Err(Unserved::from(fault)),
+    }
+}
+
+/// Listens at an address, tells so, and serves connections.
+fn serve_at<'a, S: Alter, W: Sink, E: Sink>(
+    rt: &HostRuntime,
+    broker: &mut Broker<'_, S>,
+    asked: &Listen<'a>,
+    output: &mut W,
+    errors: &mut E,
+) -> Result<(), Fault<'a>> {
+    let mut buffer = Buffer::new(rt.alloc(), &Limits::STANDARD)?;
+    let listener = listen_at(rt, asked.address)?;
+    tell_listening(asked.address, output)?;
+    serve_listener(broker, &mut buffer, &listener, asked.connections, errors)
+}
+
+/// Serves connections at an address, with the settings of one file and the database of another.
 pub(crate) fn listen<'a, W: Sink, E: Sink>(
     rt: &HostRuntime,
     asked: &Listen<'a>,
     output: &mut W,
     errors: &mut E,
-) -> Result<(), Fault<'a>> {
+) -> Result<(), Unserved<'a>> {
     let settings = read_settings(rt, asked.settings)?;
-    let records = open_memory(rt.alloc())?;
-    let mut broker = Broker::new(
-        rt.alloc(),
-        &settings,
-        records,
-        asked.per_connection.number(),
-    );
-    let mut buffer = Buffer::new(rt.alloc(), &Limits::STANDARD)?;
-    let listener = listen_at(rt, asked.address)?;
-    tell_listening(asked.address, output)?;
-    serve_listener(
-        &mut broker,
-        &mut buffer,
-        &listener,
-        asked.connections,
-        errors,
-    )
+    let mut broker = broker_over(rt, &settings, asked.database, asked.per_connection)?;
+    Ok(serve_at(rt, &mut broker, asked, output, errors)?)
 }

@@ -8,10 +8,10 @@ ghost use Rattle.osb_cli.specs.Replay.{IsReplayed};
 use crate::fault::Fault;
 use crate::input::{read_files, read_input};
 use crate::per_connection::PerConnection;
-use osb_broker::Broker;
+use osb_broker::memory;
 use osb_catalog::Settings;
 use osb_frames::{Sink, Source, send_all};
-use osb_records::open_memory;
+use osb_records::{StoreFault, open_memory};
 use std::alloc::Global;
 
 /// Writes the outputs one after the other, with nothing between.
@@ -37,8 +37,11 @@ fn serve_connections<W: Sink>(
     ensures { OnOk result (IsReplayed (rules_of settings.now) per_connection.number (map vec_items connections.now) (W.taken output.old) (W.taken output.new)) }
 {
     let records = open_memory(alloc)?;
-    let mut broker = Broker::new(alloc, settings, records, per_connection.number());
-    let outputs = broker.serve_all(connections)?;
+    let Ok(mut broker) = memory::new(alloc, settings, records, per_connection.number()) else {
+        // No plan is in use in an empty database, so it couldn't be read.
+        return Err(Fault::Database(StoreFault::Refused));
+    };
+    let outputs = memory::serve_all(&mut broker, connections)?;
     write_outputs(outputs.as_slice(), output)
 }
 

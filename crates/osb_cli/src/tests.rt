@@ -3,10 +3,15 @@
 mod sockets;
 
 use super::*;
+use crate::fault::{Fault, Unserved};
+use osb_catalog::BUILT_IN;
 use osb_frames::Counted;
+use osb_records::StoreFault;
+use osb_text::Text;
 use std::alloc::Global;
 use std::io::{self, Read, Write};
 use std::test::Fail;
+use std::{env, fs};
 
 /// Gives so many spaces, and then ends or fails.
 #[derive(Drop)]
@@ -88,11 +93,13 @@ const NOT_SERVE: [&[&str]; 7] = [
     &[],
     &["check", "FILE"],
     &["serve"],
-    &["serve", "--listen", "127.0.0.1:0"],
-    &["serve", "--settings", "FILE"],
+    &["serve", "--settings", "FILE", "--listen", "127.0.0.1:0"],
+    &["serve", "--settings", "FILE", "--database", "FILE"],
     &[
         "serve",
         "--settings",
+        "FILE",
+        "--database",
         "FILE",
         "--listen",
         "127.0.0.1:0",
@@ -102,6 +109,8 @@ const NOT_SERVE: [&[&str]; 7] = [
     &[
         "serve",
         "--settings",
+        "FILE",
+        "--database",
         "FILE",
         "--listen",
         "127.0.0.1:0",
@@ -118,27 +127,76 @@ fn words_of_serve(rt: HostRuntime) -> Result<(), Fail> {
         assert!(rt; left.output.is_empty() && !left.errors.is_empty());
     }
     // Its words are those of no other command.
-    let words: [&str; 5] = ["serve", "--settings", "FILE", "--listen", "127.0.0.1:0"];
+    let words: [&str; 7] = [
+        "serve",
+        "--settings",
+        "FILE",
+        "--database",
+        "FILE",
+        "--listen",
+        "127.0.0.1:0",
+    ];
     let left = run_on(&rt, &words, GET_CATALOG)?;
     assert_eq!(rt; left.status, 2);
     assert!(rt; left.output.is_empty() && !left.errors.is_empty());
     Ok(())
 }
 
-#[test]
-fn serve_without_its_settings(rt: HostRuntime) -> Result<(), Fail> {
-    let words: [&str; 5] = [
+/// What `serve` leaves with these settings, over a database whose name is that of a folder.
+fn serve_over_a_folder(rt: &HostRuntime, settings: &str) -> Result<Left, Fail> {
+    let words: [&str; 7] = [
         "serve",
         "--settings",
-        "no/such/file",
+        settings,
+        "--database",
+        ".",
         "--listen",
         "127.0.0.1:0",
     ];
-    let left = serve_on(&rt, &words)?;
+    serve_on(rt, &words)
+}
+
+#[test]
+fn serve_without_its_settings(rt: HostRuntime) -> Result<(), Fail> {
+    let left = serve_over_a_folder(&rt, "no/such/file")?;
     assert_eq!(rt; left.status, 1);
     assert!(rt; left.output.is_empty());
     let line = b"osb-broker: cannot read no/such/file\n";
     assert_eq!(rt; left.errors.as_slice(), line.as_slice());
+    Ok(())
+}
+
+#[test]
+fn serve_without_its_database(rt: HostRuntime) -> Result<(), Fail> {
+    let folder = env::temp_dir(&rt)?;
+    let path = format!(in rt.alloc(); "{}/osb_cli_settings.json", folder.display())?;
+    fs::write(&rt, path.as_str(), BUILT_IN)?;
+    let left = serve_over_a_folder(&rt, path.as_str())?;
+    assert_eq!(rt; left.status, 1);
+    assert!(rt; left.output.is_empty());
+    assert_eq!(rt; left.errors.as_slice(), b"database: 1 Refused\n".as_slice());
+    Ok(())
+}
+
+/// The status of a fault of `serve`, and its line.
+fn told_of(alloc: Global, fault: &Unserved<'_>) -> (u8, Vec<u8>) {
+    let mut errors = Counted::new(Vec::new(alloc));
+    fault.tell(&mut errors);
+    (fault.status(), errors.into_inner())
+}
+
+#[test]
+fn faults_of_serve(rt: HostRuntime) -> Result<(), Fail> {
+    let alloc = rt.alloc();
+    let service = Text::from_str(alloc, "svc")?;
+    let plan = Text::from_str(alloc, "p-async")?;
+    let (status, line) = told_of(alloc, &Unserved::PlanInUse(service, plan));
+    assert_eq!(rt; status, 4);
+    assert_eq!(rt; line.as_slice(), b"plan in use: svc p-async\n".as_slice());
+    let not_ours = Unserved::Fault(Fault::Database(StoreFault::NotOurs));
+    let (status, line) = told_of(alloc, &not_ours);
+    assert_eq!(rt; status, 1);
+    assert_eq!(rt; line.as_slice(), b"database: 2 NotOurs\n".as_slice());
     Ok(())
 }
 

@@ -9,6 +9,8 @@ use std::alloc::{AllocError, Global};
 pub(crate) struct Listen<'a> {
     /// The name of the settings file.
     pub(crate) settings: &'a str,
+    /// The name of the database file.
+    pub(crate) database: &'a str,
     /// An IP address and a port.
     pub(crate) address: &'a str,
     pub(crate) per_connection: PerConnection,
@@ -42,10 +44,12 @@ const STATUS: &str = "With no command it does `replay`.
 
 Status:
   0  all went well, or help was asked for
-  1  a file can't be read or is too large, memory is refused, standard
-     output doesn't take what is written, or connections can't be taken
+  1  a file can't be read or is too large, the database is refused or isn't
+     one of this broker, memory is refused, standard output doesn't take
+     what is written, or connections can't be taken
   2  the words are not those of a command
   3  the settings are not accepted
+  4  the settings lack a plan that the database has in use
 With any status but 0 a line on standard error says why.";
 
 const CHECK: &str = "Check a settings file";
@@ -68,7 +72,9 @@ const SERVE_MORE: &str =
     "Prints `listening on ADDR`, and then takes one connection after the other. A
 connection that fails is a line on standard error, `connection: read` or
 `connection: write`, and the next one is taken. The broker keeps its orders
-in memory: they are gone when it ends.";
+in the database: a change is there before its request is answered, and stays
+there however the program ends. A file that isn't there is made. What has not
+been copied into it yet stands in a second file, its name with `-wal` behind.";
 
 /// The most connections that one run takes.
 const MOST_CONNECTIONS: u32 = 1_000_000;
@@ -128,6 +134,11 @@ fn serve_command<'a>(alloc: Global) -> Result<Command<'a>, Error> {
         .value_name("FILE")
         .help("The settings file")
         .required(true);
+    let database = Arg::new(alloc, "database")
+        .long("database")
+        .value_name("FILE")
+        .help("The database file; it is made where there is none")
+        .required(true);
     let listen = Arg::new(alloc, "listen")
         .long("listen")
         .value_name("ADDR")
@@ -143,9 +154,10 @@ fn serve_command<'a>(alloc: Global) -> Result<Command<'a>, Error> {
             .about(SERVE)
             .after_help(SERVE_MORE)
             .override_usage(
-                "osb-broker serve --settings FILE --listen ADDR [--per-connection N] [--connections N]",
+                "osb-broker serve --settings FILE --database FILE --listen ADDR [--per-connection N] [--connections N]",
             )
             .arg(settings)?
+            .arg(database)?
             .arg(listen)?
             .arg(per_connection_word(alloc))?
             .arg(connections)?,
@@ -194,6 +206,7 @@ fn replay_order<'a>(alloc: Global, found: &ArgMatches<'a>) -> Result<Order<'a>, 
 fn serve_order<'a>(found: &ArgMatches<'a>) -> Order<'a> {
     Order::Serve(Listen {
         settings: found.get_str("settings").unwrap_or(""),
+        database: found.get_str("database").unwrap_or(""),
         address: found.get_str("listen").unwrap_or(""),
         per_connection: per_connection_of(found),
         connections: found

@@ -173,6 +173,8 @@ fn views_of_instances(rt: HostRuntime) -> Result<(), Fail> {
     stay_beside(alloc, &instances::MAINTENANCE_CONFLICT)?;
     stay_beside(alloc, &instances::VERSION_OF_ITS_PLAN)?;
     stay_beside(alloc, &instances::PLAN_CHANGED)?;
+    stay_beside(alloc, &instances::UPDATED_TWICE)?;
+    stay_beside(alloc, &instances::MADE_AGAIN)?;
     stay_beside(alloc, &instances::FAILED_DELETION)?;
     stay_beside(alloc, &instances::SENT_AGAIN)?;
     stay_beside(alloc, &instances::APART)
@@ -183,5 +185,8 @@ fn views_of_bindings(rt: HostRuntime) -> Result<(), Fail> {
     let alloc = rt.alloc();
     stay_beside(alloc, &bindings::ASYNC_BINDING)?;
     stay_beside(alloc, &bindings::FAILED_BINDING)?;
-    stay_beside(alloc, &bindings::SYNC_BINDING)
+    stay_beside(alloc, &bindings::SYNC_BINDING)?;
+    stay_beside(alloc, &bindings::TWO_BINDINGS)?;
+    stay_beside(alloc, &bindings::BOUND_AGAIN)?;
+    stay_beside(alloc, &bindings::PLAN_CHANGED_UNDER_IT)
 }

@@ -21,3 +21,5 @@ mod rows;
 mod serving;
 #[cfg(test)]
 mod standing;
+#[cfg(test)]
+mod stored;

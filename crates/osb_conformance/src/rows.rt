@@ -6,6 +6,7 @@ mod framing;
 pub(crate) mod instances;
 mod listing;
 mod login;
+mod plans;
 mod requests;
 mod settings;
 mod streams;

@@ -29,10 +29,38 @@ impl<'a> Read for Pieces<'a> {
     }
 }
 
+/// A broker over these records.
+pub(crate) fn broker_over(
+    alloc: Global,
+    settings: &Settings,
+    records: Records<MemStore>,
+    per_connection: u32,
+) -> Result<Broker<'_, MemStore>, Fail>
+    requires some { 1 ≤ per_connection }
+    requires few { per_connection ≤ 1000 }
+{
+    match Broker::new(alloc, settings, records, per_connection) {
+        Ok(broker) => Ok(broker),
+        Err(_) => Err("a broker")?,
+    }
+}
+
+/// A broker without orders, which takes so many requests of a connection.
+pub(crate) fn new_broker(
+    alloc: Global,
+    settings: &Settings,
+    per_connection: u32,
+) -> Result<Broker<'_, MemStore>, Fail>
+    requires some { 1 ≤ per_connection }
+    requires few { per_connection ≤ 1000 }
+{
+    broker_over(alloc, settings, open_memory(alloc)?, per_connection)
+}
+
 /// What the broker writes to a connection whose bytes come in pieces of that size.
 fn output_of(
     alloc: Global,
-    broker: &mut Broker<'_>,
+    broker: &mut Broker<'_, MemStore>,
     bytes: &[u8],
     piece: usize,
 ) -> Result<Vec<u8>, Fail> {
@@ -63,7 +91,7 @@ fn are_replies(alloc: Global, exchanges: &[Exchange], outputs: &[Vec<u8>]) -> Re
 /// Fails where the broker answers one of these exchanges otherwise.
 pub(crate) fn goes_on(
     alloc: Global,
-    broker: &mut Broker<'_>,
+    broker: &mut Broker<'_, MemStore>,
     exchanges: &[Exchange],
 ) -> Result<(), Fail> {
     let mut connections = Vec::new(alloc);
@@ -81,7 +109,7 @@ pub(crate) fn goes_over(
     settings: &Settings,
     exchanges: &[Exchange],
 ) -> Result<(), Fail> {
-    let mut broker = Broker::new(alloc, settings, open_memory(alloc)?, 1);
+    let mut broker = new_broker(alloc, settings, 1)?;
     goes_on(alloc, &mut broker, exchanges)
 }
 
@@ -92,7 +120,7 @@ pub(crate) fn after(
     records: Records<MemStore>,
     exchange: Exchange,
 ) -> Result<Records<MemStore>, Fail> {
-    let mut broker = Broker::new(alloc, settings, records, 1);
+    let mut broker = broker_over(alloc, settings, records, 1)?;
     goes_on(alloc, &mut broker, &[exchange])?;
     Ok(broker.into_records())
 }
@@ -114,7 +142,7 @@ fn outputs_over(
     requires few { per_connection ≤ 1000 }
 {
     let connection = joined(alloc, &[bytes])?;
-    let mut broker = Broker::new(alloc, settings, open_memory(alloc)?, per_connection);
+    let mut broker = new_broker(alloc, settings, per_connection)?;
     Ok(broker.serve_all(&[connection])?)
 }
 
@@ -150,7 +178,7 @@ pub(crate) fn answers_in_pieces(
 {
     let settings = built_in(alloc)?;
     for piece in PIECES {
-        let mut broker = Broker::new(alloc, &settings, open_memory(alloc)?, per_connection);
+        let mut broker = new_broker(alloc, &settings, per_connection)?;
         let output = output_of(alloc, &mut broker, bytes, piece)?;
         if output.as_slice() != text {
             let told = format!(in alloc; "another text, in pieces of {piece}")?;

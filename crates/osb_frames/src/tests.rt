@@ -189,6 +189,37 @@ fn codings(rt: HostRuntime) {
     assert!(rt; stops_with(both, StopKind::Coding));
     let host_first = b"PUT / HTTP/1.1\r\nTransfer-Encoding: chunked\r\n\r\n";
     assert!(rt; stops_with(host_first, StopKind::Host));
+    let large =
+        b"PUT / HTTP/1.1\r\nHost: b\r\nTransfer-Encoding: chunked\r\nContent-Length: 65537\r\n\r\n";
+    assert!(rt; stops_with(large, StopKind::Coding));
+    let host_first = b"PUT / HTTP/1.1\r\nContent-Length: 65537\r\n\r\n";
+    assert!(rt; stops_with(host_first, StopKind::Host));
+}
+
+/// Whether a head with these lines, whose input goes on, is told to be faulty.
+fn stops_at_once(alloc: Global, lines: &str, kind: StopKind) -> Result<bool, AllocError> {
+    let head = repeated(alloc, "PUT / HTTP/1.1\r\n", lines, 1, "\r\n")?;
+    Ok(match next(head.as_bytes(), false, &Limits::STANDARD) {
+        Step::Stop(found) => found == kind,
+        _ => false,
+    })
+}
+
+/// The faults of a head don't wait for a body.
+#[test]
+fn faults_of_a_head(rt: HostRuntime) -> Result<(), Fail> {
+    for (lines, kind) in [
+        ("Content-Length: 1\r\n", StopKind::Host),
+        (
+            "Host: b\r\nTransfer-Encoding: x\r\nContent-Length: 1\r\n",
+            StopKind::Coding,
+        ),
+        ("Host: b\r\nContent-Length: x\r\n", StopKind::Length),
+        ("Host: b\r\nContent-Length: 65537\r\n", StopKind::TooLarge),
+    ] {
+        assert!(rt; stops_at_once(rt.alloc(), lines, kind)?, "{lines}");
+    }
+    Ok(())
 }
 
 fn length_is(alloc: Global, value: &str, kind: StopKind) -> Result<bool, AllocError> {
@@ -222,6 +253,8 @@ fn lengths(rt: HostRuntime) -> Result<(), Fail> {
     for cut in ["2", "0000000000000000002", "65536"] {
         assert!(rt; length_is(alloc, cut, StopKind::Cut)?, "{cut}");
     }
+    // No byte of a body, and none of the bytes that follow.
+    assert!(rt; reads(b"PUT / HTTP/1.0\r\nContent-Length: 0\r\n\r\n", 37));
     Ok(())
 }
 

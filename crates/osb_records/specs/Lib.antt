@@ -9,3 +9,4 @@ pub mod Commit
 pub mod Queries
 pub mod BindingRows
 pub mod Opened
+pub mod Kept

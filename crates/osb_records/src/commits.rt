@@ -8,7 +8,8 @@ ghost use Rattle.osb_orders.specs.Lives.{life_of};
 ghost use Rattle.osb_orders.specs.Changed.{lives_changed};
 ghost use Rattle.osb_orders.specs.IsLife.{IsLives};
 ghost use Rattle.osb_orders.specs.Allowed.{IsFinishable};
-ghost use Rattle.osb_records.specs.Steps.{HoldsLives, IsReady, LeavesOnly, stored};
+ghost use Rattle.osb_records.specs.Steps.{IsReady, LeavesOnly, stored};
+ghost use Rattle.osb_records.specs.Commit.{Commits};
 
 use crate::fault::StoreFault;
 use crate::writing::{append_order, end_order};
@@ -17,7 +18,6 @@ use sqlite::{Alter, Connection};
 use std::alloc::Global;
 
 /// One order more for the instance.
-#[tactic(auto, using(crate::proofs::StepLemmas::committed_lives))]
 pub(crate) fn append<S: Alter>(
     conn: &mut Connection<S>,
     alloc: Global,
@@ -29,8 +29,10 @@ pub(crate) fn append<S: Alter>(
     ensures ready { IsReady (state S.Store conn.new) }
     ensures ok { HasCleanDisk (state S.Store conn.new) → OnOk result (stored (state S.Store conn.new) ≡ lives_changed (Append order.now) instance.now (stored (state S.Store conn.old))) }
     ensures err { HasCleanDisk (state S.Store conn.new) → IsTrue (state S.Store conn.new).is_open → OnErr result (stored (state S.Store conn.new) ≡ stored (state S.Store conn.old)) }
-    ensures crash { Survives (state S.Store conn.old) (state S.Store conn.new) (HoldsLives (lives_changed (Append order.now) instance.now (stored (state S.Store conn.old)))) }
-    ensures durable { HasCleanDisk (state S.Store conn.new) → IsTrue (state S.Store conn.new).is_open → OnOk result (LeavesOnly (state S.Store conn.new) (stored (state S.Store conn.new))) }
+    ensures crash { Survives (state S.Store conn.old) (state S.Store conn.new) (Commits (state S.Store conn.old) (lives_changed (Append order.now) instance.now (stored (state S.Store conn.old)))) }
+    ensures was_open { HasCleanDisk (state S.Store conn.new) → IsTrue (state S.Store conn.new).is_open → IsTrue (state S.Store conn.old).is_open }
+    ensures open { HasCleanDisk (state S.Store conn.new) → OnOk result (IsTrue (state S.Store conn.old).is_open) }
+    ensures durable { HasCleanDisk (state S.Store conn.new) → OnOk result (LeavesOnly (state S.Store conn.new) (stored (state S.Store conn.new))) }
 {
     let mut tx = conn.transaction();
     append_order(&mut tx, alloc, instance, order)?;
@@ -38,7 +40,6 @@ pub(crate) fn append<S: Alter>(
 }
 
 /// The end of the running last order of the instance.
-#[tactic(auto, using(crate::proofs::StepLemmas::committed_lives))]
 pub(crate) fn finish<S: Alter>(
     conn: &mut Connection<S>,
     alloc: Global,
@@ -52,8 +53,10 @@ pub(crate) fn finish<S: Alter>(
     ensures ready { IsReady (state S.Store conn.new) }
     ensures ok { HasCleanDisk (state S.Store conn.new) → OnOk result (stored (state S.Store conn.new) ≡ lives_changed (Finish number outcome.now) instance.now (stored (state S.Store conn.old))) }
     ensures err { HasCleanDisk (state S.Store conn.new) → IsTrue (state S.Store conn.new).is_open → OnErr result (stored (state S.Store conn.new) ≡ stored (state S.Store conn.old)) }
-    ensures crash { Survives (state S.Store conn.old) (state S.Store conn.new) (HoldsLives (lives_changed (Finish number outcome.now) instance.now (stored (state S.Store conn.old)))) }
-    ensures durable { HasCleanDisk (state S.Store conn.new) → IsTrue (state S.Store conn.new).is_open → OnOk result (LeavesOnly (state S.Store conn.new) (stored (state S.Store conn.new))) }
+    ensures crash { Survives (state S.Store conn.old) (state S.Store conn.new) (Commits (state S.Store conn.old) (lives_changed (Finish number outcome.now) instance.now (stored (state S.Store conn.old)))) }
+    ensures was_open { HasCleanDisk (state S.Store conn.new) → IsTrue (state S.Store conn.new).is_open → IsTrue (state S.Store conn.old).is_open }
+    ensures open { HasCleanDisk (state S.Store conn.new) → OnOk result (IsTrue (state S.Store conn.old).is_open) }
+    ensures durable { HasCleanDisk (state S.Store conn.new) → OnOk result (LeavesOnly (state S.Store conn.new) (stored (state S.Store conn.new))) }
 {
     let mut tx = conn.transaction();
     end_order(&mut tx, alloc, instance, number, outcome)?;

@@ -5,6 +5,7 @@ ghost use Rattle.std.specs.FinMap.{empty};
 ghost use Rattle.sqlite.specs.Held.{state};
 ghost use Rattle.sqlite.specs.State.{HasCleanDisk, Survives};
 ghost use Rattle.sqlite.specs.Steps.{over_memory};
+ghost use Rattle.sqlite.specs.Tree.{Trees};
 ghost use Rattle.osb_orders.specs.Lives.{Lives, life_of};
 ghost use Rattle.osb_orders.specs.Facts.{facts, view_of};
 ghost use Rattle.osb_orders.specs.Listing.{listing};
@@ -12,9 +13,10 @@ ghost use Rattle.osb_orders.specs.Changed.{lives_changed};
 ghost use Rattle.osb_audit.specs.Plans.{plans_in_use};
 ghost use Rattle.osb_orders.specs.IsLife.{IsLives};
 ghost use Rattle.osb_records.specs.declared.fault.StoreFault.TheVariants as faults;
+ghost use Rattle.osb_records.specs.Kept.{KeepsLives};
 ghost use Rattle.osb_records.specs.Opened.{StandIn, HoldsSame};
-ghost use Rattle.osb_records.specs.Steps.{HoldsLives, IsReady, LeavesOnly, stored};
-ghost use Rattle.osb_records.specs.Commit.{FinishesLast};
+ghost use Rattle.osb_records.specs.Steps.{IsReady, LeavesOnly, stored};
+ghost use Rattle.osb_records.specs.Commit.{Commits, FinishesLast, Lasts};
 
 use crate::adopt::take_over;
 use crate::commits::{append, finish};
@@ -90,11 +92,13 @@ impl<S: Alter> Records<S> {
         conn
     }
 
-    /// The lives are well formed. It does nothing when it runs.
+    /// The lives are well formed, and a crash now leaves a database of these lives and nothing else.
+    /// It does nothing when it runs.
     pub fn are_whole(&self)
-        ensures { HasCleanDisk (state S.Store self.now) → IsTrue (state S.Store self.now).is_open → IsLives (stored (state S.Store self.now)) }
+        ensures whole { HasCleanDisk (state S.Store self.now) → IsTrue (state S.Store self.now).is_open → IsLives (stored (state S.Store self.now)) }
+        ensures kept { HasCleanDisk (state S.Store self.now) → IsTrue (state S.Store self.now).is_open → KeepsLives (state S.Store self.now) (stored (state S.Store self.now)) }
     {
-        let _ = &self.conn;
+        let _ = self.conn.schema();
     }
 
     /// All orders of the instance.
@@ -102,6 +106,7 @@ impl<S: Alter> Records<S> {
     pub fn life(&mut self, alloc: Global, instance: &str) -> Result<Vec<Order>, StoreFault>
         ensures ok { HasCleanDisk (state S.Store self.new) → IfOk result (λ life. life.items ≡ life_of (stored (state S.Store self.old)) instance.now) }
         ensures same { HasCleanDisk (state S.Store self.new) → IsTrue (state S.Store self.new).is_open → stored (state S.Store self.new) ≡ stored (state S.Store self.old) }
+        ensures was_open { HasCleanDisk (state S.Store self.new) → IsTrue (state S.Store self.new).is_open → IsTrue (state S.Store self.old).is_open }
         ensures crash { Survives (state S.Store self.old) (state S.Store self.new) (λ _. ⊥) }
     {
         let rows = read_life(&mut self.conn, instance)?;
@@ -118,6 +123,7 @@ impl<S: Alter> Records<S> {
     ) -> Result<Vec<(Text, Order)>, StoreFault>
         ensures ok { HasCleanDisk (state S.Store self.new) → IfOk result (λ pairs. pairs.items ≡ listing (stored (state S.Store self.old)) after.now limit) }
         ensures same { HasCleanDisk (state S.Store self.new) → IsTrue (state S.Store self.new).is_open → stored (state S.Store self.new) ≡ stored (state S.Store self.old) }
+        ensures was_open { HasCleanDisk (state S.Store self.new) → IsTrue (state S.Store self.new).is_open → IsTrue (state S.Store self.old).is_open }
         ensures crash { Survives (state S.Store self.old) (state S.Store self.new) (λ _. ⊥) }
     {
         read_running(&mut self.conn, alloc, after, limit)
@@ -128,6 +134,7 @@ impl<S: Alter> Records<S> {
     pub fn plans_in_use(&mut self, alloc: Global) -> Result<Vec<(Text, Text)>, StoreFault>
         ensures ok { HasCleanDisk (state S.Store self.new) → IfOk result (λ plans. plans.items ≡ plans_in_use (stored (state S.Store self.old))) }
         ensures same { HasCleanDisk (state S.Store self.new) → IsTrue (state S.Store self.new).is_open → stored (state S.Store self.new) ≡ stored (state S.Store self.old) }
+        ensures was_open { HasCleanDisk (state S.Store self.new) → IsTrue (state S.Store self.new).is_open → IsTrue (state S.Store self.old).is_open }
         ensures crash { Survives (state S.Store self.old) (state S.Store self.new) (λ _. ⊥) }
     {
         read_plans(&mut self.conn, alloc)
@@ -137,6 +144,7 @@ impl<S: Alter> Records<S> {
     pub fn view(&mut self, alloc: Global, ask: &Ask) -> Result<View, StoreFault>
         ensures ok { HasCleanDisk (state S.Store self.new) → IfOk result (λ view. facts view ≡ view_of (stored (state S.Store self.old)) ask.now) }
         ensures same { HasCleanDisk (state S.Store self.new) → IsTrue (state S.Store self.new).is_open → stored (state S.Store self.new) ≡ stored (state S.Store self.old) }
+        ensures was_open { HasCleanDisk (state S.Store self.new) → IsTrue (state S.Store self.new).is_open → IsTrue (state S.Store self.old).is_open }
         ensures crash { Survives (state S.Store self.old) (state S.Store self.new) (λ _. ⊥) }
     {
         match ask.instance() {
@@ -153,8 +161,10 @@ impl<S: Alter> Records<S> {
         requires finishes { HasCleanDisk (state S.Store self.old) → IsTrue (state S.Store self.old).is_open → FinishesLast (life_of (stored (state S.Store self.old)) instance.now) change.now }
         ensures ok { HasCleanDisk (state S.Store self.new) → OnOk result (stored (state S.Store self.new) ≡ lives_changed change.now instance.now (stored (state S.Store self.old))) }
         ensures err { HasCleanDisk (state S.Store self.new) → IsTrue (state S.Store self.new).is_open → OnErr result (stored (state S.Store self.new) ≡ stored (state S.Store self.old)) }
-        ensures crash { Survives (state S.Store self.old) (state S.Store self.new) (HoldsLives (lives_changed change.now instance.now (stored (state S.Store self.old)))) }
+        ensures was_open { HasCleanDisk (state S.Store self.new) → IsTrue (state S.Store self.new).is_open → IsTrue (state S.Store self.old).is_open }
+        ensures crash { Survives (state S.Store self.old) (state S.Store self.new) (Commits (state S.Store self.old) (lives_changed change.now instance.now (stored (state S.Store self.old)))) }
         ensures durable { HasCleanDisk (state S.Store self.new) → IsTrue (state S.Store self.new).is_open → OnOk result (LeavesOnly (state S.Store self.new) (stored (state S.Store self.new))) }
+        ensures lasts { HasCleanDisk (state S.Store self.new) → OnOk result ((db : Trees) → (state S.Store self.new).may_leave db → Lasts (state S.Store self.old) change.now instance.now db) }
     {
         match change {
             Change::Nothing => Ok(()),

@@ -378,6 +378,7 @@ pub(crate) fn view_of_instance<S: Alter>(
     ensures ready { IsReady (state S.Store conn.new) }
     ensures ok { HasCleanDisk (state S.Store conn.new) → instance_in ask.now ≡ Some instance.now → IfOk result (λ view. facts view ≡ view_of (stored (state S.Store conn.old)) ask.now) }
     ensures same { HasCleanDisk (state S.Store conn.new) → IsTrue (state S.Store conn.new).is_open → (state S.Store conn.new).now ≡ (state S.Store conn.old).now }
+    ensures was_open { HasCleanDisk (state S.Store conn.new) → IsTrue (state S.Store conn.new).is_open → IsTrue (state S.Store conn.old).is_open }
     ensures crash { Survives (state S.Store conn.old) (state S.Store conn.new) (λ _. ⊥) }
 {
     let mut tx = conn.transaction();
@@ -420,6 +421,7 @@ fn view_of_running<S: Alter>(
     ensures ready { IsReady (state S.Store conn.new) }
     ensures ok { HasCleanDisk (state S.Store conn.new) → IfOk result (λ view. facts view ≡ view_of (stored (state S.Store conn.old)) (asks.Orders orders.now)) }
     ensures same { HasCleanDisk (state S.Store conn.new) → IsTrue (state S.Store conn.new).is_open → (state S.Store conn.new).now ≡ (state S.Store conn.old).now }
+    ensures was_open { HasCleanDisk (state S.Store conn.new) → IsTrue (state S.Store conn.new).is_open → IsTrue (state S.Store conn.old).is_open }
     ensures crash { Survives (state S.Store conn.old) (state S.Store conn.new) (λ _. ⊥) }
 {
     let listing = read_running(conn, alloc, listed_after(orders), LISTED)?;
@@ -436,6 +438,7 @@ pub(crate) fn view_without_instance<S: Alter>(
     ensures ready { IsReady (state S.Store conn.new) }
     ensures ok { HasCleanDisk (state S.Store conn.new) → instance_in ask.now ≡ None → IfOk result (λ view. facts view ≡ view_of (stored (state S.Store conn.old)) ask.now) }
     ensures same { HasCleanDisk (state S.Store conn.new) → IsTrue (state S.Store conn.new).is_open → (state S.Store conn.new).now ≡ (state S.Store conn.old).now }
+    ensures was_open { HasCleanDisk (state S.Store conn.new) → IsTrue (state S.Store conn.new).is_open → IsTrue (state S.Store conn.old).is_open }
     ensures crash { Survives (state S.Store conn.old) (state S.Store conn.new) (λ _. ⊥) }
 {
     match ask {

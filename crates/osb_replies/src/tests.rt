@@ -139,6 +139,15 @@ fn echoes(rt: HostRuntime) {
         &reply,
         b"HTTP/1.1 200 OK\r\nContent-Type: application/json\r\nContent-Length: 2\r\nX-Broker-API-Request-Identity: \r\n\r\n{}",
     );
+    let mut reply = plain(Status::Unauthorized, b"{}");
+    reply.echo = Some(b"r1");
+    reply.close = true;
+    check(
+        &rt,
+        rt.alloc(),
+        &reply,
+        b"HTTP/1.1 401 Unauthorized\r\nContent-Type: application/json\r\nContent-Length: 2\r\nWWW-Authenticate: Basic realm=\"broker\"\r\nX-Broker-API-Request-Identity: r1\r\nConnection: close\r\n\r\n{}",
+    );
 }
 
 #[test]

@@ -297,7 +297,7 @@ const OF_BIND: [Change; 11] = [
     (r#"{"p":1}"#, "[]", "Body"),
 ];
 
-const OF_REPORT: [Change; 19] = [
+const OF_REPORT: [Change; 20] = [
     ("done", "done", r#"Report i 1 succeeded done {"u":1}"#),
     ("succeeded", "failed", r#"Report i 1 failed done {"u":1}"#),
     ("succeeded", "in progress", "Body"),
@@ -315,6 +315,12 @@ const OF_REPORT: [Change; 19] = [
     ("done", "", r#"Report i 1 succeeded  {"u":1}"#),
     ("done", "~~~~", r#"Report i 1 succeeded ~~~~ {"u":1}"#),
     ("done", "~~~~a", "Body"),
+    // Bytes count, and not letters: here are 1,002 of 834.
+    (
+        "done",
+        "~~~€€€€€€€€€€€€€€€€€€€€€€€€€€€€€€€€€€€€€€€€€€€€€€€€€€€€€€€€€€€€€€€€€€€€€€€€€€€€€€€€€€€€",
+        "Body",
+    ),
     ("done", r"a\nb", "Body"),
     ("done", r"\u0085", "Body"),
     (r#""done""#, "1", "Body"),

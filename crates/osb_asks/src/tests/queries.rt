@@ -269,7 +269,7 @@ fn operations_and_after(rt: HostRuntime) -> Result<(), Fail> {
 }
 
 /// Requests with two neighbouring faults: the earlier one is told.
-const NEIGHBOURS: [Case; 13] = [
+const NEIGHBOURS: [Case; 19] = [
     (
         "PUT /v2/service_instances//last_operation/%FF?accepts_incomplete=no",
         "{",
@@ -312,6 +312,11 @@ const NEIGHBOURS: [Case; 13] = [
     ),
     ("DELETE /v2/service_instances/%00?service_id=", "", "Id"),
     (
+        "DELETE /v2/service_instances/%00?accepts_incomplete=no",
+        "",
+        "Id",
+    ),
+    (
         "DELETE /v2/service_instances/i?service_id=no&plan_id=no&accepts_incomplete=no",
         "",
         "Query",
@@ -324,6 +329,31 @@ const NEIGHBOURS: [Case; 13] = [
     (
         "PUT /v2/service_instances/i/service_bindings/b?accepts_incomplete=no",
         r#"{"service_id":"no"}"#,
+        "Query",
+    ),
+    (
+        "PUT /v2/service_instances/i/service_bindings/b",
+        r#"{"service_id":"no","plan_id":"p-sync","parameters":1}"#,
+        "Body",
+    ),
+    (
+        "DELETE /v2/service_instances/i/service_bindings/%00?service_id=&accepts_incomplete=no",
+        "",
+        "Id",
+    ),
+    (
+        "DELETE /v2/service_instances/i/service_bindings/b?service_id=no&plan_id=no&accepts_incomplete=no",
+        "",
+        "Query",
+    ),
+    (
+        "DELETE /v2/service_instances/i/service_bindings/b?service_id=no&plan_id=",
+        "",
+        "Query",
+    ),
+    (
+        "DELETE /v2/service_instances/i?service_id=no&plan_id=",
+        "",
         "Query",
     ),
     ("PUT /backend/v1/orders/i/0", r#"{"state":1}"#, "Id"),

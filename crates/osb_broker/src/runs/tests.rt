@@ -1,11 +1,11 @@
 //! Connections served from memory into memory, and replies that ask for room.
 
 use super::*;
+use crate::fixtures::{built_in, new_broker};
 use crate::rooms::Room;
-use osb_catalog::{BUILT_IN, Settings};
 use osb_frames::Sink;
-use osb_records::open_memory;
 use osb_replies::Status;
+use sqlite::MemStore;
 use std::io;
 use std::test::Fail;
 
@@ -21,13 +21,6 @@ const KNOWN: &[u8] =
 const NO_HEAD: &[u8] =
     b"HTTP/1.1 400 Bad Request\r\nContent-Type: application/json\r\nContent-Length: 44\r\nConnection: close\r\n\r\n{\"description\":\"No request head was found.\"}";
 
-fn built_in(alloc: Global) -> Result<Settings, Fail> {
-    match Settings::read(alloc, BUILT_IN.as_bytes()) {
-        Ok(settings) => Ok(settings),
-        Err(_) => Err("the built-in settings")?,
-    }
-}
-
 fn owned(alloc: Global, connections: &[&[u8]]) -> Result<Vec<Vec<u8>>, Fail> {
     let mut all = Vec::new(alloc);
     for bytes in connections {
@@ -42,7 +35,7 @@ fn owned(alloc: Global, connections: &[&[u8]]) -> Result<Vec<Vec<u8>>, Fail> {
 fn one_connection_after_another(rt: HostRuntime) -> Result<(), Fail> {
     let alloc = rt.alloc();
     let settings = built_in(alloc)?;
-    let mut broker = Broker::new(alloc, &settings, open_memory(alloc)?, 1);
+    let mut broker = new_broker(alloc, &settings, 1)?;
     let connections = owned(alloc, &[PUT_I, b"", PUT_I, b"\r\n"])?;
     let outputs = broker.serve_all(connections.as_slice())?;
     let texts = owned(alloc, &[CREATED, b"", KNOWN, NO_HEAD])?;
@@ -90,7 +83,10 @@ impl<W: Room> Room for Narrow<W> {
 }
 
 /// The status of the answer to the request, and whether its connection closes.
-fn answered<W: Room>(broker: &mut Broker<'_>, room: &mut W) -> Result<(Status, bool), Fail> {
+fn answered<W: Room>(
+    broker: &mut Broker<'_, MemStore>,
+    room: &mut W,
+) -> Result<(Status, bool), Fail> {
     match next(PUT_I, true, &Limits::STANDARD) {
         Step::Whole(request, _) => {
             let reply = broker.answer(&request, false, room);
@@ -104,7 +100,7 @@ fn answered<W: Room>(broker: &mut Broker<'_>, room: &mut W) -> Result<(Status, b
 fn without_room_nothing_is_changed(rt: HostRuntime) -> Result<(), Fail> {
     let alloc = rt.alloc();
     let settings = built_in(alloc)?;
-    let mut broker = Broker::new(alloc, &settings, open_memory(alloc)?, 1);
+    let mut broker = new_broker(alloc, &settings, 1)?;
     let mut room = Narrow {
         inner: Kept::new(Vec::new(alloc)),
         full: true,

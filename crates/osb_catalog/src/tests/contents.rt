@@ -145,7 +145,7 @@ const FULL_PLAN: &str =
     r#""schemas":null,"unread":{},"plan_updateable":false,"metadata":{},"maximum_polling_duration":18446744073709551615,"maintenance_info":{"version":"1.2.0-rc.1+b","unread":1,"description":""},"free":false,"binding_rotatable":false,"bindable":null"#;
 
 const FULL_CATALOG: &str =
-    r#"{"services":[{"allow_context_updates":true,"bindable":true,"bindings_retrievable":true,"description":"Key store","id":"svc","instances_retrievable":false,"metadata":{"x":[true],"y":null},"name":"store","plan_updateable":true,"plans":[{"description":"At once","id":"p-sync","name":"small"},{"description":"Later","free":false,"id":"p-async","maintenance_info":{"description":"","version":"1.2.0-rc.1+b"},"maximum_polling_duration":18446744073709551615,"metadata":{},"name":"large","plan_updateable":false}],"tags":["k\u0001","v"]}]}"#;
+    r#"{"services":[{"allow_context_updates":true,"bindable":true,"bindings_retrievable":true,"description":"Key store","id":"svc","instances_retrievable":false,"metadata":{"x":[true],"y":null},"name":"store","plan_updateable":true,"plans":[{"bindable":false,"description":"At once","id":"p-sync","name":"small"},{"description":"Later","free":false,"id":"p-async","maintenance_info":{"description":"","version":"1.2.0-rc.1+b"},"maximum_polling_duration":18446744073709551615,"metadata":{},"name":"large","plan_updateable":false}],"tags":["k\u0001","v"]}]}"#;
 
 /// The catalog shows the listed fields that the file gives, and no others.
 #[test]
@@ -156,6 +156,12 @@ fn full_catalog(rt: HostRuntime) -> Result<(), Fail> {
         file.as_str(),
         r#""maintenance_info":{"version":"1.2.0"}"#,
         FULL_PLAN,
+    )?;
+    let file = changed(
+        rt.alloc(),
+        file.as_str(),
+        r#""id":"p-sync""#,
+        r#""id":"p-sync","bindable":false"#,
     )?;
     let settings = Settings::read(rt.alloc(), file.as_bytes())?;
     assert!(rt; settings.catalog_text() == FULL_CATALOG.as_bytes());

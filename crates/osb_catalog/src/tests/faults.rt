@@ -132,6 +132,59 @@ fn left_out(rt: HostRuntime) -> Result<(), Fail> {
     tells_faults(&rt, &LEFT_OUT)
 }
 
+const LEFT_OUT_OF_A_SERVICE: [Case; 5] = [
+    (
+        r#""plans":["#,
+        r#""binding_rotatable":true,"plans":["#,
+        "4 LeftOut binding_rotatable",
+    ),
+    (
+        r#""bindable":true"#,
+        r#""dashboard_client":{},"bindable":true"#,
+        "4 LeftOut dashboard_client",
+    ),
+    (
+        r#""name":"store""#,
+        r#""requires":["route_forwarding"],"name":"store""#,
+        "4 LeftOut requires",
+    ),
+    (
+        r#""id":"p-sync""#,
+        r#""binding_rotatable":true,"id":"p-sync""#,
+        "4 LeftOut binding_rotatable",
+    ),
+    (
+        r#""name":"small""#,
+        r#""schemas":{},"name":"small""#,
+        "4 LeftOut schemas",
+    ),
+];
+
+/// One plan after another, and a service with its plans before the next.
+const LEFT_OUT_OF_TWO: [Case; 3] = [
+    (
+        r#""id":"p-sync""#,
+        r#""schemas":{},"id":"p-sync""#,
+        "4 LeftOut schemas",
+    ),
+    (
+        r#""id":"p-async""#,
+        r#""binding_rotatable":true,"id":"p-async""#,
+        "4 LeftOut binding_rotatable",
+    ),
+    (
+        r#"}]}]},"#,
+        r#"}]},{"id":"other","name":"n","description":"d","bindable":true,"dashboard_client":{},"plans":[{"id":"p","name":"n","description":"d"}]}]},"#,
+        "4 LeftOut dashboard_client",
+    ),
+];
+
+#[test]
+fn first_left_out(rt: HostRuntime) -> Result<(), Fail> {
+    tells_first_faults(&rt, &LEFT_OUT_OF_A_SERVICE)?;
+    tells_first_faults(&rt, &LEFT_OUT_OF_TWO)
+}
+
 const VERSIONS: [Case; 6] = [
     (r#""version":"1.2.0""#, r#""version":"1.2""#, "5 Version"),
     (r#""version":"1.2.0""#, r#""version":"""#, "5 Version"),

@@ -660,3 +660,151 @@ const IN_ORDER: [Case; 14] = [
 fn first_missing(rt: HostRuntime) -> Result<(), Fail> {
     tells_first_faults(&rt, &IN_ORDER)
 }
+
+/// The file's own fields; then what the catalog has to have, and the modes after it.
+const IN_ORDER_OF_A_FILE: [Case; 5] = [
+    (
+        r#""catalog":"#,
+        r#""catalog":1,"unread":"#,
+        "2 Missing catalog",
+    ),
+    (r#""modes":"#, r#""modes":1,"unread":"#, "2 Missing modes"),
+    (
+        r#""backend""#,
+        r#""orders_per_instance":0,"backend""#,
+        "2 Missing orders_per_instance",
+    ),
+    (
+        r#""services":"#,
+        r#""services":1,"unread":"#,
+        "2 Missing services",
+    ),
+    (r#""id":"p-async""#, r#""id":1"#, "2 Missing id"),
+];
+
+const IN_ORDER_OF_A_SERVICE: [Case; 9] = [
+    (
+        r#""description":"Key store""#,
+        r#""description":1"#,
+        "2 Missing description",
+    ),
+    (
+        r#""bindable":true"#,
+        r#""bindable":1"#,
+        "2 Missing bindable",
+    ),
+    (r#""plans":"#, r#""plans":1,"unread":"#, "2 Missing plans"),
+    (
+        r#""name":"store""#,
+        r#""tags":1,"name":"store""#,
+        "2 Missing tags",
+    ),
+    (
+        r#""id":"svc""#,
+        r#""metadata":1,"id":"svc""#,
+        "2 Missing metadata",
+    ),
+    (
+        r#""store","#,
+        r#""store","instances_retrievable":1,"#,
+        "2 Missing instances_retrievable",
+    ),
+    (
+        r#""bindings_retrievable":true"#,
+        r#""bindings_retrievable":1"#,
+        "2 Missing bindings_retrievable",
+    ),
+    (
+        r#""plan_updateable":true"#,
+        r#""plan_updateable":1"#,
+        "2 Missing plan_updateable",
+    ),
+    (
+        r#""services":[{"#,
+        r#""services":[{"allow_context_updates":1,"#,
+        "2 Missing allow_context_updates",
+    ),
+];
+
+/// A plan, and the modes after it.
+const IN_ORDER_OF_A_PLAN: [Case; 10] = [
+    (
+        r#""description":"Later""#,
+        r#""description":1"#,
+        "2 Missing description",
+    ),
+    (
+        r#""name":"large""#,
+        r#""metadata":1,"name":"large""#,
+        "2 Missing metadata",
+    ),
+    (r#""large","#, r#""large","free":1,"#, "2 Missing free"),
+    (
+        r#""id":"p-async""#,
+        r#""bindable":1,"id":"p-async""#,
+        "2 Missing bindable",
+    ),
+    (
+        r#""p-async","#,
+        r#""p-async","plan_updateable":1,"#,
+        "2 Missing plan_updateable",
+    ),
+    (
+        r#""maintenance_info""#,
+        r#""maximum_polling_duration":-1,"maintenance_info""#,
+        "2 Missing maximum_polling_duration",
+    ),
+    (
+        r#""version":"1.2.0""#,
+        r#""version":1"#,
+        "2 Missing maintenance_info",
+    ),
+    (
+        r#""instances":"asynchronous""#,
+        r#""instances":1"#,
+        "2 Missing instances",
+    ),
+    (
+        r#""bindings":"asynchronous""#,
+        r#""bindings":1"#,
+        "2 Missing bindings",
+    ),
+    (
+        r#""p-async":{"#,
+        r#""p-async":{"credentials":1,"#,
+        "2 Missing credentials",
+    ),
+];
+
+/// One plan after another, and each with all its fields.
+const IN_ORDER_OF_PLANS: [Case; 2] = [
+    (
+        r#""description":"At once""#,
+        r#""description":1"#,
+        "2 Missing description",
+    ),
+    (r#""name":"large""#, r#""name":1"#, "2 Missing name"),
+];
+
+/// All services, and then their plans.
+const IN_ORDER_OF_SERVICES: [Case; 2] = [
+    (
+        r#""bindings_retrievable":true"#,
+        r#""bindings_retrievable":1"#,
+        "2 Missing bindings_retrievable",
+    ),
+    (
+        r#""services":["#,
+        r#""services":[{"id":"other","name":"n","description":"d","bindable":true,"plans":[{"id":1,"name":"n","description":"d"}]},"#,
+        "2 Missing id",
+    ),
+];
+
+#[test]
+fn first_of_each_table(rt: HostRuntime) -> Result<(), Fail> {
+    tells_first_faults(&rt, &IN_ORDER_OF_A_FILE)?;
+    tells_first_faults(&rt, &IN_ORDER_OF_A_SERVICE)?;
+    tells_first_faults(&rt, &IN_ORDER_OF_A_PLAN)?;
+    tells_first_faults(&rt, &IN_ORDER_OF_PLANS)?;
+    tells_first_faults(&rt, &IN_ORDER_OF_SERVICES)
+}

@@ -1,12 +1,14 @@
 //! Connections over a socket, with the client and the program in one thread.
 
+ghost use Rattle.std.specs.Prelude.{◌≤◌};
+
 use super::*;
-use crate::fault::Fault;
 use crate::listen::{serve_listener, serve_stream};
-use osb_broker::{Broker, Buffer};
+use osb_broker::{Broker, Buffer, memory};
 use osb_catalog::{BUILT_IN, Settings};
 use osb_frames::Limits;
 use osb_records::open_memory;
+use sqlite::MemStore;
 use std::net::{Shutdown, TcpListener, TcpStream};
 use std::time::Duration;
 
@@ -20,6 +22,17 @@ fn built_in(alloc: Global) -> Result<Settings, Fail> {
     match Settings::read(alloc, BUILT_IN.as_bytes()) {
         Ok(settings) => Ok(settings),
         Err(_) => Err("the built-in settings")?,
+    }
+}
+
+/// A broker over an empty database, which takes so many requests of a connection.
+fn over_memory(alloc: Global, settings: &Settings, most: u32) -> Result<Broker<'_, MemStore>, Fail>
+    requires some { 1 ≤ most }
+    requires few { most ≤ 1000 }
+{
+    match memory::new(alloc, settings, open_memory(alloc)?, most) {
+        Ok(broker) => Ok(broker),
+        Err(_) => Err("a broker over an empty database")?,
     }
 }
 
@@ -37,7 +50,7 @@ fn connected(rt: &HostRuntime, bytes: &[u8]) -> io::Result<(TcpStream, TcpStream
 fn told(rt: &HostRuntime, stream: &TcpStream) -> Result<Vec<u8>, Fail> {
     let alloc = rt.alloc();
     let settings = built_in(alloc)?;
-    let mut broker = Broker::new(alloc, &settings, open_memory(alloc)?, 2);
+    let mut broker = over_memory(alloc, &settings, 2)?;
     let mut buffer = Buffer::new(alloc, &Limits::STANDARD)?;
     let mut errors = Counted::new(Vec::new(alloc));
     serve_stream(&mut broker, &mut buffer, stream, &mut errors);
@@ -79,7 +92,7 @@ fn a_write_that_fails_is_told(rt: HostRuntime) -> Result<(), Fail> {
 fn no_connection_can_be_accepted(rt: HostRuntime) -> Result<(), Fail> {
     let alloc = rt.alloc();
     let settings = built_in(alloc)?;
-    let mut broker = Broker::new(alloc, &settings, open_memory(alloc)?, 1);
+    let mut broker = over_memory(alloc, &settings, 1)?;
     let mut buffer = Buffer::new(alloc, &Limits::STANDARD)?;
     let mut errors = Counted::new(Vec::new(alloc));
     // A listener that doesn't wait has nobody to accept.

@@ -21,6 +21,11 @@ pub(crate) const ASK_CREATE: &str = "GET /v2/service_instances/n/last_operation?
 
 pub(crate) const ASK_DELETE: &str = "GET /v2/service_instances/n/last_operation?operation=delete-2";
 
+pub(crate) const ASK_WRONG_KIND: &str =
+    "GET /v2/service_instances/n/last_operation?operation=update-1";
+
+pub(crate) const ASK_NO_NAME: &str = "GET /v2/service_instances/n/last_operation?operation=";
+
 pub(crate) const ASK_OTHER: &str = "GET /v2/service_instances/n/last_operation?operation=bind-1";
 
 pub(crate) const BIND_C: &str =
@@ -88,11 +93,22 @@ pub(crate) const THIS_VERSION: &str =
 pub(crate) const OLD_VERSION: &str =
     r#"{"service_id":"svc","plan_id":"p-async","organization_guid":"o","space_guid":"s","maintenance_info":{"version":"1.1.0"}}"#;
 
+pub(crate) const SMALL_WITH_VERSION: &str =
+    r#"{"service_id":"svc","plan_id":"p-sync","organization_guid":"o","space_guid":"s","maintenance_info":{"version":"1.2.0"}}"#;
+
+pub(crate) const SMALL_WITH_NO_VERSION: &str =
+    r#"{"service_id":"svc","plan_id":"p-sync","organization_guid":"o","space_guid":"s","maintenance_info":{"version":""}}"#;
+
+pub(crate) const OTHER_CONTEXT: &str =
+    r#"{"service_id":"svc","plan_id":"p-async","organization_guid":"o","space_guid":"s","context":{"n":1}}"#;
+
 pub(crate) const ONE: &str = r#"{"service_id":"svc","parameters":{"n":1}}"#;
 
 pub(crate) const TWO: &str = r#"{"service_id":"svc","parameters":{"n":2}}"#;
 
 pub(crate) const NOTHING: &str = r#"{"service_id":"svc"}"#;
+
+pub(crate) const CONTEXT: &str = r#"{"service_id":"svc","context":{"n":1}}"#;
 
 pub(crate) const UPDATE_TO_THIS: &str =
     r#"{"service_id":"svc","maintenance_info":{"version":"1.2.0"}}"#;
@@ -104,6 +120,9 @@ pub(crate) const BINDING: &str = r#"{"service_id":"svc","plan_id":"p-async"}"#;
 
 pub(crate) const OTHER_BINDING: &str =
     r#"{"service_id":"svc","plan_id":"p-async","parameters":{"n":1}}"#;
+
+pub(crate) const BINDING_WITH_CONTEXT: &str =
+    r#"{"service_id":"svc","plan_id":"p-async","context":{"n":1}}"#;
 
 pub(crate) const OTHER_APP: &str = r#"{"service_id":"svc","plan_id":"p-async","app_guid":"x"}"#;
 
@@ -121,6 +140,9 @@ pub(crate) const KEY: &str = r#"{"state":"succeeded","credentials":{"k":"v"}}"#;
 pub(crate) const TOLD: &str = r#"{"state":"succeeded","description":"done"}"#;
 
 pub(crate) const FAILED_TOLD: &str = r#"{"state":"failed","description":"no disk"}"#;
+
+pub(crate) const FAILED_WITH_KEY: &str =
+    r#"{"state":"failed","description":"no disk","credentials":{"k":"v"}}"#;
 
 pub(crate) const FAILED_SHOWN: &str = r#"{"description":"no disk","state":"failed"}"#;
 

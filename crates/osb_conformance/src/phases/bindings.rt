@@ -60,9 +60,10 @@ const BOUND: [Exchange; 4] = [
     (END_2, KEY, OK, "{}"),
 ];
 
-const IN_BOUND: [Exchange; 29] = [
+const IN_BOUND: [Exchange; 30] = [
     (BIND_C, BINDING, OK, KEY_SHOWN),
     (BIND_C_NOW, BINDING, OK, KEY_SHOWN),
+    (BIND_C, BINDING_WITH_CONTEXT, OK, KEY_SHOWN),
     (BIND_C, OTHER_BINDING, CONFLICT, "{}"),
     (BIND_C, OTHER_APP, CONFLICT, "{}"),
     (BIND_C, OTHER_RESOURCE, CONFLICT, "{}"),
@@ -141,7 +142,7 @@ const BIND_FAILED: [Exchange; 4] = [
     (END_2, FAILED_TOLD, OK, "{}"),
 ];
 
-const IN_BIND_FAILED: [Exchange; 17] = [
+const IN_BIND_FAILED: [Exchange; 18] = [
     (BIND_C, BINDING, CONFLICT, "{}"),
     (BIND_C, OTHER_BINDING, CONFLICT, "{}"),
     (BIND_C_NOW, BINDING, CONFLICT, "{}"),
@@ -157,6 +158,8 @@ const IN_BIND_FAILED: [Exchange; 17] = [
     (UPDATE, ONE, ACCEPTED, r#"{"operation":"update-3"}"#),
     (REMOVE, "", UNPROCESSABLE, BINDINGS_REMAIN),
     (END_2, FAILED_TOLD, OK, "{}"),
+    // Credentials count for a binding that succeeded alone.
+    (END_2, FAILED_WITH_KEY, OK, "{}"),
     (END_2, KEY, CONFLICT, "{}"),
     (LIST, "", OK, NO_ORDERS),
 ];
@@ -244,7 +247,7 @@ const UNBOUND: [Exchange; 6] = [
     (END_3, SUCCEEDED, OK, "{}"),
 ];
 
-const IN_UNBOUND: [Exchange; 11] = [
+const IN_UNBOUND: [Exchange; 12] = [
     (BIND_C, BINDING, ACCEPTED, r#"{"operation":"bind-4"}"#),
     (BIND_C, OTHER_PLAN, BAD, MISMATCH),
     (FETCH_C, "", NOT_FOUND, "{}"),
@@ -254,6 +257,7 @@ const IN_UNBOUND: [Exchange; 11] = [
     (ASK_C_BIND, "", OK, SUCCEEDED),
     (REMOVE, "", ACCEPTED, r#"{"operation":"delete-4"}"#),
     (END_3, SUCCEEDED, OK, "{}"),
+    (END_3, KEY, OK, "{}"),
     (END_3, FAILED, CONFLICT, "{}"),
     (LIST, "", OK, NO_ORDERS),
 ];

@@ -6,13 +6,16 @@ use crate::exchange::Exchange;
 use crate::replies::*;
 use std::test::Fail;
 
-const IN_ABSENT: [Exchange; 21] = [
+const IN_ABSENT: [Exchange; 23] = [
     (MAKE, LARGE, ACCEPTED, CREATE_1),
     (MAKE, THIS_VERSION, ACCEPTED, CREATE_1),
     (MAKE_NOW, LARGE, UNPROCESSABLE, ASYNC_REQUIRED),
     (MAKE_NOW, SMALL, CREATED, "{}"),
     (MAKE, SMALL, CREATED, "{}"),
     (MAKE, OLD_VERSION, UNPROCESSABLE, OTHER_VERSION),
+    // The version is compared with that of the plan, which has none.
+    (MAKE, SMALL_WITH_VERSION, UNPROCESSABLE, OTHER_VERSION),
+    (MAKE, SMALL_WITH_NO_VERSION, CREATED, "{}"),
     (FETCH, "", NOT_FOUND, "{}"),
     (UPDATE, ONE, NOT_FOUND, "{}"),
     (UPDATE, NOTHING, NOT_FOUND, "{}"),
@@ -82,10 +85,13 @@ const READY: [Exchange; 2] = [
     (END_1, SUCCEEDED, OK, "{}"),
 ];
 
-const IN_READY: [Exchange; 34] = [
+const IN_READY: [Exchange; 38] = [
     (MAKE, LARGE, OK, "{}"),
     (MAKE_NOW, LARGE, OK, "{}"),
     (MAKE, THIS_VERSION, OK, "{}"),
+    // Contexts don't count.
+    (MAKE, OTHER_CONTEXT, OK, "{}"),
+    (UPDATE_NOW, CONTEXT, OK, "{}"),
     (MAKE, OTHER_SPACE, CONFLICT, "{}"),
     (MAKE, OTHER_ORGANIZATION, CONFLICT, "{}"),
     (MAKE, OTHER_PARAMETERS, CONFLICT, "{}"),
@@ -104,6 +110,8 @@ const IN_READY: [Exchange; 34] = [
     (ASK, "", OK, SUCCEEDED),
     (ASK_CREATE, "", OK, SUCCEEDED),
     (ASK_OTHER, "", BAD, NO_SUCH_OPERATION),
+    (ASK_WRONG_KIND, "", BAD, NO_SUCH_OPERATION),
+    (ASK_NO_NAME, "", BAD, NO_SUCH_OPERATION),
     (BIND_C, BINDING, ACCEPTED, BIND_2),
     (BIND_C, OTHER_APP, ACCEPTED, BIND_2),
     (BIND_C_NOW, BINDING, UNPROCESSABLE, ASYNC_REQUIRED),

@@ -1,10 +1,12 @@
-//! Rules that need other settings: a life that is full, another service, and plans that allow less.
+//! Rules that need other settings: a life that is full, another service or version, and plans that
+//! allow less.
 
 use super::asks::*;
 use super::in_phase;
-use crate::catalogs::settings_with;
+use crate::catalogs::{built_in, settings_with};
 use crate::exchange::Exchange;
 use crate::replies::*;
+use crate::serving::{broker_over, goes_on, goes_over, new_broker};
 use std::test::Fail;
 
 const MADE: [Exchange; 2] = [
@@ -82,8 +84,16 @@ const BINDING_OF_OTHER: &str = r#"{"service_id":"other","plan_id":"p-other"}"#;
 const INSTANCE_OF_OTHER: &str =
     r#"{"service_id":"other","plan_id":"p-other","organization_guid":"o","space_guid":"s"}"#;
 
-const IN_READY: [Exchange; 3] = [
+const OTHER_AND_VERSION: &str = r#"{"service_id":"other","maintenance_info":{"version":"9.0.0"}}"#;
+
+const REMOVE_OTHER: &str =
+    "DELETE /v2/service_instances/n?service_id=other&plan_id=p-other&accepts_incomplete=true";
+
+const IN_READY: [Exchange; 5] = [
     (UPDATE, UPDATE_OF_OTHER, BAD, MISMATCH),
+    (UPDATE, OTHER_AND_VERSION, BAD, MISMATCH),
+    // What a deletion names has to be in the catalog, and isn't compared.
+    (REMOVE_OTHER, "", ACCEPTED, DELETE_2),
     (BIND_C, BINDING_OF_OTHER, BAD, MISMATCH),
     (MAKE, INSTANCE_OF_OTHER, CONFLICT, "{}"),
 ];
@@ -99,13 +109,41 @@ const IN_UPDATING: [Exchange; 2] = [
     (BIND_C, BINDING_OF_OTHER, UNPROCESSABLE, BUSY),
 ];
 
+const CREATING: [Exchange; 1] = [(MAKE, LARGE, ACCEPTED, CREATE_1)];
+
+const DELETING: [Exchange; 3] = [
+    (MAKE, LARGE, ACCEPTED, CREATE_1),
+    (END_1, SUCCEEDED, OK, "{}"),
+    (REMOVE, "", ACCEPTED, DELETE_2),
+];
+
+/// That of another service waits for what is begun, and is told apart only then.
+const IN_CREATING_OR_DELETING: [Exchange; 2] = [
+    (UPDATE, UPDATE_OF_OTHER, UNPROCESSABLE, BUSY),
+    (BIND_C, BINDING_OF_OTHER, UNPROCESSABLE, BUSY),
+];
+
+const CREATION_FAILED: [Exchange; 2] = [
+    (MAKE, LARGE, ACCEPTED, CREATE_1),
+    (END_1, FAILED, OK, "{}"),
+];
+
+const IN_ABSENT_OR_FAILED: [Exchange; 2] = [
+    (UPDATE, UPDATE_OF_OTHER, NOT_FOUND, "{}"),
+    (BIND_C, BINDING_OF_OTHER, NOT_FOUND, "{}"),
+];
+
 #[test]
 fn another_service(rt: HostRuntime) -> Result<(), Fail> {
     let alloc = rt.alloc();
     let services = format!(in alloc; "\"services\":[{OTHER_SERVICE},")?;
     let settings = settings_with(alloc, "\"services\":[", services.as_str())?;
     in_phase(alloc, &settings, &MADE, &IN_READY)?;
-    in_phase(alloc, &settings, &UPDATING, &IN_UPDATING)
+    in_phase(alloc, &settings, &UPDATING, &IN_UPDATING)?;
+    in_phase(alloc, &settings, &CREATING, &IN_CREATING_OR_DELETING)?;
+    in_phase(alloc, &settings, &DELETING, &IN_CREATING_OR_DELETING)?;
+    in_phase(alloc, &settings, &CREATION_FAILED, &IN_ABSENT_OR_FAILED)?;
+    in_phase(alloc, &settings, &[], &IN_ABSENT_OR_FAILED)
 }
 
 const IN_FIXED: [Exchange; 4] = [
@@ -117,6 +155,12 @@ const IN_FIXED: [Exchange; 4] = [
 
 const IN_FIXED_AND_UPDATING: [Exchange; 1] = [(UPDATE, OTHER_PLAN, UNPROCESSABLE, BUSY)];
 
+const BINDING_RUNS: [Exchange; 3] = [
+    (MAKE, LARGE, ACCEPTED, CREATE_1),
+    (END_1, SUCCEEDED, OK, "{}"),
+    (BIND_C, BINDING, ACCEPTED, BIND_2),
+];
+
 #[test]
 fn a_plan_that_stays(rt: HostRuntime) -> Result<(), Fail> {
     let alloc = rt.alloc();
@@ -126,7 +170,8 @@ fn a_plan_that_stays(rt: HostRuntime) -> Result<(), Fail> {
         "\"id\":\"p-async\",\"plan_updateable\":false,",
     )?;
     in_phase(alloc, &settings, &MADE, &IN_FIXED)?;
-    in_phase(alloc, &settings, &UPDATING, &IN_FIXED_AND_UPDATING)
+    in_phase(alloc, &settings, &UPDATING, &IN_FIXED_AND_UPDATING)?;
+    in_phase(alloc, &settings, &BINDING_RUNS, &IN_FIXED_AND_UPDATING)
 }
 
 const IN_UNBINDABLE: [Exchange; 4] = [
@@ -189,7 +234,79 @@ const IN_BOUND_AT_ONCE: [Exchange; 4] = [
 
 #[test]
 fn at_once(rt: HostRuntime) -> Result<(), Fail> {
-    let settings = crate::catalogs::built_in(rt.alloc())?;
+    let settings = built_in(rt.alloc())?;
     in_phase(rt.alloc(), &settings, &MADE_AT_ONCE, &IN_MADE_AT_ONCE)?;
     in_phase(rt.alloc(), &settings, &BOUND_AT_ONCE, &IN_BOUND_AT_ONCE)
+}
+
+/// Only what is done to the instance itself takes its time.
+const BINDINGS_AT_ONCE: [Exchange; 6] = [
+    (MAKE, LARGE, ACCEPTED, CREATE_1),
+    (END_1, SUCCEEDED, OK, "{}"),
+    (BIND_C_NOW, BINDING, CREATED, r#"{"credentials":{}}"#),
+    (UPDATE_NOW, ONE, UNPROCESSABLE, ASYNC_REQUIRED),
+    (UNBIND_C_NOW, "", OK, "{}"),
+    (REMOVE_NOW, "", UNPROCESSABLE, ASYNC_REQUIRED),
+];
+
+/// Only what is done to its bindings does.
+const INSTANCES_AT_ONCE: [Exchange; 8] = [
+    (MAKE_NOW, LARGE, CREATED, "{}"),
+    (BIND_C_NOW, BINDING, UNPROCESSABLE, ASYNC_REQUIRED),
+    (BIND_C, BINDING, ACCEPTED, BIND_2),
+    (END_2, KEY, OK, "{}"),
+    (UPDATE_NOW, ONE, OK, "{}"),
+    (UNBIND_C_NOW, "", UNPROCESSABLE, ASYNC_REQUIRED),
+    (BIND_D, BINDING, ACCEPTED, r#"{"operation":"bind-4"}"#),
+    (REMOVE_NOW, "", UNPROCESSABLE, BUSY),
+];
+
+#[test]
+fn modes_of_bindings_and_of_instances(rt: HostRuntime) -> Result<(), Fail> {
+    let settings = settings_with(rt.alloc(), ",\"bindings\":\"asynchronous\"", "")?;
+    goes_over(rt.alloc(), &settings, &BINDINGS_AT_ONCE)?;
+    let settings = settings_with(rt.alloc(), "\"instances\":\"asynchronous\",", "")?;
+    goes_over(rt.alloc(), &settings, &INSTANCES_AT_ONCE)
+}
+
+const UPDATE_TO_NEW: &str = r#"{"service_id":"svc","maintenance_info":{"version":"1.3.0"}}"#;
+
+/// What stands under another version of its plan: without a version an update keeps the old one.
+const IN_NEW_CATALOG: [Exchange; 10] = [
+    (MAKE, LARGE, OK, "{}"),
+    (MAKE, THIS_VERSION, UNPROCESSABLE, OTHER_VERSION),
+    (UPDATE_NOW, NOTHING, OK, "{}"),
+    (UPDATE_NOW, UPDATE_TO_THIS, UNPROCESSABLE, OTHER_VERSION),
+    (UPDATE, ONE, ACCEPTED, UPDATE_2),
+    (
+        LIST,
+        "",
+        OK,
+        r#"{"orders":[{"instance_id":"n","kind":"update","maintenance_version":"1.2.0","organization_guid":"o","parameters":{"n":1},"plan_id":"p-async","seq":2,"service_id":"svc","space_guid":"s"}]}"#,
+    ),
+    (END_2, SUCCEEDED, OK, "{}"),
+    (
+        UPDATE,
+        UPDATE_TO_NEW,
+        ACCEPTED,
+        r#"{"operation":"update-3"}"#,
+    ),
+    (
+        LIST,
+        "",
+        OK,
+        r#"{"orders":[{"instance_id":"n","kind":"update","maintenance_version":"1.3.0","organization_guid":"o","parameters":{"n":1},"plan_id":"p-async","seq":3,"service_id":"svc","space_guid":"s"}]}"#,
+    ),
+    (UPDATE, NOTHING, UNPROCESSABLE, BUSY),
+];
+
+#[test]
+fn another_version_in_the_catalog(rt: HostRuntime) -> Result<(), Fail> {
+    let alloc = rt.alloc();
+    let old = built_in(alloc)?;
+    let mut broker = new_broker(alloc, &old, 1)?;
+    goes_on(alloc, &mut broker, &MADE)?;
+    let new = settings_with(alloc, "1.2.0", "1.3.0")?;
+    let mut broker = broker_over(alloc, &new, broker.into_records(), 1)?;
+    goes_on(alloc, &mut broker, &IN_NEW_CATALOG)
 }

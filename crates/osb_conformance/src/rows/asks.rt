@@ -41,6 +41,8 @@ pub(crate) const REPORT_2: &str = "PUT /backend/v1/orders/i/2";
 
 pub(crate) const REPORT_3: &str = "PUT /backend/v1/orders/i/3";
 
+pub(crate) const REPORT_4: &str = "PUT /backend/v1/orders/i/4";
+
 pub(crate) const SYNC: &str =
     r#"{"service_id":"svc","plan_id":"p-sync","organization_guid":"o","space_guid":"s"}"#;
 
@@ -60,6 +62,8 @@ pub(crate) const UPDATE_TO_2: &str = r#"{"service_id":"svc","parameters":{"n":2}
 pub(crate) const TO_ASYNC: &str = r#"{"service_id":"svc","plan_id":"p-async"}"#;
 
 pub(crate) const TO_SYNC: &str = r#"{"service_id":"svc","plan_id":"p-sync"}"#;
+
+pub(crate) const MEMORY_1: &str = r#"{"credentials":{"uri":"mem:1"}}"#;
 
 pub(crate) const CREATE_1: &str = r#"{"operation":"create-1"}"#;
 

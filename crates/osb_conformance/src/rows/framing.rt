@@ -184,3 +184,23 @@ fn host_close_identity(rt: HostRuntime) -> Result<(), Fail> {
     let named = catalog_with(alloc, "x-broker-api-request-identity: r1\r\n", "")?;
     answers(alloc, 1, named.as_slice(), NAMED_CATALOG_LAST)
 }
+
+const NAMED_TWICE: &str =
+    "X-Broker-API-Request-Identity: r1\r\nX-Broker-API-Request-Identity: r2\r\n";
+
+const NAMED_FAULTY: &str = "X-Broker-API-Request-Identity: r1\r\nContent-Length: x\r\n";
+
+const NAMED_EMPTY: &[u8] = b"GET /v1 HTTP/1.1\r\nHost: b\r\nX-Broker-API-Request-Identity:\r\n\r\n";
+
+const EMPTY_NAME: &[u8] =
+    b"HTTP/1.1 404 Not Found\r\nContent-Type: application/json\r\nContent-Length: 2\r\nX-Broker-API-Request-Identity: \r\nConnection: close\r\n\r\n{}";
+
+/// The first identity is repeated, also an empty one, and none with a fault of the framing.
+#[test]
+fn identities(rt: HostRuntime) -> Result<(), Fail> {
+    let alloc = rt.alloc();
+    let twice = catalog_with(alloc, NAMED_TWICE, "")?;
+    answers(alloc, 1, twice.as_slice(), NAMED_CATALOG_LAST)?;
+    answers(alloc, 1, NAMED_EMPTY, EMPTY_NAME)?;
+    with_lines(alloc, NAMED_FAULTY, "", BAD_LENGTH)
+}

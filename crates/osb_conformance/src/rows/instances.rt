@@ -251,6 +251,104 @@ fn plan_changed(rt: HostRuntime) -> Result<(), Fail> {
     goes(rt.alloc(), &PLAN_CHANGED)
 }
 
+const SYNC_WITH_2: &str =
+    r#"{"service_id":"svc","plan_id":"p-sync","organization_guid":"o","space_guid":"s","parameters":{"n":2}}"#;
+
+/// The last update counts, and all that follows goes by it.
+pub(crate) const UPDATED_TWICE: [Exchange; 11] = [
+    (PUT, SYNC, CREATED, "{}"),
+    (PATCH, UPDATE_TO_1, OK, "{}"),
+    (PATCH, UPDATE_TO_2, OK, "{}"),
+    (
+        GET,
+        "",
+        OK,
+        r#"{"parameters":{"n":2},"plan_id":"p-sync","service_id":"svc"}"#,
+    ),
+    (PUT, SYNC, CONFLICT, "{}"),
+    (PUT, SYNC_WITH_2, OK, "{}"),
+    // A plan alone leaves the parameters.
+    (PATCH, TO_ASYNC, OK, "{}"),
+    (
+        GET,
+        "",
+        OK,
+        r#"{"parameters":{"n":2},"plan_id":"p-async","service_id":"svc"}"#,
+    ),
+    (PATCH, TO_SYNC, UNPROCESSABLE, ASYNC_REQUIRED),
+    (DELETE_LATER, "", ACCEPTED, r#"{"operation":"delete-5"}"#),
+    (
+        ORDERS,
+        "",
+        OK,
+        r#"{"orders":[{"instance_id":"i","kind":"delete","maintenance_version":"1.2.0","organization_guid":"o","parameters":{"n":2},"plan_id":"p-async","seq":5,"service_id":"svc","space_guid":"s"}]}"#,
+    ),
+];
+
+#[test]
+fn updated_twice(rt: HostRuntime) -> Result<(), Fail> {
+    goes(rt.alloc(), &UPDATED_TWICE)
+}
+
+/// The second instance of that id has nothing of the first, whose orders can still be polled.
+pub(crate) const MADE_AGAIN: [Exchange; 14] = [
+    (PUT, SYNC, CREATED, "{}"),
+    (PATCH, UPDATE_TO_1, OK, "{}"),
+    (BIND, TO_SYNC, CREATED, MEMORY_1),
+    (UNBIND, "", OK, "{}"),
+    (DELETE, "", OK, "{}"),
+    (PUT, SYNC, CREATED, "{}"),
+    (
+        GET,
+        "",
+        OK,
+        r#"{"parameters":{},"plan_id":"p-sync","service_id":"svc"}"#,
+    ),
+    (GET_BINDING, "", NOT_FOUND, "{}"),
+    (
+        "GET /v2/service_instances/i/last_operation?operation=update-2",
+        "",
+        OK,
+        SUCCEEDED,
+    ),
+    (
+        "GET /v2/service_instances/i/last_operation?operation=delete-5",
+        "",
+        GONE,
+        "{}",
+    ),
+    (POLL, "", OK, SUCCEEDED),
+    (POLL_BINDING, "", GONE, "{}"),
+    (PATCH, UPDATE_TO_1, OK, "{}"),
+    (DELETE, "", OK, "{}"),
+];
+
+#[test]
+fn made_again(rt: HostRuntime) -> Result<(), Fail> {
+    goes(rt.alloc(), &MADE_AGAIN)
+}
+
+const DESCRIBED: [Exchange; 3] = [
+    (PUT_LATER, ASYNC, ACCEPTED, CREATE_1),
+    (
+        REPORT_1,
+        r#"{"state":"failed","description":"no \"disk\" \\ \u00e9"}"#,
+        OK,
+        "{}",
+    ),
+    (
+        POLL,
+        "",
+        OK,
+        "{\"description\":\"no \\\"disk\\\" \\\\ \u{E9}\",\"state\":\"failed\"}",
+    ),
+];
+
+#[test]
+fn a_description_is_quoted(rt: HostRuntime) -> Result<(), Fail> {
+    goes(rt.alloc(), &DESCRIBED)
+}
+
 const ORDER_LIMIT: [Exchange; 4] = [
     (PUT, SYNC, CREATED, "{}"),
     (PATCH, UPDATE_TO_1, UNPROCESSABLE, FULL),

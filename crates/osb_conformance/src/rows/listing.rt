@@ -1,10 +1,10 @@
 //! More running orders than one listing has.
 
-use super::asks::ASYNC;
+use super::asks::{ASYNC, CREATE_1};
 use crate::catalogs::built_in;
-use crate::exchange::{last_reply, request};
-use osb_broker::Broker;
-use osb_records::open_memory;
+use crate::exchange::{Exchange, last_reply, request};
+use crate::replies::*;
+use crate::serving::{goes, new_broker};
 use std::alloc::Global;
 use std::test::Fail;
 
@@ -50,7 +50,7 @@ fn a_hundred_orders_and_one(rt: HostRuntime) -> Result<(), Fail> {
     let alloc = rt.alloc();
     let settings = built_in(alloc)?;
     let connections = requests(alloc)?;
-    let mut broker = Broker::new(alloc, &settings, open_memory(alloc)?, 1);
+    let mut broker = new_broker(alloc, &settings, 1)?;
     let outputs = broker.serve_all(connections.as_slice())?;
     let [.., first, second] = outputs.as_slice() else {
         return Err("no outputs")?;
@@ -58,4 +58,55 @@ fn a_hundred_orders_and_one(rt: HostRuntime) -> Result<(), Fail> {
     assert!(rt; first.as_slice() == listing(alloc, 0, 100)?.as_slice());
     assert!(rt; second.as_slice() == listing(alloc, 100, 101)?.as_slice());
     Ok(())
+}
+
+/// Instances are listed by the bytes of their ids, whichever came first.
+const OUT_OF_ORDER: [Exchange; 7] = [
+    (
+        "PUT /v2/service_instances/z?accepts_incomplete=true",
+        ASYNC,
+        ACCEPTED,
+        CREATE_1,
+    ),
+    (
+        "PUT /v2/service_instances/a?accepts_incomplete=true",
+        ASYNC,
+        ACCEPTED,
+        CREATE_1,
+    ),
+    (
+        "PUT /v2/service_instances/a0?accepts_incomplete=true",
+        ASYNC,
+        ACCEPTED,
+        CREATE_1,
+    ),
+    (
+        "PUT /v2/service_instances/Z?accepts_incomplete=true",
+        ASYNC,
+        ACCEPTED,
+        CREATE_1,
+    ),
+    (
+        "PUT /v2/service_instances/q%22?accepts_incomplete=true",
+        ASYNC,
+        ACCEPTED,
+        CREATE_1,
+    ),
+    (
+        "GET /backend/v1/orders",
+        "",
+        OK,
+        r#"{"orders":[{"instance_id":"Z","kind":"create","maintenance_version":"1.2.0","organization_guid":"o","parameters":{},"plan_id":"p-async","seq":1,"service_id":"svc","space_guid":"s"},{"instance_id":"a","kind":"create","maintenance_version":"1.2.0","organization_guid":"o","parameters":{},"plan_id":"p-async","seq":1,"service_id":"svc","space_guid":"s"},{"instance_id":"a0","kind":"create","maintenance_version":"1.2.0","organization_guid":"o","parameters":{},"plan_id":"p-async","seq":1,"service_id":"svc","space_guid":"s"},{"instance_id":"q\"","kind":"create","maintenance_version":"1.2.0","organization_guid":"o","parameters":{},"plan_id":"p-async","seq":1,"service_id":"svc","space_guid":"s"},{"instance_id":"z","kind":"create","maintenance_version":"1.2.0","organization_guid":"o","parameters":{},"plan_id":"p-async","seq":1,"service_id":"svc","space_guid":"s"}]}"#,
+    ),
+    (
+        "GET /backend/v1/orders?after=a0",
+        "",
+        OK,
+        r#"{"orders":[{"instance_id":"q\"","kind":"create","maintenance_version":"1.2.0","organization_guid":"o","parameters":{},"plan_id":"p-async","seq":1,"service_id":"svc","space_guid":"s"},{"instance_id":"z","kind":"create","maintenance_version":"1.2.0","organization_guid":"o","parameters":{},"plan_id":"p-async","seq":1,"service_id":"svc","space_guid":"s"}]}"#,
+    ),
+];
+
+#[test]
+fn by_the_bytes_of_ids(rt: HostRuntime) -> Result<(), Fail> {
+    goes(rt.alloc(), &OUT_OF_ORDER)
 }

@@ -4,10 +4,11 @@ ghost use Rattle.std.specs.Prelude.{◌≤◌};
 
 use super::framing::{CREATED, CREATED_LAST, NO_HEAD, PUT_I};
 use crate::catalogs::built_in;
-use crate::serving::joined;
+use crate::serving::{joined, new_broker};
 use osb_broker::{Broker, Buffer, ServeFault};
 use osb_frames::{Counted, Limits};
-use osb_records::{memory, open_memory};
+use osb_records::memory;
+use sqlite::MemStore;
 use std::alloc::Global;
 use std::io::{self, Read, Write};
 use std::test::Fail;
@@ -64,7 +65,7 @@ struct Left {
 }
 
 /// How many orders the instance `i` has.
-fn orders_of(alloc: Global, broker: Broker<'_>) -> Result<usize, Fail> {
+fn orders_of(alloc: Global, broker: Broker<'_, MemStore>) -> Result<usize, Fail> {
     let mut records = broker.into_records();
     let life = memory::life(&mut records, alloc, "i")?;
     Ok(life.len())
@@ -82,7 +83,7 @@ fn leaves(
     requires few { per_connection ≤ 1000 }
 {
     let settings = built_in(alloc)?;
-    let mut broker = Broker::new(alloc, &settings, open_memory(alloc)?, per_connection);
+    let mut broker = new_broker(alloc, &settings, per_connection)?;
     let mut buffer = Buffer::new(alloc, &Limits::STANDARD)?;
     let mut source = Counted::new(Failing { bytes });
     let taken = Vec::new(alloc);

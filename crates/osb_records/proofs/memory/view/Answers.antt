@@ -12,4 +12,4 @@ returns-clause-same c = c.view.ensures.same (memory_is_clean c.view.new.self) re
 pub returns-clause-whole : goal.returns-clause-whole
 returns-clause-whole c =
     let same = c.view.ensures.same (memory_is_clean c.view.new.self) refl in
-    subst IsLives (sym same) (c.are_whole.ensures (memory_is_clean c.args.records.now) refl)
+    subst IsLives (sym same) (c.are_whole.ensures.whole (memory_is_clean c.args.records.now) refl)

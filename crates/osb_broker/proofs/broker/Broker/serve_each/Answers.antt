@@ -2,29 +2,30 @@ use Rattle.std.proofs.Common.{◌+◌, ◌≤◌, [], ◌∷◌, length, vec_ite
 use Rattle.std.proofs.lemmas.List.{length-append}
 use Rattle.osb_broker.specs.Room.{IsBlank}
 use Rattle.osb_broker.specs.Steps.{crowded}
-use Rattle.osb_broker.specs.Kept.{lives_of, most_of, rules_of}
+use Rattle.osb_broker.specs.Kept.{Works, lives_of, most_of, rules_of, store_of}
 use Rattle.osb_broker.specs.Served.{Served}
 use Rattle.osb_broker.proofs.WholeLemmas.{of_last, of_front, run_start, run_on}
 use Rattle.osb_broker.proofs.broker.Broker.serve_each.Goals as goal
 use Rattle.osb_broker.proofs.broker.Broker.serve_each.Goals.{in-Some+in_ok-push, in_default}
 
 pub loop-connection-init : goal.loop-connection-init
-loop-connection-init c = record {
+loop-connection-init g c = record {
   most = refl;
   rules = refl;
   blank = c.in_ok-blanks.ensures.blank;
   enough = omega (arith, c.in_ok-blanks.ensures.count);
   count = c.in_ok-outputs.ensures.len;
   room = c.in_ok-outputs.ensures.capacity;
-  served = rw c.in_ok-outputs.ensures.items (run_start (crowded (rules_of c.args.self.now)) c.args.limits.now (most_of c.args.self.now) (lives_of c.args.self.now));
+  works = λ works. works;
+  served = λ works. rw c.in_ok-outputs.ensures.items (run_start (crowded (rules_of c.args.self.now)) c.args.limits.now (most_of c.args.self.now) (lives_of g.S.Store c.args.self.now));
 }
 
 pub output_of-output-requires : goal.output_of-output-requires
-output_of-output-requires c = of_last IsBlank c.pop.new.self.items c.in-Some.blank (rw c.in-Some.ensures.items at c.loop-connection.invariant.blank)
+output_of-output-requires g c = of_last IsBlank c.pop.new.self.items c.in-Some.blank (rw c.in-Some.ensures.items at c.loop-connection.invariant.blank)
 
 pub loop-connection-preserved : goal.loop-connection-preserved
 unfolding lives_of
-loop-connection-preserved c =
+loop-connection-preserved g c =
     let before = c.loop-connection.invariant in
     elim c.match-pop.branch [
       | in-Some+in_ok-push w ↦ record {
@@ -34,11 +35,14 @@ loop-connection-preserved c =
         enough = let popped = ap length w.in-Some.ensures.items ∙ length-append c.pop.new.self.items (w.in-Some.blank ∷ []) in omega (arith, popped, before.enough);
         count = ap vec_len w.outputs-is ∙ w.in_ok-push.ensures.len ∙ ap (λ n. n + 1) before.count;
         room = subst (λ o. length c.args.connections.now ≤ vec_capacity o) (sym w.outputs-is) (omega (arith, w.in_ok-push.ensures.capacity, before.room));
-        served = run_on (crowded (rules_of c.args.self.now)) c.args.limits.now (most_of c.args.self.now) (lives_of c.args.self.now) vec_items c.args.connections.now c.loop-connection.connection-index c.connection-item.result
-            c.loop-connection.outputs.items c.match-pop.outputs.items w.output_of-output.result (lives_of c.loop-connection.self) (lives_of c.match-pop.self)
-            c.loop-connection-test.true c.connection-item.is (ap vec_items w.outputs-is ∙ w.in_ok-push.ensures.items) before.served
-            (subst (λ b. Served (crowded (rules_of c.args.self.now)) c.args.limits.now (most_of c.args.self.now) (lives_of c.loop-connection.self) (vec_items c.connection-item.result) [] (vec_items w.output_of-output.result) (lives_of b)) (sym w.self-is)
-            (rw (before.rules, before.most, w.deref.ensures.value) at w.output_of-output.ensures.served));
+        works = λ works. before.works (w.output_of-output.ensures.works (subst (λ b. Works (store_of g.S.Store b)) w.self-is works));
+        served = λ works.
+            let now = subst (λ b. Works (store_of g.S.Store b)) w.self-is works in
+            run_on (crowded (rules_of c.args.self.now)) c.args.limits.now (most_of c.args.self.now) (lives_of g.S.Store c.args.self.now) vec_items c.args.connections.now c.loop-connection.connection-index c.connection-item.result
+            c.loop-connection.outputs.items c.match-pop.outputs.items w.output_of-output.result (lives_of g.S.Store c.loop-connection.self) (lives_of g.S.Store c.match-pop.self)
+            c.loop-connection-test.true c.connection-item.is (ap vec_items w.outputs-is ∙ w.in_ok-push.ensures.items) (before.served (w.output_of-output.ensures.works now))
+            (subst (λ b. Served (crowded (rules_of c.args.self.now)) c.args.limits.now (most_of c.args.self.now) (lives_of g.S.Store c.loop-connection.self) (vec_items c.connection-item.result) [] (vec_items w.output_of-output.result) (lives_of g.S.Store b)) (sym w.self-is)
+            (rw (before.rules, before.most, w.deref.ensures.value) at (w.output_of-output.ensures.served now)));
       }
       | in_default w ↦ absurd (omega (arith, w.in_default.ensures.cases.0, c.loop-connection.blanks.ok.0, before.enough, c.loop-connection-test.true))
     ]

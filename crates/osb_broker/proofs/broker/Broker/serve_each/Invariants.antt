@@ -2,17 +2,18 @@ use Rattle.std.proofs.Common.{◌≡◌, ◌≤◌, ◌+◌, length, map, take, 
 use Rattle.std.specs.List.{AllByRecursion}
 use Rattle.osb_broker.specs.Room.{IsBlank}
 use Rattle.osb_broker.specs.Steps.{crowded}
-use Rattle.osb_broker.specs.Kept.{lives_of, most_of, rules_of}
+use Rattle.osb_broker.specs.Kept.{Works, lives_of, most_of, rules_of, store_of}
 use Rattle.osb_broker.specs.Served.{RunServed}
 use Rattle.osb_broker.proofs.broker.Broker.serve_each.Given as goal
 
 abbrev pub invariant-loop-connection : goal.invariant-loop-connection
-invariant-loop-connection l = record {
+invariant-loop-connection g l = record {
   most : most_of l.self ≡ most_of l.fn.self;
   rules : rules_of l.self ≡ rules_of l.fn.self;
   blank : AllByRecursion IsBlank l.blanks.items;
   enough : length l.blanks.items + l.connection-index ≡ length l.connections;
   count : vec_len l.outputs ≡ l.connection-index;
   room : length l.connections ≤ vec_capacity l.outputs;
-  served : RunServed (crowded (rules_of l.fn.self)) l.limits (most_of l.fn.self) (lives_of l.fn.self) (map vec_items (take l.connection-index l.connections)) (map vec_items l.outputs.items) (lives_of l.self);
+  works : Works (store_of g.S.Store l.self) → Works (store_of g.S.Store l.fn.self);
+  served : Works (store_of g.S.Store l.self) → RunServed (crowded (rules_of l.fn.self)) l.limits (most_of l.fn.self) (lives_of g.S.Store l.fn.self) (map vec_items (take l.connection-index l.connections)) (map vec_items l.outputs.items) (lives_of g.S.Store l.self);
 }

@@ -5,7 +5,7 @@ use Rattle.std.proofs.lemmas.Grind.{common_steps}
 use Rattle.osb_frames.specs.Steps.{message}
 use Rattle.osb_broker.specs.Steps.{machine}
 use Rattle.osb_broker.specs.Kept.{most_of, rules_of}
-use Rattle.osb_broker.proofs.HoldLemmas.{gave_nothing, gave_more, gave_kept, holding_start, reached_now, holding_fed, holding_more, closing_held, breaking_held, refusing_ok, refusing_err, ending_held, none_held, looked, few_so_far, few_after, one_read, one_byte}
+use Rattle.osb_broker.proofs.HoldLemmas.{gave_nothing, gave_more, gave_kept, holding_start, reached_now, holding_fed, holding_more, closing_held, breaking_held, refusing_ok, refusing_err, ending_held, none_held, left_start, left_more, left_fed, looked, few_so_far, few_after, one_read, one_byte}
 use Rattle.osb_broker.proofs.broker.Broker.serve_in.Goals as goal
 use Rattle.osb_broker.proofs.broker.Broker.serve_in.Goals.{then-n-eq0, else-n-eq0}
 
@@ -17,7 +17,8 @@ loop-left-init g c = record {
   failed = refl;
   inside = omega arith;
   over = λ e. cc;
-  holding = ([], gave_nothing _ _, holding_start (machine (rules_of c.args.self.now)) c.args.limits.now (most_of c.args.self.now) _ _, omega arith);
+  works = λ works. works;
+  holding = ([], gave_nothing _ _, left_start c.args.limits.now (most_of c.args.self.now), (λ works. holding_start (machine (rules_of c.args.self.now)) c.args.limits.now (most_of c.args.self.now) _ _), omega arith);
 }
 
 pub returns-in-Ok-true-clause-outcome : goal.returns-in-Ok-true-clause-outcome
@@ -27,10 +28,10 @@ returns-in-Ok-true-clause-outcome g c =
     let held = take c.loop-left.filled c.loop-left.room in (
       got,
       c.loop-left.invariant.holding.1,
-      looked (machine (rules_of c.args.self.now)) c.args.limits.now (most_of c.args.self.now) _ got _ c.loop-left.left _ _ c.loop-left.room c.loop-left.filled _ _ _ c.loop-left.invariant.holding.2 (omega (arith, c.loop-left.auto.room)) (few_so_far _ _ c.loop-left.ended c.loop-left.invariant.holding.3),
-      inl (closing_held (machine (rules_of c.args.self.now)) c.args.limits.now (most_of c.args.self.now) _ got _ c.loop-left.left _ _ held q c.in-Whole.used (c.loop-left.left - 1) _ _ _ _ _
-          (record { holding = c.loop-left.invariant.holding.2; front = c.in-Whole.ensures.stays; inside = c.in-Whole.ensures.size.1; fewer = omega arith })
-          (rw c.loop-left.invariant.rules at c.in-Ok-true.ensures.answers)
+      looked c.args.limits.now (most_of c.args.self.now) got c.loop-left.left c.loop-left.room c.loop-left.filled _ _ _ c.loop-left.invariant.holding.2 (omega (arith, c.loop-left.auto.room)) (few_so_far _ _ c.loop-left.ended c.loop-left.invariant.holding.4),
+      λ works. inl (closing_held (machine (rules_of c.args.self.now)) c.args.limits.now (most_of c.args.self.now) _ got _ c.loop-left.left _ _ held q c.in-Whole.used (c.loop-left.left - 1) _ _ _ _ _
+          (record { holding = c.loop-left.invariant.holding.3 (c.in-Ok-true.ensures.works works); front = c.in-Whole.ensures.stays; inside = c.in-Whole.ensures.size.1; fewer = omega arith })
+          (rw c.loop-left.invariant.rules at (c.in-Ok-true.ensures.answers works))
           c.in-Ok-true.field-0-test),
     )
 
@@ -41,10 +42,10 @@ returns-in-Err-clause-outcome g c =
     let held = take c.loop-left.filled c.loop-left.room in (
       got,
       c.loop-left.invariant.holding.1,
-      looked (machine (rules_of c.args.self.now)) c.args.limits.now (most_of c.args.self.now) _ got _ c.loop-left.left _ _ c.loop-left.room c.loop-left.filled _ _ _ c.loop-left.invariant.holding.2 (omega (arith, c.loop-left.auto.room)) (few_so_far _ _ c.loop-left.ended c.loop-left.invariant.holding.3),
-      inl (breaking_held (machine (rules_of c.args.self.now)) c.args.limits.now (most_of c.args.self.now) _ got _ c.loop-left.left _ _ held q c.in-Whole.used (c.loop-left.left - 1) _ _ _ _ c.in-Err.field-0
-          (record { holding = c.loop-left.invariant.holding.2; front = c.in-Whole.ensures.stays; inside = c.in-Whole.ensures.size.1; fewer = omega arith })
-          (rw c.loop-left.invariant.rules at c.in-Err.ensures.answers)),
+      looked c.args.limits.now (most_of c.args.self.now) got c.loop-left.left c.loop-left.room c.loop-left.filled _ _ _ c.loop-left.invariant.holding.2 (omega (arith, c.loop-left.auto.room)) (few_so_far _ _ c.loop-left.ended c.loop-left.invariant.holding.4),
+      λ works. inl (breaking_held (machine (rules_of c.args.self.now)) c.args.limits.now (most_of c.args.self.now) _ got _ c.loop-left.left _ _ held q c.in-Whole.used (c.loop-left.left - 1) _ _ _ _ c.in-Err.field-0
+          (record { holding = c.loop-left.invariant.holding.3 (c.in-Err.ensures.works works); front = c.in-Whole.ensures.stays; inside = c.in-Whole.ensures.size.1; fewer = omega arith })
+          (rw c.loop-left.invariant.rules at (c.in-Err.ensures.answers works))),
     )
 
 pub loop-left-preserved-in-Whole : goal.loop-left-preserved-in-Whole
@@ -55,18 +56,20 @@ loop-left-preserved-in-Whole g c =
     record {
       most = c.in-Ok-false.ensures.most ∙ c.loop-left.invariant.most;
       rules = c.in-Ok-false.ensures.rules ∙ c.loop-left.invariant.rules;
-      kept = c.in-Ok-false.ensures.answers.3.1 ∙ c.loop-left.invariant.kept;
+      kept = c.in-Ok-false.ensures.ok ∙ c.loop-left.invariant.kept;
       failed = c.loop-left.invariant.failed;
       inside = grind (arith, common_steps);
       over = c.loop-left.invariant.over;
+      works = λ works. c.loop-left.invariant.works (c.in-Ok-false.ensures.works works);
       holding = (
         got,
         c.loop-left.invariant.holding.1,
-        rw c.shift.ensures (holding_more (machine (rules_of c.args.self.now)) c.args.limits.now (most_of c.args.self.now) _ got _ c.loop-left.left _ _ held q c.in-Whole.used (c.loop-left.left - 1) _ _ _ _ _
-            (record { holding = c.loop-left.invariant.holding.2; front = c.in-Whole.ensures.stays; inside = c.in-Whole.ensures.size.1; fewer = omega arith })
-            (rw c.loop-left.invariant.rules at c.in-Ok-false.ensures.answers)
-            c.in-Ok-false.field-0-test),
-        c.loop-left.invariant.holding.3,
+        rw c.shift.ensures (left_more c.args.limits.now (most_of c.args.self.now) got c.loop-left.left held q c.in-Whole.used (c.loop-left.left - 1) c.loop-left.invariant.holding.2 c.in-Whole.ensures.stays c.in-Whole.ensures.size.1 (omega arith) (c.in-Ok-false.ensures.closes c.in-Ok-false.field-0-test)),
+        (λ works. rw c.shift.ensures (holding_more (machine (rules_of c.args.self.now)) c.args.limits.now (most_of c.args.self.now) _ got _ c.loop-left.left _ _ held q c.in-Whole.used (c.loop-left.left - 1) _ _ _ _ _
+            (record { holding = c.loop-left.invariant.holding.3 (c.in-Ok-false.ensures.works works); front = c.in-Whole.ensures.stays; inside = c.in-Whole.ensures.size.1; fewer = omega arith })
+            (rw c.loop-left.invariant.rules at (c.in-Ok-false.ensures.answers works))
+            c.in-Ok-false.field-0-test)),
+        c.loop-left.invariant.holding.4,
       );
     }
 
@@ -76,9 +79,9 @@ returns-in-Ok-clause-outcome g c =
     let held = take c.loop-left.filled c.loop-left.room in (
       got,
       c.loop-left.invariant.holding.1,
-      looked (machine (rules_of c.args.self.now)) c.args.limits.now (most_of c.args.self.now) _ got _ c.loop-left.left _ _ c.loop-left.room c.loop-left.filled _ _ _ c.loop-left.invariant.holding.2 (omega (arith, c.loop-left.auto.room)) (few_so_far _ _ c.loop-left.ended c.loop-left.invariant.holding.3),
-      refusing_ok (machine (rules_of c.args.self.now)) c.args.limits.now (most_of c.args.self.now) _ got _ c.loop-left.left _ _ held c.in-Stop.kind c.loop-left.ended _ (c.loop-left.left - 1) _ _ _ _
-          c.loop-left.invariant.holding.2 c.in-Stop.ensures.stays c.loop-left.invariant.over (omega arith) c.in-Ok.ensures.writes,
+      looked c.args.limits.now (most_of c.args.self.now) got c.loop-left.left c.loop-left.room c.loop-left.filled _ _ _ c.loop-left.invariant.holding.2 (omega (arith, c.loop-left.auto.room)) (few_so_far _ _ c.loop-left.ended c.loop-left.invariant.holding.4),
+      λ works. refusing_ok (machine (rules_of c.args.self.now)) c.args.limits.now (most_of c.args.self.now) _ got _ c.loop-left.left _ _ held c.in-Stop.kind c.loop-left.ended _ (c.loop-left.left - 1) _ _ _ _
+          (c.loop-left.invariant.holding.3 works) c.in-Stop.ensures.stays c.loop-left.invariant.over (omega arith) c.in-Ok.ensures.writes,
     )
 
 pub returns-in-Err-refuse-clause-outcome : goal.returns-in-Err-refuse-clause-outcome
@@ -87,16 +90,16 @@ returns-in-Err-refuse-clause-outcome g c =
     let held = take c.loop-left.filled c.loop-left.room in (
       got,
       c.loop-left.invariant.holding.1,
-      looked (machine (rules_of c.args.self.now)) c.args.limits.now (most_of c.args.self.now) _ got _ c.loop-left.left _ _ c.loop-left.room c.loop-left.filled _ _ _ c.loop-left.invariant.holding.2 (omega (arith, c.loop-left.auto.room)) (few_so_far _ _ c.loop-left.ended c.loop-left.invariant.holding.3),
-      refusing_err (machine (rules_of c.args.self.now)) c.args.limits.now (most_of c.args.self.now) _ got _ c.loop-left.left _ _ held c.in-Stop.kind c.loop-left.ended _ (c.loop-left.left - 1) _ _ _ c.in-Err-refuse.field-0
-          c.loop-left.invariant.holding.2 c.in-Stop.ensures.stays c.loop-left.invariant.over (omega arith) c.in-Err-refuse.ensures.writes,
+      looked c.args.limits.now (most_of c.args.self.now) got c.loop-left.left c.loop-left.room c.loop-left.filled _ _ _ c.loop-left.invariant.holding.2 (omega (arith, c.loop-left.auto.room)) (few_so_far _ _ c.loop-left.ended c.loop-left.invariant.holding.4),
+      λ works. refusing_err (machine (rules_of c.args.self.now)) c.args.limits.now (most_of c.args.self.now) _ got _ c.loop-left.left _ _ held c.in-Stop.kind c.loop-left.ended _ (c.loop-left.left - 1) _ _ _ c.in-Err-refuse.field-0
+          (c.loop-left.invariant.holding.3 works) c.in-Stop.ensures.stays c.loop-left.invariant.over (omega arith) c.in-Err-refuse.ensures.writes,
     )
 
 pub returns-in-Ended-clause-outcome : goal.returns-in-Ended-clause-outcome
 returns-in-Ended-clause-outcome g c =
     let got = c.loop-left.invariant.holding.0 in
     let held = take c.loop-left.filled c.loop-left.room in
-    (got, c.loop-left.invariant.holding.1, looked (machine (rules_of c.args.self.now)) c.args.limits.now (most_of c.args.self.now) _ got _ c.loop-left.left _ _ c.loop-left.room c.loop-left.filled _ _ _ c.loop-left.invariant.holding.2 (omega (arith, c.loop-left.auto.room)) (few_so_far _ _ c.loop-left.ended c.loop-left.invariant.holding.3), inr (ending_held (machine (rules_of c.args.self.now)) c.args.limits.now (most_of c.args.self.now) _ got _ c.loop-left.left _ _ held (c.loop-left.left - 1) c.loop-left.invariant.holding.2 (omega arith) c.in-Ended.ensures.says.1, c.loop-left.invariant.over c.in-Ended.ensures.says.0))
+    (got, c.loop-left.invariant.holding.1, looked c.args.limits.now (most_of c.args.self.now) got c.loop-left.left c.loop-left.room c.loop-left.filled _ _ _ c.loop-left.invariant.holding.2 (omega (arith, c.loop-left.auto.room)) (few_so_far _ _ c.loop-left.ended c.loop-left.invariant.holding.4), (λ works. inr (ending_held (machine (rules_of c.args.self.now)) c.args.limits.now (most_of c.args.self.now) _ got _ c.loop-left.left _ _ held (c.loop-left.left - 1) (c.loop-left.invariant.holding.3 works) (omega arith) c.in-Ended.ensures.says.1, c.loop-left.invariant.over c.in-Ended.ensures.says.0)))
 
 pub fill-requires : goal.fill-requires
 fill-requires g c =
@@ -124,13 +127,15 @@ loop-left-preserved g c =
         | then-n-eq0 w ↦ λ e. c.in-Ok-fill.ensures.known.1 w.if-n-eq0.true
         | else-n-eq0 w ↦ λ e. let f : true ≡ false = sym e ∙ w.ended-is ∙ c.in-More.ensures.says.0 in cc
       ];
+      works = c.loop-left.invariant.works;
       holding = (
         got ++ piece,
         gave_more _ _ _ _ _ _ got piece c.loop-left.invariant.holding.1 c.in-Ok-fill.ensures.given c.in-Ok-fill.ensures.known.0,
-        rw front (holding_fed (machine (rules_of c.args.self.now)) c.args.limits.now (most_of c.args.self.now) _ got _ c.loop-left.left _ _ held piece c.loop-left.invariant.holding.2),
+        rw front (left_fed c.args.limits.now (most_of c.args.self.now) got c.loop-left.left held piece c.loop-left.invariant.holding.2),
+        (λ works. rw front (holding_fed (machine (rules_of c.args.self.now)) c.args.limits.now (most_of c.args.self.now) _ got _ c.loop-left.left _ _ held piece (c.loop-left.invariant.holding.3 works))),
         elim c.if-n-eq0.branch [
-          | then-n-eq0 w ↦ rw w.ended-is (one_read _ _ _ got piece c.loop-left.ended c.in-Ok-fill.ensures.counted c.in-More.ensures.says.0 c.loop-left.invariant.holding.3)
-          | else-n-eq0 w ↦ rw (w.ended-is, c.in-More.ensures.says.0) (one_byte _ _ _ got c.fill.new.room c.loop-left.filled n c.loop-left.ended c.in-Ok-fill.ensures.counted c.in-More.ensures.says.0 c.loop-left.invariant.holding.3 (omega (arith, w.if-n-eq0.false)) (omega (arith, c.in-Ok-fill.ensures.bound, c.loop-left.auto.room)))
+          | then-n-eq0 w ↦ rw w.ended-is (one_read _ _ _ got piece c.loop-left.ended c.in-Ok-fill.ensures.counted c.in-More.ensures.says.0 c.loop-left.invariant.holding.4)
+          | else-n-eq0 w ↦ rw (w.ended-is, c.in-More.ensures.says.0) (one_byte _ _ _ got c.fill.new.room c.loop-left.filled n c.loop-left.ended c.in-Ok-fill.ensures.counted c.in-More.ensures.says.0 c.loop-left.invariant.holding.4 (omega (arith, w.if-n-eq0.false)) (omega (arith, c.in-Ok-fill.ensures.bound, c.loop-left.auto.room)))
         ],
       );
     }
@@ -140,15 +145,15 @@ returns-in-Err-fill-clause-outcome g c =
     let got = c.loop-left.invariant.holding.0 in
     let held = take c.loop-left.filled c.loop-left.room in
     let calls = c.in-Err-fill.ensures.counted in
-    let few : g.R.Source.reads c.fill.new.source ≤ g.R.Source.reads c.args.source.now + length got + 1 = few_after _ _ _ c.loop-left.ended calls c.in-More.ensures.says.0 c.loop-left.invariant.holding.3 in (
+    let few : g.R.Source.reads c.fill.new.source ≤ g.R.Source.reads c.args.source.now + length got + 1 = few_after _ _ _ c.loop-left.ended calls c.in-More.ensures.says.0 c.loop-left.invariant.holding.4 in (
       got,
       gave_kept _ _ _ _ _ _ got c.loop-left.invariant.holding.1 c.in-Err-fill.ensures.given c.in-Err-fill.ensures.known,
-      looked (machine (rules_of c.args.self.now)) c.args.limits.now (most_of c.args.self.now) _ got _ c.loop-left.left _ _ c.loop-left.room c.loop-left.filled _ _ _ c.loop-left.invariant.holding.2 (omega (arith, c.loop-left.auto.room)) few,
-      record {
+      looked c.args.limits.now (most_of c.args.self.now) got c.loop-left.left c.loop-left.room c.loop-left.filled _ _ _ c.loop-left.invariant.holding.2 (omega (arith, c.loop-left.auto.room)) few,
+      λ works. record {
         left = c.loop-left.left;
         some = c.loop-left-test.true;
         held = held;
-        reached = reached_now (machine (rules_of c.args.self.now)) c.args.limits.now (most_of c.args.self.now) _ got _ c.loop-left.left _ _ held c.loop-left.invariant.holding.2;
+        reached = reached_now (machine (rules_of c.args.self.now)) c.args.limits.now (most_of c.args.self.now) _ got _ c.loop-left.left _ _ held (c.loop-left.invariant.holding.3 works);
         waits = record {
           request = λ q m at. c.in-More.ensures.finds q m at;
           stop = λ f final at. let e = c.in-More.ensures.stops f final at in cc;
@@ -160,4 +165,4 @@ pub returns-clause-outcome : goal.returns-clause-outcome
 returns-clause-outcome g c =
     let got = c.loop-left.invariant.holding.0 in
     let held = take c.loop-left.filled c.loop-left.room in
-    (got, c.loop-left.invariant.holding.1, looked (machine (rules_of c.args.self.now)) c.args.limits.now (most_of c.args.self.now) _ got _ c.loop-left.left _ _ c.loop-left.room c.loop-left.filled _ _ _ c.loop-left.invariant.holding.2 (omega (arith, c.loop-left.auto.room)) (few_so_far _ _ c.loop-left.ended c.loop-left.invariant.holding.3), inl (none_held (machine (rules_of c.args.self.now)) c.args.limits.now (most_of c.args.self.now) _ got _ c.loop-left.left _ _ held c.loop-left.invariant.holding.2 (omega arith)))
+    (got, c.loop-left.invariant.holding.1, looked c.args.limits.now (most_of c.args.self.now) got c.loop-left.left c.loop-left.room c.loop-left.filled _ _ _ c.loop-left.invariant.holding.2 (omega (arith, c.loop-left.auto.room)) (few_so_far _ _ c.loop-left.ended c.loop-left.invariant.holding.4), (λ works. inl (none_held (machine (rules_of c.args.self.now)) c.args.limits.now (most_of c.args.self.now) _ got _ c.loop-left.left _ _ held (c.loop-left.invariant.holding.3 works) (omega arith))))

@@ -1,8 +1,8 @@
 use Rattle.std.proofs.Common.{◌≡◌, ◌≤◌, ◌+◌, ◌-◌, ◌*◌, List, ℕ, true, cond, length, take}
 use Rattle.std.specs.Io.KnownBytes.{IsAtEnd}
 use Rattle.osb_broker.specs.Steps.{machine}
-use Rattle.osb_broker.specs.Kept.{lives_of, most_of, rules_of}
-use Rattle.osb_broker.specs.Serving.{Gave, Holding}
+use Rattle.osb_broker.specs.Kept.{Works, lives_of, most_of, rules_of, store_of}
+use Rattle.osb_broker.specs.Serving.{Gave, Holding, Left}
 use Rattle.osb_broker.proofs.broker.Broker.serve_in.Given as goal
 
 abbrev pub decreases-loop-left : goal.decreases-loop-left
@@ -19,7 +19,9 @@ invariant-loop-left g l =
       failed : source.failures l.source ≡ source.failures l.fn.source;
       inside : l.filled ≤ length l.room;
       over : l.ended ≡ true → IsAtEnd (source.rest l.source);
+      works : Works (store_of g.S.Store l.self) → Works (store_of g.S.Store l.fn.self);
       holding : (got : List ℕ) × Gave (source.given l.fn.source) (source.given l.source) (source.rest l.fn.source) (source.rest l.source) got
-          × Holding (machine (rules_of l.fn.self)) l.limits (most_of l.fn.self) (lives_of l.fn.self) got (sink.taken l.fn.sink) l.left (sink.taken l.sink) (lives_of l.self) (take l.filled l.room)
+          × Left l.limits (most_of l.fn.self) got l.left (take l.filled l.room)
+          × (Works (store_of g.S.Store l.self) → Holding (machine (rules_of l.fn.self)) l.limits (most_of l.fn.self) (lives_of g.S.Store l.fn.self) got (sink.taken l.fn.sink) l.left (sink.taken l.sink) (lives_of g.S.Store l.self) (take l.filled l.room))
           × (source.reads l.source ≤ source.reads l.fn.source + length got + cond l.ended 1 0);
     }

@@ -7,42 +7,44 @@ use Rattle.osb_broker.proofs.WholeLemmas.{going_on, closing_whole, refusing_whol
 use Rattle.osb_broker.proofs.broker.Broker.serve_into.Goals as goal
 
 pub loop-left-init : goal.loop-left-init
-loop-left-init c = record {
+loop-left-init g c = record {
   most = refl;
   rules = refl;
   room = c.requires;
-  reached = reached_start (crowded (rules_of c.args.self.now)) c.args.limits.now (most_of c.args.self.now) _ _ _;
+  works = λ works. works;
+  reached = λ works. reached_start (crowded (rules_of c.args.self.now)) c.args.limits.now (most_of c.args.self.now) _ _ _;
 }
 
 pub returns-then-reply_into-clause-served : goal.returns-then-reply_into-clause-served
-returns-then-reply_into-clause-served c =
+returns-then-reply_into-clause-served g c works =
     closing_whole (crowded (rules_of c.args.self.now)) c.args.limits.now (most_of c.args.self.now) _ c.args.bytes.now _ c.loop-left.left _ _ _ (message c.in-Whole.request) c.in-Whole.used (c.loop-left.left - 1) _ _ _
-    (record { reached = c.loop-left.invariant.reached; front = c.in-Whole.ensures.says; fewer = omega arith })
-    (rw c.loop-left.invariant.rules at c.reply_into.ensures.answers)
+    (record { reached = c.loop-left.invariant.reached (c.reply_into.ensures.works works); front = c.in-Whole.ensures.says; fewer = omega arith })
+    (rw c.loop-left.invariant.rules at (c.reply_into.ensures.answers works))
     c.if-reply_into.true
 
 pub loop-left-preserved : goal.loop-left-preserved
-loop-left-preserved c = record {
+loop-left-preserved g c = record {
   most = c.reply_into.ensures.most ∙ c.loop-left.invariant.most;
   rules = c.reply_into.ensures.rules ∙ c.loop-left.invariant.rules;
   room = c.reply_into.ensures.room c.if-reply_into.false;
-  reached = going_on (crowded (rules_of c.args.self.now)) c.args.limits.now (most_of c.args.self.now) _ c.args.bytes.now _ c.loop-left.left _ _ c.loop-left.rest.now (message c.in-Whole.request) c.in-Whole.used (c.loop-left.left - 1) _ _ _
-      (record { reached = c.loop-left.invariant.reached; front = c.in-Whole.ensures.says; fewer = omega arith })
-      (rw c.loop-left.invariant.rules at c.reply_into.ensures.answers)
+  works = λ works. c.loop-left.invariant.works (c.reply_into.ensures.works works);
+  reached = λ works. going_on (crowded (rules_of c.args.self.now)) c.args.limits.now (most_of c.args.self.now) _ c.args.bytes.now _ c.loop-left.left _ _ c.loop-left.rest.now (message c.in-Whole.request) c.in-Whole.used (c.loop-left.left - 1) _ _ _
+      (record { reached = c.loop-left.invariant.reached (c.reply_into.ensures.works works); front = c.in-Whole.ensures.says; fewer = omega arith })
+      (rw c.loop-left.invariant.rules at (c.reply_into.ensures.answers works))
       c.if-reply_into.false;
 }
 
 pub returns-in-Stop-clause-served : goal.returns-in-Stop-clause-served
-returns-in-Stop-clause-served c =
+returns-in-Stop-clause-served g c works =
     refusing_whole (crowded (rules_of c.args.self.now)) c.args.limits.now (most_of c.args.self.now) _ c.args.bytes.now _ c.loop-left.left _ _ _ c.in-Stop.kind (c.loop-left.left - 1) _
-    c.loop-left.invariant.reached (told_here c.args.limits.now _ _ _ c.in-Stop.ensures.stays) (omega arith) c.refuse_into.ensures
+    (c.loop-left.invariant.reached works) (told_here c.args.limits.now _ _ _ c.in-Stop.ensures.stays) (omega arith) c.refuse_into.ensures
 
 pub returns-in-Ended-clause-served : goal.returns-in-Ended-clause-served
-returns-in-Ended-clause-served c =
+returns-in-Ended-clause-served g c works =
     ending_whole (crowded (rules_of c.args.self.now)) c.args.limits.now (most_of c.args.self.now) _ c.args.bytes.now _ c.loop-left.left _ _ _ (c.loop-left.left - 1)
-    c.loop-left.invariant.reached (omega arith) c.in-Ended.ensures.says.1
+    (c.loop-left.invariant.reached works) (omega arith) c.in-Ended.ensures.says.1
 
 pub returns-clause-served : goal.returns-clause-served
-returns-clause-served c =
+returns-clause-served g c works =
     none_whole (crowded (rules_of c.args.self.now)) c.args.limits.now (most_of c.args.self.now) _ c.args.bytes.now _ c.loop-left.left _ _ _
-    c.loop-left.invariant.reached (omega arith)
+    (c.loop-left.invariant.reached works) (omega arith)

@@ -1,0 +1,5 @@
+use Rattle.osb_broker.proofs.StoreLemmas.{memory_works}
+use Rattle.osb_broker.proofs.memory.answer.Goals as goal
+
+pub returns-clause-handled : goal.returns-clause-handled
+returns-clause-handled g c = c.answer.ensures.handled (memory_works c.answer.new.self)

@@ -1,0 +1,52 @@
+-- Which lives the next run finds.
+use Rattle.std.proofs.Common.{◌≡◌, ◌⊎◌, inl, inr, IsTrue, Result, Ok, Err, OnOk, is_ok, sym, ◌∙◌}
+use Rattle.std.proofs.lemmas.Bool.{false≢true}
+use Rattle.std.proofs.Math.Logic.{∥∥₁_elim, ∥∥₁_map}
+use Rattle.sqlite.specs.Tree.{Trees}
+use Rattle.sqlite.specs.State.{State, HasCleanDisk, Survives}
+use Rattle.sqlite_catalog.proofs.ReadLemmas.{lists_once}
+use Rattle.osb_tables.specs.Tables.{record_schema}
+use Rattle.osb_orders.specs.Lives.{Lives}
+use Rattle.osb_records.specs.Stored.{lives_stored}
+use Rattle.osb_records.specs.Kept.{KeepsLives}
+use Rattle.osb_records.specs.Steps.{HoldsLives}
+use Rattle.osb_records.proofs.OpenedLemmas.{no_tables}
+use Rattle.osb_file.specs.File.{AreLivesOf}
+use Rattle.osb_restart.specs.Restart.{MayFind}
+use Rattle.osb_restart.proofs.LivesLemmas.{Lives-set}
+
+-- trees are a database of one schema, so where they hold lives no others stand in them
+pub stored_are_found : (db : Trees) (lives found : Lives) → HoldsLives lives db → AreLivesOf db found → found ≡ lives_stored db
+stored_are_found db lives found holds stand =
+    let schema : stand.0 ≡ record_schema = lists_once _ _ _ stand.1.lists holds.sound.lists in
+    elim stand.2 [
+      | inl none ↦ absurd (no_tables (sym schema ∙ none.0))
+      | inr all ↦ all.2
+    ]
+
+pub held_are_found : (db : Trees) (lives found : Lives) → HoldsLives lives db → AreLivesOf db found → found ≡ lives
+held_are_found db lives found holds stand = stored_are_found db lives found holds stand ∙ holds.lives_are
+
+pub where_ok : {A E : Type 0} (result : Result A E) (P : Type 0) → IsTrue (is_ok result) → OnOk result P → P
+where_ok (Ok value) P told holds = holds
+where_ok (Err error) P told holds = absurd (false≢true told)
+
+-- what is kept is found
+pub finds_kept : (s : State) (lives found : Lives) → KeepsLives s lives → MayFind s found → found ≡ lives
+finds_kept s lives found keeps may = ∥∥₁_elim may (Lives-set found lives) (λ it. held_are_found it.0 lives found (keeps it.0 it.1) it.2)
+
+module _ (old new : State) (before after found : Lives) (Commits : Trees → Type 0) (holds : (db : Trees) → Commits db → HoldsLives after db)
+    (keeps : KeepsLives old before) (survives : Survives old new Commits) (clean : HasCleanDisk new) (may : MayFind new found) where
+  -- the lives are those before a call or those after it
+  pub finds_either : ∥ (found ≡ before) ⊎ (found ≡ after) ∥₁
+  finds_either = ∥∥₁_map may (λ it. let r : (found ≡ before) ⊎ (found ≡ after) = elim (survives.crash clean it.0 it.1) [
+    | inl left ↦ inl (held_are_found it.0 before found (keeps it.0 left) it.2)
+    | inr new ↦ inr (held_are_found it.0 after found (holds it.0 new) it.2)
+  ] in r)
+
+  -- and those after it, where only trees that store these are left
+  pub finds_after : ((db : Trees) → new.may_leave db → lives_stored db ≡ after) → found ≡ after
+  finds_after only = ∥∥₁_elim may (Lives-set found after) (λ it. elim (survives.crash clean it.0 it.1) [
+    | inl left ↦ stored_are_found it.0 before found (keeps it.0 left) it.2 ∙ only it.0 it.1
+    | inr new ↦ held_are_found it.0 after found (holds it.0 new) it.2
+  ])

@@ -1,0 +1,3 @@
+pub mod StopLemmas
+pub mod LivesLemmas
+pub mod FoundLemmas

@@ -1,0 +1,9 @@
+-- What the next run may find after a stop.
+use Rattle.sqlite.specs.Tree.{Trees}
+use Rattle.sqlite.specs.State.{State}
+use Rattle.osb_orders.specs.Lives.{Lives}
+use Rattle.osb_file.specs.File.{AreLivesOf}
+
+-- a crash may leave a database in which these lives stand
+abbrev pub MayFind : State → Lives → Type 0
+MayFind s lives = ∥ ((db : Trees) × s.may_leave db × AreLivesOf db lives) ∥₁

@@ -1,0 +1,15 @@
+//! A stop of the machine, and the next run: the lives are those before or after the call that the stop
+//! cut off, and those after it where it was acknowledged.
+#![tactic(auto)]
+
+mod changes;
+mod reopening;
+mod requests;
+mod restart;
+
+pub use changes::committed_and_restarted;
+pub use requests::handled_and_restarted;
+pub use restart::restarted;
+
+#[cfg(test)]
+mod tests;

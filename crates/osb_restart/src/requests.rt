@@ -1,0 +1,39 @@
+//! A request, a stop, and the next run.
+
+ghost use Rattle.std.specs.Prelude.{◌≡◌, ◌≢◌, ◌⊎◌, IfSome};
+ghost use Rattle.sqlite.specs.Files.{file_state, over_files};
+ghost use Rattle.osb_frames.specs.Steps.{message};
+ghost use Rattle.osb_replies.specs.declared.status.Status.TheVariants.{InternalServerError};
+ghost use Rattle.osb_records.specs.Steps.{stored};
+ghost use Rattle.osb_broker.specs.Kept.{Works, lives_of, rules_of, store_of};
+ghost use Rattle.osb_broker.specs.Steps.{lives_after};
+
+use crate::restart::restarted;
+use osb_broker::Broker;
+use osb_frames::Request;
+use osb_records::Records;
+use osb_replies::Status;
+use sqlite::{FileStore, Options};
+use sqlite_disk::Crash;
+use std::alloc::Global;
+
+/// A request, a stop and the next run: the status that the request was answered with, and the records
+/// that the next run takes over. Over a disk that stops at some call, the stop is at any moment of
+/// the request. What was answered with anything but 500 is kept.
+pub fn handled_and_restarted<D: Crash + Drop>(
+    alloc: Global,
+    mut broker: Broker<'_, FileStore<D>>,
+    request: &Request<'_>,
+    last: bool,
+    options: Options,
+) -> Option<(Status, Records<FileStore<D>>)>
+    ensures either { IfSome result (λ run. Works (store_of over_files broker.entry) → Works (file_state run.1)
+        → ∥ (stored (file_state run.1) ≡ lives_of over_files broker.entry) ⊎ (stored (file_state run.1) ≡ lives_after (rules_of broker.entry) (lives_of over_files broker.entry) (message request.now)) ∥₁) }
+    ensures answered { IfSome result (λ run. run.0 ≢ InternalServerError → Works (store_of over_files broker.entry) → Works (file_state run.1)
+        → stored (file_state run.1) ≡ lives_after (rules_of broker.entry) (lives_of over_files broker.entry) (message request.now)) }
+{
+    broker.are_whole();
+    let status = broker.handle(request, last).status;
+    let again = restarted(alloc, broker.into_records(), options)?;
+    Some((status, again))
+}

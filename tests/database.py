@@ -1,0 +1,382 @@
+#!/usr/bin/env python3
+"""Tries the database file of the built program's `serve`: opened again, read by sqlite3, and spoiled.
+
+usage: tests/database.py PROGRAM
+"""
+
+import contextlib
+import json
+import os
+import shutil
+import sqlite3
+import subprocess
+import sys
+import tempfile
+
+from conversations import ASYNC, B, BIND, I, LATER, LEAVE, REPORT, SUCCEEDED, SYNC, SYNC_LEAVE
+from conversations import operation, reply, request
+from serving import SETTINGS, Serving, new_database, tell
+
+R = I[:-1] + "r"
+G = I[:-1] + "g"
+CREDENTIALS = '{"state":"succeeded","credentials":{"k":"v"}}'
+IN_PROGRESS = '{"state":"in progress"}'
+
+# An instance with a binding, one whose creation runs, and one that is gone.
+BEGUN = [
+    ("PUT", I + LATER, ASYNC, 202, operation("create-1")),
+    ("PUT", REPORT + "1", SUCCEEDED, 200, "{}"),
+    ("PUT", B + LATER, BIND, 202, operation("bind-2")),
+    ("PUT", REPORT + "2", CREDENTIALS, 200, "{}"),
+    ("PUT", R + LATER, ASYNC, 202, operation("create-1")),
+    ("PUT", G, SYNC, 201, "{}"),
+    ("DELETE", G + SYNC_LEAVE, "", 200, "{}"),
+]
+
+# What the tables then have, in the order of their keys.
+TABLES = {
+    "format": [(1,)],
+    "orders": [
+        ("g", 1, 1, "", "svc", "p-sync", "o", "s", "{}", "", 1, "", "{}"),
+        ("g", 2, 3, "", "svc", "p-sync", "o", "s", "{}", "", 1, "", "{}"),
+        ("i", 1, 1, "", "svc", "p-async", "o", "s", "{}", "1.2.0", 1, "", "{}"),
+        ("i", 2, 4, "b", "svc", "p-async", "", "{}", "{}", "", 1, "", '{"k":"v"}'),
+        ("r", 1, 1, "", "svc", "p-async", "o", "s", "{}", "1.2.0", 0, "", "{}"),
+    ],
+    "instances": [
+        ("g", 0, 0, 2, "", "", "", "", "", ""),
+        ("i", 2, 0, 2, "svc", "p-async", "o", "s", "{}", "1.2.0"),
+        ("r", 1, 1, 1, "svc", "p-async", "o", "s", "{}", "1.2.0"),
+    ],
+    "bindings": [("i", "b", 2, "svc", "p-async", "", "{}", "{}", '{"k":"v"}')],
+}
+
+# What is answered from these tables, and changes nothing.
+ASKED_AGAIN = [
+    ("GET", I, "", 200, '{"parameters":{},"plan_id":"p-async","service_id":"svc"}'),
+    ("GET", B, "", 200, '{"credentials":{"k":"v"},"parameters":{}}'),
+    ("PUT", B + LATER, BIND, 200, '{"credentials":{"k":"v"}}'),
+    ("GET", R + "/last_operation", "", 200, IN_PROGRESS),
+    ("PUT", R + LATER, ASYNC, 202, operation("create-1")),
+    ("GET", G + "/last_operation", "", 410, "{}"),
+]
+
+
+def goes(serving, conversation):
+    """What each request of a conversation is answered, and should be."""
+    for method, target, body, status, text in conversation:
+        found = serving.sends(request(method, target, body))
+        yield f"{method} {target}", found, reply(status, text)
+
+
+def run(path, *statements):
+    """Runs statements of SQL on a database, by Python's sqlite3."""
+    with contextlib.closing(sqlite3.connect(path, timeout=0.1)) as connection:
+        for statement in statements:
+            connection.execute(statement)
+        connection.commit()
+
+
+def tables(path):
+    """The rows of each table, by Python's sqlite3, or why it doesn't read them."""
+    try:
+        with contextlib.closing(sqlite3.connect(path, timeout=0.1)) as connection:
+            rows = {name: connection.execute(f"SELECT * FROM {name}") for name in TABLES}
+            return {name: sorted(found) for name, found in rows.items()}
+    except sqlite3.Error as error:
+        return str(error)
+
+
+def content(path):
+    """The schema and all rows of a database, whatever it has."""
+    with contextlib.closing(sqlite3.connect(path)) as connection:
+        schema = sorted(connection.execute("SELECT type, name, sql FROM sqlite_schema"), key=repr)
+        named = [name for kind, name, _ in schema if kind == "table"]
+        return schema, [sorted(connection.execute(f"SELECT * FROM {name}")) for name in named]
+
+
+def integrity(path):
+    """What the integrity check of Python's sqlite3 says, and where it is installed that of the program."""
+    with contextlib.closing(sqlite3.connect(path)) as connection:
+        said = [row[0] for row in connection.execute("PRAGMA integrity_check")]
+    if shutil.which("sqlite3"):
+        words = ["sqlite3", path, "PRAGMA integrity_check"]
+        said += subprocess.run(words, capture_output=True, text=True).stdout.splitlines()
+    return set(said)
+
+
+def copied(path, folder):
+    """A copy of a database: its file, and where there is one the log beside it."""
+    copy = new_database(folder)
+    for ending in ("", "-wal"):
+        if os.path.exists(path + ending):
+            shutil.copy(path + ending, copy + ending)
+    return copy
+
+
+def starts(program, database, settings=SETTINGS, listen="127.0.0.1:0"):
+    """How the program ends that can't serve over this database."""
+    words = ["--settings", settings, "--database", database, "--listen", listen]
+    try:
+        ended = subprocess.run([program, "serve", *words], capture_output=True, timeout=10)
+        return ended.returncode, ended.stdout, ended.stderr
+    except subprocess.TimeoutExpired:
+        return "it serves"
+
+
+REFUSED = (1, b"", b"database: 1 Refused\n")
+NOT_OURS = (1, b"", b"database: 2 NotOurs\n")
+
+
+def try_reopened(program, folder):
+    """Stopped and started again, it goes on where it was."""
+    path = new_database(folder)
+    created = ("PUT", I + LATER, ASYNC, 202, operation("create-1"))
+    with Serving(program, path) as serving:
+        yield from goes(serving, [created])
+    with Serving(program, path) as serving:
+        polled = ("GET", I + "/last_operation", "", 200, IN_PROGRESS)
+        yield from goes(serving, [polled, created])
+    once = Serving(program, path, "--connections", "1")
+    yield "listens again", once.listens(), True
+    yield from goes(once, [("PUT", REPORT + "1", SUCCEEDED, 200, "{}")])
+    yield "ends by itself", once.ended()[0], 0
+    with Serving(program, path) as serving:
+        yield from goes(serving, [("GET", I + "/last_operation", "", 200, SUCCEEDED)])
+
+
+def try_reading(program, folder, path):
+    """What sqlite3 reads while the program runs and after it."""
+    with Serving(program, path) as serving:
+        yield from goes(serving, BEGUN)
+        yield "locked for sqlite3", tables(path), "database is locked"
+        yield "locked for another broker", starts(program, path), REFUSED
+        # No request is in flight, so what lies in the two files is the whole database.
+        yield "a copy", tables(copied(path, folder)), TABLES
+        yield "the copy's integrity", integrity(copied(path, folder)), {"ok"}
+    files = sorted(os.listdir(os.path.dirname(path)))
+    yield "the files", files, ["broker.db", "broker.db-wal"]
+    kept = copied(path, folder)
+    yield "read after the program", tables(kept), TABLES
+    yield "one file is left", os.listdir(os.path.dirname(kept)), ["broker.db"]
+    for name in (path, kept):
+        with Serving(program, name) as serving:
+            yield from goes(serving, ASKED_AGAIN)
+        yield "nothing is changed", tables(copied(name, folder)), TABLES
+
+
+ORDER = "INSERT INTO orders SELECT instance_id, 2, 2, '', service_id, plan_id, place, spot, params, maint, {state}, '', '{{}}' FROM orders WHERE instance_id = 'r'"
+
+# Databases that aren't of well-formed lives: what is done to the tables above.
+SPOILED = {
+    "a phase of another order": ["UPDATE instances SET phase = 2 WHERE instance_id = 'r'"],
+    "a running order that isn't busy": ["UPDATE instances SET busy = 0 WHERE instance_id = 'r'"],
+    "an ended order that is busy": ["UPDATE instances SET busy = 1 WHERE instance_id = 'i'"],
+    "another last number": ["UPDATE instances SET last_seq = 3 WHERE instance_id = 'i'"],
+    "another space": ["UPDATE instances SET space = 't' WHERE instance_id = 'i'"],
+    "other credentials": ["UPDATE bindings SET credentials = '{}'"],
+    "an instance without a row": ["DELETE FROM instances WHERE instance_id = 'i'"],
+    "an absent instance without a row": ["DELETE FROM instances WHERE instance_id = 'g'"],
+    "a row without an instance": ["INSERT INTO instances VALUES ('z', 0, 0, 0, '', '', '', '', '', '')"],
+    "a binding without a row": ["DELETE FROM bindings"],
+    "a row without a binding": [
+        "INSERT INTO bindings VALUES ('i', 'c', 2, 'svc', 'p-async', '', '{}', '{}', '{}')"
+    ],
+    "a number left out": [
+        "UPDATE orders SET seq = 3 WHERE instance_id = 'i' AND seq = 2",
+        "UPDATE instances SET last_seq = 3 WHERE instance_id = 'i'",
+    ],
+    "two running orders": [
+        ORDER.format(state=0),
+        "UPDATE instances SET last_seq = 2, phase = 4 WHERE instance_id = 'r'",
+    ],
+    "an order behind a running one": [
+        ORDER.format(state=1),
+        "UPDATE instances SET last_seq = 2, phase = 2, busy = 0 WHERE instance_id = 'r'",
+    ],
+    "an order of an absent instance": [
+        "INSERT INTO orders VALUES ('g', 3, 2, '', 'svc', 'p-sync', 'o', 's', '{}', '', 1, '', '{}')",
+        "UPDATE instances SET last_seq = 3 WHERE instance_id = 'g'",
+    ],
+    "a first order that creates nothing": ["UPDATE orders SET kind = 2 WHERE instance_id = 'r'"],
+    "an id that is no id text": [
+        "UPDATE orders SET instance_id = char(7) WHERE instance_id = 'r'",
+        "UPDATE instances SET instance_id = char(7) WHERE instance_id = 'r'",
+    ],
+    "an empty id": [
+        "UPDATE orders SET instance_id = '' WHERE instance_id = 'r'",
+        "UPDATE instances SET instance_id = '' WHERE instance_id = 'r'",
+    ],
+    "a text that isn't compact": [
+        "UPDATE orders SET params = '{ }' WHERE instance_id = 'r'",
+        "UPDATE instances SET params = '{ }' WHERE instance_id = 'r'",
+    ],
+    "parameters that are no object": [
+        "UPDATE orders SET params = '[]' WHERE instance_id = 'r'",
+        "UPDATE instances SET params = '[]' WHERE instance_id = 'r'",
+    ],
+    "another version": ["UPDATE format SET version = 2"],
+    "no version": ["DELETE FROM format"],
+    "two versions": ["INSERT INTO format VALUES (1)"],
+    "a table is missing": ["DROP TABLE bindings"],
+    "a further table": ["CREATE TABLE more (a TEXT)"],
+    "a further index": ["CREATE INDEX more ON orders (kind)"],
+    "a further view": ["CREATE VIEW more AS SELECT 1 AS a"],
+    "statistics": ["ANALYZE"],
+}
+
+# Rows that can't be read as any order or any row.
+UNREADABLE = {
+    "a phase that is none": "UPDATE instances SET phase = 9 WHERE instance_id = 'i'",
+    "a kind that is none": "UPDATE orders SET kind = 6 WHERE instance_id = 'r'",
+    "a number below 0": "UPDATE orders SET seq = -1 WHERE instance_id = 'r'",
+    "a text that is no UTF-8": "UPDATE orders SET note = CAST(x'ff' AS TEXT)",
+    "an absent instance with a text": "UPDATE instances SET plan_id = 'p' WHERE instance_id = 'g'",
+}
+
+# What may be done to the file without a change of its rows.
+HARMLESS = {
+    "no index": "DROP INDEX busy_instances",
+    "written anew": "VACUUM",
+    "with a rollback journal": "PRAGMA journal_mode = DELETE",
+    "in one file": "PRAGMA wal_checkpoint(TRUNCATE)",
+}
+
+
+def backed_up(source, target):
+    source.backup(target)
+
+
+def dumped(source, target):
+    """It makes the tables in the order of their names."""
+    target.executescript("\n".join(source.iterdump()))
+
+
+def made_from(path, folder, make):
+    """Another file that Python's sqlite3 makes from the database."""
+    other = new_database(folder)
+    with contextlib.closing(sqlite3.connect(copied(path, folder))) as source:
+        with contextlib.closing(sqlite3.connect(other)) as target:
+            make(source, target)
+    return other
+
+
+def try_spoiled(program, folder, path):
+    """What doesn't stand for well-formed lives isn't taken, and stays as it is."""
+    for name, statements in SPOILED.items():
+        copy = copied(path, folder)
+        run(copy, *statements)
+        before = content(copy)
+        yield name, starts(program, copy), NOT_OURS
+        yield f"{name} stays", content(copy), before
+    other = made_from(path, folder, dumped)
+    yield "another order of the tables", starts(program, other), NOT_OURS
+    for name, statement in UNREADABLE.items():
+        copy = copied(path, folder)
+        run(copy, statement)
+        yield name, starts(program, copy), REFUSED
+
+
+def try_harmless(program, folder, path):
+    """A file of the same tables and rows is taken, whatever made it."""
+    others = {"backed up": made_from(path, folder, backed_up)}
+    for name, statement in HARMLESS.items():
+        others[name] = copied(path, folder)
+        run(others[name], statement)
+    for name, other in others.items():
+        with Serving(program, other) as serving:
+            yield from goes(serving, ASKED_AGAIN)
+        yield name, tables(copied(other, folder)), TABLES
+
+
+def try_others(program, folder):
+    """Databases of others, and files that are none."""
+    for made in ["CREATE TABLE orders (a)", "CREATE TABLE format (version INTEGER NOT NULL) STRICT"]:
+        path = new_database(folder)
+        run(path, made)
+        yield made, starts(program, path), NOT_OURS
+    yield "a folder", starts(program, folder), REFUSED
+    yield "a folder that isn't there", starts(program, os.path.join(folder, "no", "file")), REFUSED
+    yield "no name", starts(program, ""), REFUSED
+    yield "in memory", starts(program, ":memory:"), REFUSED
+    for content in [b"no database\n", b"SQLite format 3\x00" + bytes(5000)]:
+        path = new_database(folder)
+        with open(path, "wb") as file:
+            file.write(content)
+        yield "no database", starts(program, path), REFUSED
+        with open(path, "rb") as file:
+            yield "it stays", file.read(), content
+    path = new_database(folder)
+    open(path, "wb").close()
+    with Serving(program, path) as serving:
+        yield from goes(serving, BEGUN)
+
+
+def settings_with(folder, plans):
+    """A settings file with these plans alone."""
+    with open(SETTINGS, encoding="utf-8") as file:
+        settings = json.load(file)
+    service = settings["catalog"]["services"][0]
+    service["plans"] = [plan for plan in service["plans"] if plan["id"] in plans]
+    settings["modes"] = {plan: settings["modes"][plan] for plan in plans}
+    path = os.path.join(tempfile.mkdtemp(dir=folder), "settings.json")
+    with open(path, "w", encoding="utf-8") as file:
+        json.dump(settings, file)
+    return path
+
+
+def try_plans(program, folder):
+    """Plans that are in use stay in the catalog."""
+    path = new_database(folder)
+    sync_only, async_only = (settings_with(folder, [plan]) for plan in ("p-sync", "p-async"))
+    to_sync = '{"service_id":"svc","plan_id":"p-sync"}'
+    with Serving(program, path) as serving:
+        yield from goes(serving, [("PUT", I + LATER, ASYNC, 202, operation("create-1"))])
+    in_use = (4, b"", b"plan in use: svc p-async\n")
+    yield "a plan in use", starts(program, path, sync_only), in_use
+    yield "before listening", starts(program, path, sync_only, "nowhere"), in_use
+    with Serving(program, path, settings=async_only) as serving:
+        yield from goes(serving, [("PUT", REPORT + "1", SUCCEEDED, 200, "{}")])
+    with Serving(program, path) as serving:
+        changed = ("PATCH", I + LATER, to_sync, 202, operation("update-2"))
+        yield from goes(serving, [changed])
+    aimed = (4, b"", b"plan in use: svc p-sync\n")
+    yield "the plan of a running update", starts(program, path, async_only), aimed
+    with Serving(program, path) as serving:
+        failed = ("PUT", REPORT + "2", '{"state":"failed"}', 200, "{}")
+        gone = ("DELETE", I + LEAVE, "", 202, operation("delete-3"))
+        ended = ("PUT", REPORT + "3", SUCCEEDED, 200, "{}")
+        yield from goes(serving, [failed, gone, ended])
+    with Serving(program, path, settings=sync_only) as serving:
+        yield from goes(serving, [("PUT", I, SYNC, 201, "{}")])
+
+
+def try_order(program, folder):
+    """Settings come before the database, and that before the address."""
+    path = new_database(folder)
+    run(path, "CREATE TABLE orders (a)")
+    yield "the database first", starts(program, path, listen="nowhere"), NOT_OURS
+    faulty = os.path.join(folder, "faulty.json")
+    with open(faulty, "w", encoding="utf-8") as file:
+        file.write("{}")
+    lacking = (3, b"", b"settings: 2 Missing platform\n")
+    yield "the settings first", starts(program, path, faulty), lacking
+    fresh = new_database(folder)
+    yield "no database is made", starts(program, fresh, faulty), lacking
+    yield "none is there", os.path.exists(fresh), False
+
+
+def tries(program):
+    with tempfile.TemporaryDirectory() as folder:
+        path = new_database(folder)
+        yield from try_reopened(program, folder)
+        yield from try_reading(program, folder, path)
+        yield from try_spoiled(program, folder, path)
+        yield from try_harmless(program, folder, path)
+        yield from try_others(program, folder)
+        yield from try_plans(program, folder)
+        yield from try_order(program, folder)
+
+
+if __name__ == "__main__":
+    sys.exit(tell("database", tries(os.path.abspath(sys.argv[1]))))

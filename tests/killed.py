@@ -1,0 +1,254 @@
+#!/usr/bin/env python3
+"""Kills the built program at twenty moments of one history, and looks at what its database then has.
+
+usage: tests/killed.py PROGRAM
+
+The program is killed (SIGKILL) after an answer, while a request is in flight, while one is being
+sent, or while it starts. After each kill what was answered is there, once, and what was in flight is
+there whole or not at all: sent again, it acts once. The system goes on, so these trials say nothing
+of a power failure.
+"""
+
+import contextlib
+import json
+import os
+import sqlite3
+import sys
+import tempfile
+import time
+from dataclasses import dataclass
+
+from conversations import ASYNC, BIND, LATER, LEAVE, SUCCEEDED, SYNC, SYNC_BIND, SYNC_LEAVE, UPDATE
+from conversations import FAILED, MEMORY_1, operation, reply, request
+from database import copied, integrity
+from serving import Serving, new_database, read_to_end, tell
+
+CREATE, UPDATING, DELETE, BINDING, UNBINDING = range(1, 6)
+RUNS, DONE, BROKEN = range(3)
+KINDS = dict(enumerate(["create", "update", "delete", "bind", "unbind"], start=1))
+
+
+@dataclass
+class Step:
+    """A request: what it is answered, what it is answered again, and the order that it leaves."""
+
+    instance: str
+    sent: bytes
+    answer: tuple
+    again: tuple
+    number: int
+    kind: int
+    state: int
+
+    def expected(self):
+        return reply(*self.answer), reply(*self.again)
+
+
+def at_once(instance):
+    """The life of an instance whose orders are done as they are asked for."""
+    place = f"/v2/service_instances/{instance}"
+    bound = place + "/service_bindings/b"
+    made, empty, gone = (201, "{}"), (200, "{}"), (410, "{}")
+    for number, kind, method, target, body, answer, again in [
+        (1, CREATE, "PUT", place, SYNC, made, empty),
+        (2, BINDING, "PUT", bound, SYNC_BIND, (201, MEMORY_1), (200, MEMORY_1)),
+        (3, UPDATING, "PATCH", place, UPDATE, empty, empty),
+        (4, UNBINDING, "DELETE", bound + SYNC_LEAVE, "", empty, gone),
+        (5, DELETE, "DELETE", place + SYNC_LEAVE, "", empty, gone),
+    ]:
+        yield Step(instance, request(method, target, body), answer, again, number, kind, DONE)
+
+
+def later(instance):
+    """The life of an instance whose orders a backend reports. Its last order goes on running."""
+    place = f"/v2/service_instances/{instance}"
+    bound = place + "/service_bindings/b"
+    bind_done = '{"state":"succeeded","credentials":{"k":"v"}}'
+    for number, kind, method, target, body, name, report, state in [
+        (1, CREATE, "PUT", place + LATER, ASYNC, "create-1", SUCCEEDED, DONE),
+        (2, BINDING, "PUT", bound + LATER, BIND, "bind-2", bind_done, DONE),
+        (3, UPDATING, "PATCH", place + LATER, UPDATE, "update-3", FAILED, BROKEN),
+        (4, UNBINDING, "DELETE", bound + LEAVE, "", "unbind-4", SUCCEEDED, DONE),
+        (5, UPDATING, "PATCH", place + LATER, UPDATE, "update-5", None, RUNS),
+    ]:
+        opened = (202, operation(name))
+        yield Step(instance, request(method, target, body), opened, opened, number, kind, RUNS)
+        if report:
+            told = request("PUT", f"/backend/v1/orders/{instance}/{number}", report)
+            yield Step(instance, told, (200, "{}"), (200, "{}"), number, kind, state)
+
+
+def history():
+    """Steps without an end, of one instance after the other."""
+    number = 0
+    while True:
+        number += 1
+        yield from (at_once, later)[number % 2](f"i{number:03}")
+
+
+class Noted:
+    """What was answered: the orders that there have to be, and each instance's last step."""
+
+    def __init__(self):
+        self.orders = {}
+        self.last = {}
+
+    def take(self, step):
+        self.orders[step.instance, step.number] = (step.kind, step.state)
+        self.last[step.instance] = step
+
+    def rows(self):
+        return sorted((*key, *order) for key, order in self.orders.items())
+
+    def running(self):
+        """The listing of the backend: each instance with a running order once."""
+        return [
+            (instance, number, KINDS[kind])
+            for instance, number, kind, state in self.rows()
+            if state == RUNS
+        ]
+
+
+def rows_in(path, folder):
+    """The orders in a database whose program was killed, read from a copy."""
+    copy = copied(path, folder)
+    with contextlib.closing(sqlite3.connect(copy)) as connection:
+        rows = connection.execute("SELECT instance_id, seq, kind, state FROM orders")
+        return sorted(rows.fetchall())
+
+
+def listed(serving):
+    """What the backend's listing has."""
+    body = serving.sends(request("GET", "/backend/v1/orders", "")).partition(b"\r\n\r\n")[2]
+    orders = json.loads(body)["orders"]
+    return [(order["instance_id"], order["seq"], order["kind"]) for order in orders]
+
+
+def killed_in_flight(serving, sent, pause):
+    """What came of a reply, where the program is killed so many seconds after the request."""
+    with serving.connection() as client:
+        client.sendall(sent)
+        time.sleep(pause)
+        serving.kill()
+        try:
+            return read_to_end(client)
+        except ConnectionError:
+            return b""
+
+
+# After an answer, or while a request is in flight: after so many of the usual times of a request;
+# or when half of a request is sent.
+ANSWERED, HALF = "answered", "half"
+MOMENTS = [ANSWERED, 0, HALF, 0.1, 0.2, ANSWERED, 0.3, 0.4, HALF, 0.5]
+MOMENTS += [0.6, ANSWERED, 0.7, 0.8, HALF, 0.9, ANSWERED, 1.0, 1.2, 1.5]
+
+
+class Trial:
+    """One history over one file, through all kills."""
+
+    def __init__(self, program, folder):
+        self.program = program
+        self.folder = folder
+        self.path = new_database(folder)
+        self.steps = history()
+        self.noted = Noted()
+        self.times = []
+        self.acted = 0
+
+    def answered(self, serving, count):
+        """Takes so many steps to their answers."""
+        for _ in range(count):
+            step = next(self.steps)
+            began = time.monotonic()
+            found = serving.sends(step.sent)
+            self.times.append(time.monotonic() - began)
+            yield "a step", found, step.expected()[0]
+            self.noted.take(step)
+
+    def killed(self, serving, moment):
+        """Kills the program: the step that was in flight, if there is one, and what came of its reply."""
+        if moment == ANSWERED:
+            serving.kill()
+            return None, b""
+        step = next(self.steps)
+        usual = sorted(self.times)[len(self.times) // 2]
+        if moment == HALF:
+            return step, killed_in_flight(serving, step.sent[: len(step.sent) // 2], usual)
+        return step, killed_in_flight(serving, step.sent, usual * moment)
+
+    def flown(self, serving, moment):
+        """Kills the program; the step that has no answer, if there is one."""
+        step, found = self.killed(serving, moment)
+        if step is None:
+            return None
+        whole = step.expected()[0]
+        yield f"a reply, {moment}", found, whole[: 0 if moment == HALF else len(found)]
+        if found != whole:
+            return step
+        self.noted.take(step)
+        return None
+
+    def kept(self, moment, step):
+        """What the file has: what was answered, and the step without an answer or not."""
+        yield f"integrity, {moment}", integrity(copied(self.path, self.folder)), {"ok"}
+        rows = rows_in(self.path, self.folder)
+        acted = step is not None and rows != self.noted.rows()
+        if acted:
+            self.acted += 1
+            self.noted.take(step)
+        yield f"the orders, {moment}", rows, self.noted.rows()
+        yield f"half a request, {moment}", acted and moment == HALF, False
+
+    def sent_again(self, serving, step, acted):
+        """The step without an answer acts once, and none that was answered acts again."""
+        if step is not None:
+            yield "sent again", serving.sends(step.sent), step.expected()[acted]
+            self.noted.take(step)
+        for last in self.noted.last.values():
+            yield f"again {last.instance}", serving.sends(last.sent), last.expected()[1]
+        yield "the listing", listed(serving), self.noted.running()
+
+    def round(self, moment, count):
+        with Serving(self.program, self.path) as serving:
+            yield from self.answered(serving, count)
+            step = yield from self.flown(serving, moment)
+        before = self.acted
+        yield from self.kept(moment, step)
+        with Serving(self.program, self.path) as serving:
+            yield from self.sent_again(serving, step, self.acted > before)
+        yield f"the orders in the end, {moment}", rows_in(self.path, self.folder), self.noted.rows()
+
+
+def try_history(program, folder):
+    trial = Trial(program, folder)
+    for place, moment in enumerate(MOMENTS):
+        yield from trial.round(moment, 3 + place % 4)
+    flights = len(MOMENTS) - MOMENTS.count(ANSWERED) - MOMENTS.count(HALF)
+    print(f"killed: {len(MOMENTS)} kills, {flights} of them in flight, where {trial.acted} had acted")
+
+
+def try_starts(program, folder):
+    """Killed while it makes its tables, or opens the file again."""
+    usual = time.monotonic()
+    with Serving(program, new_database(folder)):
+        usual = time.monotonic() - usual
+    for share in [0.2, 0.4, 0.6, 0.8, 0.9, 1.0]:
+        path = new_database(folder)
+        created = next(at_once("i"))
+        for expected in created.expected():
+            killed = Serving(program, path)
+            time.sleep(usual * share)
+            killed.kill()
+            with Serving(program, path) as serving:
+                yield f"after a start, {share}", serving.sends(created.sent), expected
+        yield f"its integrity, {share}", integrity(copied(path, folder)), {"ok"}
+
+
+def tries(program):
+    with tempfile.TemporaryDirectory() as folder:
+        yield from try_history(program, folder)
+        yield from try_starts(program, folder)
+
+
+if __name__ == "__main__":
+    sys.exit(tell("killed", tries(os.path.abspath(sys.argv[1]))))

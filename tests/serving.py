@@ -1,0 +1,87 @@
+"""The built program as a server on loopback, and how a trial tells what it found."""
+
+import os
+import socket
+import subprocess
+import tempfile
+
+ROOT = os.path.join(os.path.dirname(os.path.abspath(__file__)), "..")
+EXAMPLES = os.path.join(ROOT, "examples")
+SETTINGS = os.path.join(EXAMPLES, "settings.json")
+
+
+def free_address():
+    """An address of loopback at which nobody listens."""
+    with socket.socket() as free:
+        free.bind(("127.0.0.1", 0))
+        return f"127.0.0.1:{free.getsockname()[1]}"
+
+
+def new_database(folder):
+    """The name of a database file that isn't there yet, in a folder of its own."""
+    return os.path.join(tempfile.mkdtemp(dir=folder), "broker.db")
+
+
+class Serving:
+    """The program, serving over a database file until it ends or is killed."""
+
+    def __init__(self, program, database, *more, settings=SETTINGS, **process):
+        self.address = free_address()
+        self.port = int(self.address.rpartition(":")[2])
+        words = ["serve", "--settings", settings, "--database", database]
+        words += ["--listen", self.address, *more]
+        self.process = subprocess.Popen(
+            [program, *words], stdout=subprocess.PIPE, stderr=subprocess.PIPE, **process
+        )
+        self.first = b""
+
+    def listens(self):
+        """Waits for its first line; whether it says that connections are taken."""
+        self.first = self.process.stdout.readline()
+        return self.first == f"listening on {self.address}\n".encode()
+
+    def kill(self):
+        self.process.kill()
+        self.process.communicate()
+
+    def ended(self, seconds=60):
+        """The status that it ends with by itself, and the lines that it wrote."""
+        output, errors = self.process.communicate(timeout=seconds)
+        return self.process.returncode, self.first + output, errors
+
+    def __enter__(self):
+        if not self.listens():
+            raise RuntimeError(f"it doesn't serve: {self.ended()}")
+        return self
+
+    def __exit__(self, *_):
+        self.kill()
+
+    def connection(self):
+        return socket.create_connection(("127.0.0.1", self.port), timeout=30)
+
+    def sends(self, bytes_sent):
+        """What a client reads that sends these bytes and keeps its sending side open."""
+        with self.connection() as client:
+            client.sendall(bytes_sent)
+            return read_to_end(client)
+
+
+def read_to_end(client):
+    read = b""
+    while piece := client.recv(65536):
+        read += piece
+    return read
+
+
+def tell(name, tries):
+    """Prints what wasn't found as expected, and gives the status to end with."""
+    passed = failed = 0
+    for trial, found, expected in tries:
+        if found == expected:
+            passed += 1
+        else:
+            failed += 1
+            print(f"{name}: {trial}: {found!r:.300}, expected {expected!r:.300}")
+    print(f"{name}: {passed} passed, {failed} failed")
+    return 1 if failed or not passed else 0
