@@ -18,9 +18,10 @@ osb-broker: FORCE
 run: osb-broker
 	./osb-broker serve --settings examples/settings.json --database osb-broker.db --listen 127.0.0.1:8080
 
+# What is tried from outside is the program that rt ci proved and linked.
 test:
 	$(RT) ci
-	$(MAKE) osb-broker
+	cp crates/osb_program/out/osb_program osb-broker
 	python3 tests/program.py ./osb-broker
 	python3 tests/served.py ./osb-broker
 	python3 tests/database.py ./osb-broker

@@ -13,5 +13,3 @@ pub use audit::are_rows_of_lives;
 pub use entry::BindingEntry;
 pub use plans::plans_in_use;
 
-#[cfg(test)]
-mod tests;

@@ -10,8 +10,6 @@ mod broker;
 mod buffer;
 mod fault;
 mod filling;
-#[cfg(test)]
-mod fixtures;
 mod laws;
 pub mod memory;
 mod plans;
@@ -20,8 +18,6 @@ mod refuse;
 mod rooms;
 mod runs;
 mod serve;
-#[cfg(test)]
-mod tests;
 
 pub use broker::Broker;
 pub use buffer::Buffer;

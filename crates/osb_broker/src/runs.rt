@@ -146,6 +146,3 @@ impl<S: Alter> Broker<'_, S> {
         self.serve_each(&Limits::STANDARD, connections)
     }
 }
-
-#[cfg(test)]
-mod tests;

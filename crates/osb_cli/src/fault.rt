@@ -3,7 +3,6 @@
 ghost use Rattle.std.specs.Prelude.{◌≤◌};
 
 use itoa::Buffer;
-use osb_broker::NewFault;
 use osb_catalog::SettingsFault;
 use osb_frames::{Sink, send_all};
 use osb_records::StoreFault;
@@ -67,15 +66,6 @@ impl From<StoreFault> for Fault<'_> {
 impl<'a> From<Fault<'a>> for Unserved<'a> {
     fn from(fault: Fault<'a>) -> Self {
         Unserved::Fault(fault)
-    }
-}
-
-impl From<NewFault> for Unserved<'_> {
-    fn from(fault: NewFault) -> Self {
-        match fault {
-            NewFault::PlanInUse(service, plan) => Unserved::PlanInUse(service, plan),
-            NewFault::Refused => Unserved::Fault(Fault::Database(StoreFault::Refused)),
-        }
     }
 }
 

@@ -10,8 +10,6 @@ mod listen;
 mod per_connection;
 mod replay;
 mod settings;
-#[cfg(test)]
-mod tests;
 mod words;
 
 pub use commands::{run, serve_command};

@@ -2,19 +2,16 @@
 
 use crate::per_connection::PerConnection;
 use clap::{Arg, ArgAction, ArgMatches, Command, Error, value_parser};
+use osb_listen::Place;
 use std::alloc::{AllocError, Global};
 
-/// Where connections are taken, and how many.
+/// Where connections are taken, and how.
 #[derive(Clone, Copy, Debug)]
 pub(crate) struct Listen<'a> {
     /// The name of the settings file.
     pub(crate) settings: &'a str,
-    /// The name of the database file.
-    pub(crate) database: &'a str,
-    /// An IP address and a port.
-    pub(crate) address: &'a str,
+    pub(crate) place: Place<'a>,
     pub(crate) per_connection: PerConnection,
-    pub(crate) connections: u32,
 }
 
 /// Which connections are replayed, and how.
@@ -206,12 +203,14 @@ fn replay_order<'a>(alloc: Global, found: &ArgMatches<'a>) -> Result<Order<'a>, 
 fn serve_order<'a>(found: &ArgMatches<'a>) -> Order<'a> {
     Order::Serve(Listen {
         settings: found.get_str("settings").unwrap_or(""),
-        database: found.get_str("database").unwrap_or(""),
-        address: found.get_str("listen").unwrap_or(""),
+        place: Place {
+            database: found.get_str("database").unwrap_or(""),
+            address: found.get_str("listen").unwrap_or(""),
+            connections: found
+                .get_one::<u32>("connections")
+                .unwrap_or(MOST_CONNECTIONS),
+        },
         per_connection: per_connection_of(found),
-        connections: found
-            .get_one::<u32>("connections")
-            .unwrap_or(MOST_CONNECTIONS),
     })
 }
 

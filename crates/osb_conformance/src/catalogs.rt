@@ -4,13 +4,23 @@ use osb_catalog::{BUILT_IN, Settings};
 use std::alloc::Global;
 use std::test::Fail;
 
+/// The settings of that text.
+pub(crate) fn settings_of(alloc: Global, text: &str) -> Result<Settings, Fail> {
+    Ok(Settings::read(alloc, text.as_bytes())?)
+}
+
 /// The settings that the program has built in.
 pub(crate) fn built_in(alloc: Global) -> Result<Settings, Fail> {
-    Ok(Settings::read(alloc, BUILT_IN.as_bytes())?)
+    settings_of(alloc, BUILT_IN)
+}
+
+/// The text of the built-in settings with one text in the place of another.
+fn changed(alloc: Global, from: &str, to: &str) -> Result<String, Fail> {
+    Ok(BUILT_IN.replacen(alloc, from, to, 1)?)
 }
 
 /// The built-in settings with one text in the place of another.
 pub(crate) fn settings_with(alloc: Global, from: &str, to: &str) -> Result<Settings, Fail> {
-    let file = BUILT_IN.replacen(alloc, from, to, 1)?;
-    Ok(Settings::read(alloc, file.as_bytes())?)
+    let file = changed(alloc, from, to)?;
+    settings_of(alloc, file.as_str())
 }

@@ -6,20 +6,44 @@
 #![tactic(auto)]
 
 #[cfg(test)]
+mod adopting;
+#[cfg(test)]
+mod asks;
+#[cfg(test)]
+mod audited;
+#[cfg(test)]
 mod beside;
 #[cfg(test)]
 mod catalogs;
 #[cfg(test)]
+mod commands;
+#[cfg(test)]
+mod connections;
+#[cfg(test)]
 mod exchange;
+#[cfg(test)]
+mod files;
 #[cfg(test)]
 mod phases;
 #[cfg(test)]
+mod plain;
+#[cfg(test)]
 mod replies;
+#[cfg(test)]
+mod restarts;
+#[cfg(test)]
+mod rooms;
 #[cfg(test)]
 mod rows;
 #[cfg(test)]
 mod serving;
 #[cfg(test)]
+mod settings;
+#[cfg(test)]
+mod sockets;
+#[cfg(test)]
 mod standing;
+#[cfg(test)]
+mod standing_rows;
 #[cfg(test)]
 mod stored;

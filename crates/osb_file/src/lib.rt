@@ -5,5 +5,3 @@ mod file;
 
 pub use file::open_file;
 
-#[cfg(test)]
-mod tests;

@@ -3,8 +3,6 @@
 
 mod order;
 mod plain;
-#[cfg(test)]
-mod tests;
 mod view;
 
 pub use order::{Attributes, Change, Order, OrderKind, OrderState, Outcome};

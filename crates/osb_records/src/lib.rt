@@ -22,5 +22,3 @@ mod writing;
 pub use fault::StoreFault;
 pub use records::{Records, open_memory};
 
-#[cfg(test)]
-mod tests;

@@ -11,5 +11,3 @@ pub use changes::committed_and_restarted;
 pub use requests::handled_and_restarted;
 pub use restart::restarted;
 
-#[cfg(test)]
-mod tests;

@@ -15,5 +15,3 @@ pub use read::{Read, view_by};
 pub use row::{BindingEdit, InstanceRow};
 pub use written::order_written;
 
-#[cfg(test)]
-mod tests;

@@ -1,0 +1,12 @@
+//! TCP connections, one after the other, answered from one broker over a database file.
+#![tactic(auto)]
+
+mod fault;
+mod file;
+mod listen;
+mod stream;
+
+pub use fault::ListenFault;
+pub use file::serve_file;
+pub use listen::{Place, serve_listener};
+pub use stream::serve_stream;
