@@ -10,4 +10,3 @@ mod restart;
 pub use changes::committed_and_restarted;
 pub use requests::handled_and_restarted;
 pub use restart::restarted;
-
