@@ -12,4 +12,3 @@ mod worded;
 pub use audit::are_rows_of_lives;
 pub use entry::BindingEntry;
 pub use plans::plans_in_use;
-

@@ -4,4 +4,3 @@
 mod file;
 
 pub use file::open_file;
-

@@ -21,4 +21,3 @@ mod writing;
 
 pub use fault::StoreFault;
 pub use records::{Records, open_memory};
-

@@ -14,4 +14,3 @@ pub use instance::{instance_row_after, is_failed_deletion};
 pub use read::{Read, view_by};
 pub use row::{BindingEdit, InstanceRow};
 pub use written::order_written;
-
