@@ -1,11 +1,13 @@
 # make        builds ./osb-broker
 # make run    builds it and serves 127.0.0.1:8080 with the settings of examples/settings.json, over the
 #             database osb-broker.db in the working folder
-# make test   is the whole gate: every proof from nothing, then the built program tried from outside
+# make test   is the whole gate: every proof from nothing, edits that must be refused, and then the built
+#             program tried from outside
+# make edits  tries the edits of crates/*/edits, over what the gate or rt check left
 
 RT ?= rt
 
-.PHONY: all run test clean FORCE
+.PHONY: all run test edits clean FORCE
 
 all: osb-broker
 
@@ -21,6 +23,7 @@ run: osb-broker
 # What is tried from outside is the program that rt ci proved and linked.
 test:
 	$(RT) ci
+	python3 tests/edits.py osb_orders osb_audit
 	cp crates/osb_program/out/osb_program osb-broker
 	python3 tests/program.py ./osb-broker
 	python3 tests/served.py ./osb-broker
@@ -28,6 +31,9 @@ test:
 	python3 tests/killed.py ./osb-broker
 	python3 tests/refused.py ./osb-broker
 	python3 tests/readme.py ./osb-broker
+
+edits:
+	python3 tests/edits.py
 
 clean:
 	rm -rf osb-broker crates/*/out

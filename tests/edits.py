@@ -1,0 +1,227 @@
+"""Tries edits that must be refused: wrong bodies, each of which the prover has to refuse in the function
+that the edit names.
+
+    python3 tests/edits.py [CRATE ..]
+
+An edit is a file crates/CRATE/edits/NAME.edit: the function that must be refused, and then texts of
+its files and what is put in their place.
+
+    refused: route::route_at
+    file: src/route.rt
+    old: Some(Route::Provision(id))
+    new: Some(Route::Update(id))
+
+`rt ci` has proved every function just before, so here each other function of the crate is taken at its
+word: its proof is a hole, and the edited function alone is checked against what the others promise. That
+takes seconds, where an edit under must-fail/ costs a check of the whole crate. First the functions are
+checked as they are, and have to pass. Then edits of several files are tried in one check, no two of one
+file, and one whose function calls another of these is tried alone."""
+
+import concurrent.futures
+import os
+import pathlib
+import re
+import shutil
+import subprocess
+import sys
+import tempfile
+
+ROOT = pathlib.Path(__file__).resolve().parent.parent
+KIT = pathlib.Path(subprocess.run(["rt", "doc"], stdout=subprocess.PIPE, text=True, check=True).stdout.strip()).parent
+
+
+def libraries():
+    """The lines of crates.txt: each crate's name, and the libraries that it uses."""
+    lines = (ROOT / "crates.txt").read_text().splitlines()
+    return {name: used.split() for name, _, used in (line.partition(":") for line in lines)}
+
+
+LIBRARIES = libraries()
+
+
+def below(crate):
+    """The repository's crates below one."""
+    found = []
+    for name in LIBRARIES[crate]:
+        if name in LIBRARIES:
+            found += [it for it in [*below(name), name] if it not in found]
+    return found
+
+
+def rlib(crate):
+    return ROOT / "crates" / crate / "out" / "rlib" / f"{crate}.rlib"
+
+
+def command(crate, functions, kept):
+    """The check of these functions of a crate, past holes."""
+    words = [str(KIT / "bin" / "rattle"), "check", "--crate-name", crate, "src/lib.rt"]
+    for name in ["std", *LIBRARIES[crate]]:
+        words += ["--extern", f"{name}={rlib(name) if name in LIBRARIES else KIT / 'rlibs' / f'{name}.rlib'}"]
+    for folder in [KIT / "rlibs", *(rlib(name).parent for name in below(crate))]:
+        words += ["-L", f"dependency={folder}"]
+    words += ["--antt-project", str(KIT / "rattle" / "logic" / "antt-project.json")]
+    words += ["--logic-built", str(KIT / "logic_built"), "--links", f"{crate}=", "--jobs", "1"]
+    words += ["--incremental", kept, "--empty-contracts", "--allow-holes"]
+    for function in functions:
+        words += ["--only", function]
+    return words
+
+
+FUNCTION = re.compile(r"^( *)(?:pub(?:\([a-z]+\))? )?(?:const )?fn (\w+)")
+METHODS = re.compile(r"^impl(?:<.*?>)? (\w+)(?:<.*>)? \{$")
+TYPE = re.compile(r"^(?:pub(?:\([a-z]+\))? )?(?:struct|enum) (\w+)", re.M)
+
+
+def modules(folder):
+    """The modules of a crate's source, each with its text."""
+    for file in sorted((folder / "src").rglob("*.rt")):
+        module = list(file.relative_to(folder / "src").with_suffix("").parts)
+        yield [] if module == ["lib"] else module, file.read_text()
+
+
+def functions(folder):
+    """The functions and methods of a crate's source, without those of traits, as a check names them: a
+    method by the module that its type stands in."""
+    owners = {name: [*module, name] for module, text in modules(folder) for name in TYPE.findall(text)}
+    for module, text in modules(folder):
+        owner = module
+        for line in text.splitlines():
+            if line.startswith(("impl", "trait", "pub trait", "mod ")):
+                methods = METHODS.match(line)
+                owner = owners.get(methods.group(1)) if methods else None
+            elif line == "}":
+                owner = module
+            found = FUNCTION.match(line)
+            if found and owner is not None and len(found.group(1)) == (0 if owner is module else 4):
+                yield [*owner, found.group(2)]
+
+
+def take_at_its_word(folder, crate, function):
+    """Puts a hole in the place of a function's proof."""
+    proofs = folder.joinpath("proofs", *function)
+    proofs.mkdir(parents=True, exist_ok=True)
+    for name in ("Answers.antt", "Invariants.antt"):
+        (proofs / name).unlink(missing_ok=True)
+    path, name = ".".join(function), function[-1]
+    (proofs / "Proof.antt").write_text(
+        f"use Rattle.{crate}.proofs.{path}.Statement.{{statement}}\n\n"
+        f"pub {name}_spec : {{M : Type 1}} → statement M\n{name}_spec = ?\n"
+    )
+
+
+class Edit:
+    """A wrong text, and the function that must be refused with it."""
+
+    def __init__(self, path):
+        self.crate, self.name = path.parent.parent.name, path.stem
+        self.refused, self.pairs = "", []
+        for line in path.read_text().splitlines():
+            key, _, said = line.partition(":")
+            said = said.removeprefix(" ")
+            if key == "refused":
+                self.refused = said
+            elif key == "file":
+                file = said
+            elif key == "old":
+                old = said
+            elif key == "new":
+                self.pairs.append((file, old, said))
+            elif line:
+                raise SystemExit(f"{self.crate}/{self.name}: a line that is none of an edit: {line}")
+
+    def files(self):
+        return {file for file, _, _ in self.pairs}
+
+    def apply(self, folder):
+        """Puts the new texts in the place of the old ones."""
+        for name, old, new in self.pairs:
+            file = folder / name
+            text = file.read_text()
+            if text.count(old) != 1:
+                raise SystemExit(f"{self.crate}/{self.name}: {name} has the old text {text.count(old)} times: {old}")
+            file.write_text(text.replace(old, new))
+
+
+def batches(edits):
+    """The edits, in as few lists as can be with no file twice in one."""
+    made = []
+    for edit in edits:
+        batch = next((it for it in made if all(edit.files().isdisjoint(other.files()) for other in it)), None)
+        if batch is None:
+            made.append([edit])
+        else:
+            batch.append(edit)
+    return made
+
+
+def check(crate, names, edits, kept):
+    """What the check of these functions says of each function, and all that it printed."""
+    with tempfile.TemporaryDirectory() as room:
+        folder = pathlib.Path(room)
+        for part in ("src", "specs", "proofs"):
+            if (ROOT / "crates" / crate / part).is_dir():
+                shutil.copytree(ROOT / "crates" / crate / part, folder / part)
+        for function in functions(folder):
+            if "::".join(function) not in names:
+                take_at_its_word(folder, crate, function)
+        for edit in edits:
+            edit.apply(folder)
+        words = command(crate, sorted(names), kept)
+        ran = subprocess.run(words, cwd=room, stdin=subprocess.DEVNULL, stdout=subprocess.PIPE, stderr=subprocess.STDOUT, text=True)
+    found = re.findall(rf"^fn {crate}::(\S+): (.*)$", ran.stdout, re.M)
+    return dict(found), ran.stdout
+
+
+def passes(told):
+    """Whether a function meets its contract, as far as its own text goes."""
+    return told.startswith(("no holes", "depends on a hole"))
+
+
+def is_refused(told):
+    """Whether a goal of the function itself is open."""
+    return told.startswith("not proved") or told.startswith("no proof") and "did not prove" in told
+
+
+def try_batch(crate, batch, kept):
+    """The edits of a batch that weren't refused, with what was said of their functions."""
+    names = {edit.refused for edit in batch}
+    said, text = check(crate, names, batch, kept)
+    errors = [line for line in text.splitlines() if ": error" in line][:3]
+    wrong = []
+    for edit in batch:
+        told = said.get(edit.refused, "nothing is said of it")
+        if any(f"`{crate}::{other}`" in told for other in names - {edit.refused}):
+            wrong += try_batch(crate, [edit], kept)
+        elif not is_refused(told):
+            wrong.append("\n".join([f"{crate}/{edit.name}: {edit.refused}: {told[:300]}", *errors]))
+    return wrong
+
+
+def try_crate(crate, edits):
+    """The edits of a crate that weren't refused, and its functions that don't pass without them."""
+    with tempfile.TemporaryDirectory() as kept:
+        names = {edit.refused for edit in edits}
+        said, _ = check(crate, names, [], kept)
+        told = {name: said.get(name, "nothing is said of it") for name in sorted(names)}
+        wrong = [f"{crate}: {name} without an edit: {it[:300]}" for name, it in told.items() if not passes(it)]
+        for batch in batches(edits):
+            wrong += try_batch(crate, batch, kept)
+    print(f"{crate}: {len(edits)} edits, {len(wrong)} faults", flush=True)
+    return wrong
+
+
+def main():
+    crates = sys.argv[1:] or list(LIBRARIES)
+    edits = {crate: [Edit(it) for it in sorted((ROOT / "crates" / crate / "edits").glob("*.edit"))] for crate in crates}
+    edits = {crate: found for crate, found in edits.items() if found}
+    with concurrent.futures.ThreadPoolExecutor(len(os.sched_getaffinity(0))) as pool:
+        results = [pool.submit(try_crate, crate, found) for crate, found in edits.items()]
+    wrong = [line for result in results for line in result.result()]
+    print(*wrong, sep="\n")
+    tried = sum(len(found) for found in edits.values())
+    print(f"edits: {tried} tried, {len(wrong)} faults")
+    return 1 if wrong or not tried else 0
+
+
+if __name__ == "__main__":
+    sys.exit(main())
