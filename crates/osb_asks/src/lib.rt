@@ -21,6 +21,8 @@ mod reading;
 mod route;
 mod segment;
 mod target;
+#[cfg(test)]
+mod tests;
 mod version;
 
 pub use ask::{

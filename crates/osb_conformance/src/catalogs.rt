@@ -5,7 +5,7 @@ use std::alloc::Global;
 use std::test::Fail;
 
 /// The settings of that text.
-pub(crate) fn settings_of(alloc: Global, text: &str) -> Result<Settings, Fail> {
+fn settings_of(alloc: Global, text: &str) -> Result<Settings, Fail> {
     Ok(Settings::read(alloc, text.as_bytes())?)
 }
 

@@ -8,8 +8,6 @@
 #[cfg(test)]
 mod adopting;
 #[cfg(test)]
-mod asks;
-#[cfg(test)]
 mod audited;
 #[cfg(test)]
 mod beside;
@@ -37,8 +35,6 @@ mod rooms;
 mod rows;
 #[cfg(test)]
 mod serving;
-#[cfg(test)]
-mod settings;
 #[cfg(test)]
 mod sockets;
 #[cfg(test)]

@@ -1,5 +1,5 @@
 use super::{BACKEND, PLATFORM, add, request, settings};
-use osb_asks::{Ask, AskFault, Id, ObjectText, read_ask};
+use crate::{Ask, AskFault, Id, ObjectText, read_ask};
 use osb_frames::{Limits, Request, Step, next};
 use osb_text::Text;
 use std::alloc::{AllocError, Global};

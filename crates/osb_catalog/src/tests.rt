@@ -2,7 +2,7 @@ mod contents;
 mod faults;
 mod fields;
 
-use osb_catalog::{BUILT_IN, Settings};
+use crate::{BUILT_IN, Settings};
 use std::alloc::Global;
 use std::process::Abort;
 use std::test::Fail;

@@ -1,5 +1,5 @@
 use super::{Case, fault_of, tells_faults, tells_first_faults};
-use osb_catalog::{Field, SettingsFault};
+use crate::{Field, SettingsFault};
 use std::test::Fail;
 
 #[test]

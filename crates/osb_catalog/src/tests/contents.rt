@@ -1,5 +1,5 @@
 use super::{Case, changed};
-use osb_catalog::{BUILT_IN, Settings};
+use crate::{BUILT_IN, Settings};
 use std::alloc::Global;
 use std::process::Abort;
 use std::test::Fail;
