@@ -3,7 +3,7 @@
 #             database osb-broker.db in the working folder
 # make test   is the whole gate: every proof from nothing, edits that must be refused, and then the built
 #             program tried from outside
-# make edits  tries the edits of crates/*/edits, over what the gate or rt check left
+# make edits  tries all edits of crates/*/edits, over the libraries that the gate or rt check left
 
 RT ?= rt
 
@@ -23,7 +23,6 @@ run: osb-broker
 # What is tried from outside is the program that rt ci proved and linked.
 test:
 	$(RT) ci
-	python3 tests/edits.py osb_orders osb_audit
 	cp crates/osb_program/out/osb_program osb-broker
 	python3 tests/program.py ./osb-broker
 	python3 tests/served.py ./osb-broker
@@ -31,6 +30,7 @@ test:
 	python3 tests/killed.py ./osb-broker
 	python3 tests/refused.py ./osb-broker
 	python3 tests/readme.py ./osb-broker
+	python3 tests/edits.py osb_orders osb_standing osb_audit osb_machine osb_records osb_broker
 
 edits:
 	python3 tests/edits.py

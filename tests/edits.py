@@ -14,8 +14,8 @@ its files and what is put in their place.
 `rt ci` has proved every function just before, so here each other function of the crate is taken at its
 word: its proof is a hole, and the edited function alone is checked against what the others promise. That
 takes seconds, where an edit under must-fail/ costs a check of the whole crate. First the functions are
-checked as they are, and have to pass. Then edits of several files are tried in one check, no two of one
-file, and one whose function calls another of these is tried alone."""
+checked as they are, and have to pass. Then edits of several functions are tried in one check, and those
+whose functions call others of these are tried again without them."""
 
 import concurrent.futures
 import os
@@ -129,9 +129,6 @@ class Edit:
             elif line:
                 raise SystemExit(f"{self.crate}/{self.name}: a line that is none of an edit: {line}")
 
-    def files(self):
-        return {file for file, _, _ in self.pairs}
-
     def apply(self, folder):
         """Puts the new texts in the place of the old ones."""
         for name, old, new in self.pairs:
@@ -142,11 +139,19 @@ class Edit:
             file.write_text(text.replace(old, new))
 
 
+def clash(edit, other):
+    """Whether two edits can't stand in one text: they are of one function, or what one looks for is put in by the
+    other."""
+    pairs = [(one, another) for one in edit.pairs for another in other.pairs if one[0] == another[0]]
+    mixed = any(old in put or looked in new for (_, old, new), (_, looked, put) in pairs)
+    return edit.refused == other.refused or mixed
+
+
 def batches(edits):
-    """The edits, in as few lists as can be with no file twice in one."""
+    """The edits, in few lists of which no two clash."""
     made = []
     for edit in edits:
-        batch = next((it for it in made if all(edit.files().isdisjoint(other.files()) for other in it)), None)
+        batch = next((it for it in made if not any(clash(edit, other) for other in it)), None)
         if batch is None:
             made.append([edit])
         else:
@@ -187,14 +192,15 @@ def try_batch(crate, batch, kept):
     names = {edit.refused for edit in batch}
     said, text = check(crate, names, batch, kept)
     errors = [line for line in text.splitlines() if ": error" in line][:3]
-    wrong = []
+    wrong, again = [], []
     for edit in batch:
         told = said.get(edit.refused, "nothing is said of it")
         if any(f"`{crate}::{other}`" in told for other in names - {edit.refused}):
-            wrong += try_batch(crate, [edit], kept)
+            again.append(edit)
         elif not is_refused(told):
             wrong.append("\n".join([f"{crate}/{edit.name}: {edit.refused}: {told[:300]}", *errors]))
-    return wrong
+    parts = [again] if len(again) < len(batch) else [[edit] for edit in again]
+    return wrong + [line for part in parts if part for line in try_batch(crate, part, kept)]
 
 
 def try_crate(crate, edits):

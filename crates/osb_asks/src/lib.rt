@@ -21,8 +21,6 @@ mod reading;
 mod route;
 mod segment;
 mod target;
-#[cfg(test)]
-mod tests;
 mod version;
 
 pub use ask::{

@@ -23,8 +23,6 @@ mod reading;
 mod settings;
 mod shown;
 mod table;
-#[cfg(test)]
-mod tests;
 mod version;
 
 pub use built_in::BUILT_IN;

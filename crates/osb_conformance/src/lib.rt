@@ -6,10 +6,6 @@
 #![tactic(auto)]
 
 #[cfg(test)]
-mod adopting;
-#[cfg(test)]
-mod audited;
-#[cfg(test)]
 mod beside;
 #[cfg(test)]
 mod catalogs;
@@ -20,11 +16,7 @@ mod connections;
 #[cfg(test)]
 mod exchange;
 #[cfg(test)]
-mod files;
-#[cfg(test)]
 mod phases;
-#[cfg(test)]
-mod plain;
 #[cfg(test)]
 mod replies;
 #[cfg(test)]
@@ -40,6 +32,8 @@ mod sockets;
 #[cfg(test)]
 mod standing;
 #[cfg(test)]
-mod standing_rows;
+mod stops;
 #[cfg(test)]
 mod stored;
+#[cfg(test)]
+mod whole;

@@ -8,7 +8,7 @@ use osb_broker::{Broker, Buffer};
 use osb_catalog::Settings;
 use osb_frames::{Counted, Limits};
 use osb_records::{Records, open_memory};
-use sqlite::MemStore;
+use sqlite::{Alter, MemStore};
 use std::alloc::Global;
 use std::io::{self, Read};
 use std::test::Fail;
@@ -30,12 +30,12 @@ impl<'a> Read for Pieces<'a> {
 }
 
 /// A broker over these records.
-pub(crate) fn broker_over(
+pub(crate) fn broker_over<S: Alter + Drop>(
     alloc: Global,
     settings: &Settings,
-    records: Records<MemStore>,
+    records: Records<S>,
     per_connection: u32,
-) -> Result<Broker<'_, MemStore>, Fail>
+) -> Result<Broker<'_, S>, Fail>
     requires some { 1 ≤ per_connection }
     requires few { per_connection ≤ 1000 }
 {
@@ -74,7 +74,11 @@ fn output_of(
 }
 
 /// Fails where one of these replies is another.
-fn are_replies(alloc: Global, exchanges: &[Exchange], outputs: &[Vec<u8>]) -> Result<(), Fail> {
+pub(crate) fn are_replies(
+    alloc: Global,
+    exchanges: &[Exchange],
+    outputs: &[Vec<u8>],
+) -> Result<(), Fail> {
     if outputs.len() != exchanges.len() {
         return Err("as many outputs as connections")?;
     }
@@ -88,17 +92,26 @@ fn are_replies(alloc: Global, exchanges: &[Exchange], outputs: &[Vec<u8>]) -> Re
     Ok(())
 }
 
-/// Fails where the broker answers one of these exchanges otherwise.
-pub(crate) fn goes_on(
+/// What the broker writes to the connections of these exchanges.
+pub(crate) fn outputs_to<S: Alter>(
     alloc: Global,
-    broker: &mut Broker<'_, MemStore>,
+    broker: &mut Broker<'_, S>,
     exchanges: &[Exchange],
-) -> Result<(), Fail> {
+) -> Result<Vec<Vec<u8>>, Fail> {
     let mut connections = Vec::new(alloc);
     for (line, body, _, _) in exchanges {
         connections.push(request(alloc, line, body)?)?;
     }
-    let outputs = broker.serve_all(connections.as_slice())?;
+    Ok(broker.serve_all(connections.as_slice())?)
+}
+
+/// Fails where the broker answers one of these exchanges otherwise.
+pub(crate) fn goes_on<S: Alter>(
+    alloc: Global,
+    broker: &mut Broker<'_, S>,
+    exchanges: &[Exchange],
+) -> Result<(), Fail> {
+    let outputs = outputs_to(alloc, broker, exchanges)?;
     are_replies(alloc, exchanges, outputs.as_slice())
 }
 
@@ -113,16 +126,26 @@ pub(crate) fn goes_over(
     goes_on(alloc, &mut broker, exchanges)
 }
 
-/// The records after an exchange, and a failure where it goes otherwise.
+/// The records after these exchanges, and a failure where one goes otherwise.
+pub(crate) fn after_all<S: Alter + Drop>(
+    alloc: Global,
+    settings: &Settings,
+    records: Records<S>,
+    exchanges: &[Exchange],
+) -> Result<Records<S>, Fail> {
+    let mut broker = broker_over(alloc, settings, records, 1)?;
+    goes_on(alloc, &mut broker, exchanges)?;
+    Ok(broker.into_records())
+}
+
+/// The same after one exchange.
 pub(crate) fn after(
     alloc: Global,
     settings: &Settings,
     records: Records<MemStore>,
     exchange: Exchange,
 ) -> Result<Records<MemStore>, Fail> {
-    let mut broker = broker_over(alloc, settings, records, 1)?;
-    goes_on(alloc, &mut broker, &[exchange])?;
-    Ok(broker.into_records())
+    after_all(alloc, settings, records, &[exchange])
 }
 
 /// The same over the built-in settings.

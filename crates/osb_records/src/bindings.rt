@@ -8,7 +8,14 @@ ghost use Rattle.sqlite.specs.declared.error.Error.TheVariants as fault;
 ghost use Rattle.sqlite.specs.declared.error.ErrorCode.TheVariants as code;
 ghost use Rattle.sqlite.specs.Effect.{IsDatabase};
 ghost use Rattle.sqlite_keyed.specs.Lists.{insert_sorted, update_where, delete_where};
+ghost use Rattle.std.specs.FinMap.{get};
+ghost use Rattle.osb_orders.specs.declared.order.Change.{Change};
 ghost use Rattle.osb_orders.specs.declared.view.BindingNow.{BindingNow};
+ghost use Rattle.osb_orders.specs.Changed.{changed};
+ghost use Rattle.osb_orders.specs.Life.{Life};
+ghost use Rattle.osb_standing.specs.Binding.{edited};
+ghost use Rattle.osb_standing.specs.Rows.{bindings_of};
+ghost use Rattle.osb_standing.specs.Written.{IsWritten};
 ghost use Rattle.osb_standing.specs.declared.row.BindingEdit.TheVariants.{Put};
 ghost use Rattle.osb_records.specs.Bindings as spec;
 ghost use Rattle.osb_audit.specs.Bindings.{binding_cmp, binding_entry, is_binding, is_bound};
@@ -243,6 +250,20 @@ fn apply_edit<S: Alter>(
     }
 }
 
+/// What the order does to the row of the binding that it is about, and whether that row is there.
+fn edit_from(
+    alloc: Global,
+    order: &Order,
+    old: Option<BindingNow>,
+) -> Result<(bool, BindingEdit), StoreFault>
+    ensures had { IfOk result (λ found. found.0 ≡ is_some old) }
+    ensures follows { (life : Life) (change : Change) → IsWritten life change order.now → old ≡ get (bindings_of life) order.now.binding →
+        IfOk result (λ found. bindings_of (changed change life) ≡ edited found.1 order.now.binding (bindings_of life)) }
+{
+    let edit = binding_edit(alloc, order, old.as_ref())?;
+    Ok((old.is_some(), edit))
+}
+
 /// Lets the row of the binding that the order is about follow it.
 fn write_binding<S: Alter>(
     tx: &mut Transaction<'_, S>,
@@ -258,8 +279,8 @@ fn write_binding<S: Alter>(
 {
     let binding = order.binding.as_str();
     let old = read_binding(tx, alloc, instance, binding)?;
-    let edit = binding_edit(alloc, order, old.as_ref())?;
-    apply_edit(tx, instance, binding, old.is_some(), &edit)?;
+    let (had, edit) = edit_from(alloc, order, old)?;
+    apply_edit(tx, instance, binding, had, &edit)?;
     Ok(())
 }
 

@@ -36,10 +36,7 @@ fn all_instances<S: Alter>(
 fn count(instances: &[(Text, InstanceRow)]) -> Result<u32, StoreFault>
     ensures { IfOk result (λ count. count ≡ length instances.now) }
 {
-    match u32::try_from(instances.len()) {
-        Ok(count) => Ok(count),
-        Err(_) => Err(StoreFault::Refused),
-    }
+    u32::try_from(instances.len()).map_err(|_| StoreFault::Refused)
 }
 
 fn list_plans<S: Alter>(

@@ -1,8 +1,8 @@
 use crate::{
-    ObjectRef, Text, TextFault, compact_text, has_no_controls, is_id, is_object_text, items, laws,
-    member, read_object,
+    Object, ObjectRef, Text, TextFault, compact_text, has_no_controls, is_id, is_object_text,
+    items, laws, member, read_object,
 };
-use std::alloc::Global;
+use std::alloc::{AllocError, Global};
 use std::cmp::Ordering;
 use std::test::Fail;
 
@@ -140,75 +140,137 @@ fn nests_127_deep(rt: HostRuntime) -> Result<(), Fail> {
 const EACH_KIND: &str =
     "{\"null\":null,\"flag\":true,\"whole\":18446744073709551615,\"negative\":-1,\"text\":\"é\",\"list\":[1,{\"k\":false},{}],\"object\":{\"k\":null,\"inner\":{\"n\":5}}}";
 
+fn has_each_kind(object: &Object) -> bool {
+    object.text("text") == Ok(Some("é"))
+        && object.flag("flag") == Ok(Some(true))
+        && object.whole("whole") == Ok(Some(18446744073709551615))
+        && matches!(object.list("list"), Ok(Some(_)))
+        && matches!(object.object("object"), Ok(Some(_)))
+}
+
 #[test]
 fn looks_up_each_kind(rt: HostRuntime) -> Result<(), Fail> {
-    let alloc = rt.alloc();
-    let object = read_object(alloc, EACH_KIND.as_bytes())?;
-    assert_eq!(rt; object.text("text"), Ok(Some("é")));
-    assert_eq!(rt; object.flag("flag"), Ok(Some(true)));
-    assert_eq!(rt; object.whole("whole"), Ok(Some(18446744073709551615)));
-    assert_eq!(rt; object.list("list")?.ok_or("a list")?.len(), 3);
-    let inner = object.object("object")?.ok_or("an object")?;
-    assert_eq!(rt;
-        inner.compact(alloc)?.as_str(),
-        "{\"inner\":{\"n\":5},\"k\":null}"
-    );
+    let object = read_object(rt.alloc(), EACH_KIND.as_bytes())?;
+    assert!(rt; has_each_kind(&object));
+    Ok(())
+}
+
+/// The compact text of the object of that name.
+fn inner_text(alloc: Global, object: &Object, name: &str) -> Result<String, Fail> {
+    let inner = object.object(name)?.ok_or("an object")?;
+    Ok(inner.compact(alloc)?)
+}
+
+#[test]
+fn compacts_inner_objects(rt: HostRuntime) -> Result<(), Fail> {
+    let object = read_object(rt.alloc(), EACH_KIND.as_bytes())?;
+    let text = inner_text(rt.alloc(), &object, "object")?;
+    assert_eq!(rt; text.as_str(), "{\"inner\":{\"n\":5},\"k\":null}");
+    Ok(())
+}
+
+/// Whether nothing but null stands under that name.
+fn is_absent(object: &Object, name: &str) -> bool {
+    object.text(name) == Ok(None)
+        && object.flag(name) == Ok(None)
+        && object.whole(name) == Ok(None)
+        && matches!(object.list(name), Ok(None))
+        && matches!(object.object(name), Ok(None))
+}
+
+#[test]
+fn null_and_absent_members_are_none(rt: HostRuntime) -> Result<(), Fail> {
+    let object = read_object(rt.alloc(), EACH_KIND.as_bytes())?;
     for name in ["null", "absent", "", "Text"] {
-        assert_eq!(rt; object.text(name), Ok(None), "at {name}");
-        assert_eq!(rt; object.flag(name), Ok(None), "at {name}");
-        assert_eq!(rt; object.whole(name), Ok(None), "at {name}");
-        assert!(rt; object.list(name)?.is_none());
-        assert!(rt; object.object(name)?.is_none());
-    }
-    for name in ["flag", "whole", "negative", "text", "list", "object"] {
-        let wrong = Some(TextFault::WrongKind);
-        assert!(rt;
-            name == "text" || object.text(name).err() == wrong,
-            "at {name}"
-        );
-        assert!(rt;
-            name == "flag" || object.flag(name).err() == wrong,
-            "at {name}"
-        );
-        assert!(rt;
-            name == "whole" || object.whole(name).err() == wrong,
-            "at {name}"
-        );
-        assert!(rt;
-            name == "list" || object.list(name).err() == wrong,
-            "at {name}"
-        );
-        assert!(rt;
-            name == "object" || object.object(name).err() == wrong,
-            "at {name}"
-        );
+        assert!(rt; is_absent(&object, name), "at {name}");
     }
     Ok(())
 }
 
+/// Whether each look-up for another kind than that of its name answers that the kind is wrong.
+fn is_of_its_kind_alone(object: &Object, name: &str) -> bool {
+    let wrong = Some(TextFault::WrongKind);
+    (name == "text" || object.text(name).err() == wrong)
+        && (name == "flag" || object.flag(name).err() == wrong)
+        && (name == "whole" || object.whole(name).err() == wrong)
+        && (name == "list" || object.list(name).err() == wrong)
+        && (name == "object" || object.object(name).err() == wrong)
+}
+
+#[test]
+fn tells_wrong_kinds(rt: HostRuntime) -> Result<(), Fail> {
+    let object = read_object(rt.alloc(), EACH_KIND.as_bytes())?;
+    for name in ["flag", "whole", "negative", "text", "list", "object"] {
+        assert!(rt; is_of_its_kind_alone(&object, name), "at {name}");
+    }
+    Ok(())
+}
+
+fn is_each_kind(borrowed: &ObjectRef<'_>) -> bool {
+    borrowed.text("text") == Ok(Some("é"))
+        && borrowed.text("flag") == Err(TextFault::WrongKind)
+        && borrowed.flag("flag") == Ok(Some(true))
+        && borrowed.flag("null") == Ok(None)
+        && borrowed.whole("negative") == Err(TextFault::WrongKind)
+        && borrowed.whole("whole") == Ok(Some(18446744073709551615))
+        && borrowed.list("object").is_err()
+        && borrowed.object("list").is_err()
+        && member(borrowed.value(), "text").is_some()
+}
+
 #[test]
 fn looks_into_borrowed_objects(rt: HostRuntime) -> Result<(), Fail> {
-    let alloc = rt.alloc();
-    let object = read_object(alloc, EACH_KIND.as_bytes())?;
-    let borrowed = object.as_object_ref();
-    assert_eq!(rt; borrowed.text("text"), Ok(Some("é")));
-    assert_eq!(rt; borrowed.text("flag"), Err(TextFault::WrongKind));
-    assert_eq!(rt; borrowed.flag("flag"), Ok(Some(true)));
-    assert_eq!(rt; borrowed.flag("null"), Ok(None));
-    assert_eq!(rt; borrowed.whole("negative"), Err(TextFault::WrongKind));
-    assert_eq!(rt; borrowed.whole("whole"), Ok(Some(18446744073709551615)));
-    assert_eq!(rt; borrowed.list("list")?.ok_or("a list")?.len(), 3);
-    assert!(rt; borrowed.list("object").is_err());
-    let inner = borrowed.object("object")?.ok_or("an object")?;
-    let innermost = inner.object("inner")?.ok_or("an object")?;
-    assert_eq!(rt; innermost.whole("n"), Ok(Some(5)));
-    assert!(rt; inner.object("k")?.is_none());
-    assert!(rt; borrowed.object("list").is_err());
-    assert_eq!(rt;
-        borrowed.compact(alloc)?.as_str(),
-        object.compact(alloc)?.as_str()
-    );
-    assert!(rt; member(innermost.value(), "n").is_some());
+    let object = read_object(rt.alloc(), EACH_KIND.as_bytes())?;
+    assert!(rt; is_each_kind(&object.as_object_ref()));
+    Ok(())
+}
+
+/// How many items the list of that name has.
+fn items_of(object: &ObjectRef<'_>, name: &str) -> Result<usize, Fail> {
+    let list = object.list(name)?.ok_or("a list")?;
+    Ok(list.len())
+}
+
+#[test]
+fn looks_into_lists(rt: HostRuntime) -> Result<(), Fail> {
+    let object = read_object(rt.alloc(), EACH_KIND.as_bytes())?;
+    let items = items_of(&object.as_object_ref(), "list")?;
+    assert_eq!(rt; items, 3);
+    Ok(())
+}
+
+/// The object of that name in another.
+fn inner<'a>(object: &ObjectRef<'a>, name: &str) -> Result<ObjectRef<'a>, Fail> {
+    Ok(object.object(name)?.ok_or("an object")?)
+}
+
+/// The number in an object of an object of this one.
+fn innermost_number(object: &ObjectRef<'_>) -> Result<Option<u64>, Fail> {
+    let outer = inner(object, "object")?;
+    let innermost = inner(&outer, "inner")?;
+    Ok(innermost.whole("n")?)
+}
+
+#[test]
+fn looks_into_inner_objects(rt: HostRuntime) -> Result<(), Fail> {
+    let object = read_object(rt.alloc(), EACH_KIND.as_bytes())?;
+    let number = innermost_number(&object.as_object_ref())?;
+    assert_eq!(rt; number, Some(5));
+    assert!(rt; member(object.value(), "object").is_some());
+    Ok(())
+}
+
+/// Whether an object and what is borrowed of it have one compact text.
+fn is_compacted_alike(alloc: Global, object: &Object) -> Result<bool, TextFault> {
+    let compact = object.compact(alloc)?;
+    let borrowed = object.as_object_ref().compact(alloc)?;
+    Ok(borrowed.as_str() == compact.as_str())
+}
+
+#[test]
+fn compacts_borrowed_objects(rt: HostRuntime) -> Result<(), Fail> {
+    let object = read_object(rt.alloc(), EACH_KIND.as_bytes())?;
+    assert!(rt; is_compacted_alike(rt.alloc(), &object)?);
     Ok(())
 }
 
@@ -242,19 +304,41 @@ fn reads_values(rt: HostRuntime) -> Result<(), Fail> {
     Ok(())
 }
 
-#[test]
-fn keeps_texts(rt: HostRuntime) -> Result<(), Fail> {
-    let alloc = rt.alloc();
+/// A text of two pieces.
+fn two_pieces(alloc: Global) -> Result<Text, AllocError> {
     let mut text = Text::new(alloc);
-    assert!(rt; text.is_empty());
     text.push_str("é")?;
     text.push_str("a")?;
-    assert_eq!(rt; text.as_str(), "éa");
-    assert_eq!(rt; text.len(), 3);
-    assert!(rt; !text.is_empty());
-    assert!(rt; text.clone()? == Text::from_str(alloc, "éa")?);
-    assert!(rt; text != Text::from(String::from_str(alloc, "éb")?));
+    Ok(text)
+}
+
+fn is_the_same(text: &Text, other: &Text) -> bool {
+    text == other && text.as_str() == "éa" && text.len() == 3
+}
+
+#[test]
+fn keeps_texts(rt: HostRuntime) -> Result<(), Fail> {
+    let text = two_pieces(rt.alloc())?;
+    let copy = text.clone()?;
+    assert!(rt; is_the_same(&text, &copy));
     assert_eq!(rt; String::from(text).as_str(), "éa");
+    assert!(rt; Text::new(rt.alloc()).is_empty() && !copy.is_empty());
+    Ok(())
+}
+
+/// Whether the text stands in that order to another.
+fn stands(alloc: Global, text: &Text, other: &str, order: Ordering) -> Result<bool, AllocError> {
+    let other = Text::from_str(alloc, other)?;
+    let is_equal = order == Ordering::Equal;
+    Ok(
+        text.cmp(&other) == order
+            && text.partial_cmp(&other) == Some(order)
+            && (*text == other) == is_equal,
+    )
+}
+
+#[test]
+fn orders_texts(rt: HostRuntime) -> Result<(), Fail> {
     for (a, b, order) in [
         ("", "a", Ordering::Less),
         ("a", "a", Ordering::Equal),
@@ -262,9 +346,8 @@ fn keeps_texts(rt: HostRuntime) -> Result<(), Fail> {
         ("a", "B", Ordering::Greater),
         ("z", "é", Ordering::Less),
     ] {
-        let (left, right) = (Text::from_str(alloc, a)?, Text::from_str(alloc, b)?);
-        assert_eq!(rt; left.cmp(&right), order, "at {a}, {b}");
-        assert_eq!(rt; left.partial_cmp(&right), Some(order), "at {a}, {b}");
+        let text = Text::from_str(rt.alloc(), a)?;
+        assert!(rt; stands(rt.alloc(), &text, b, order)?, "at {a}, {b}");
     }
     Ok(())
 }

@@ -23,11 +23,17 @@ pub(super) fn shown(
 ) -> Result<View, AllocError>
     ensures { IfOk result (λ view. facts view ≡ record (facts_of life.now [] ask.now) { listing = listing.items }) }
 {
+    let view = shown_alone(alloc, ask, life)?;
+    Ok(View { listing, ..view })
+}
+
+/// The view of the life for the ask, with an empty listing.
+fn shown_alone(alloc: Global, ask: &Ask, life: &[Order]) -> Result<View, AllocError>
+    ensures { IfOk result (λ view. facts view ≡ record (facts_of life.now [] ask.now) { listing = [] }) }
+{
     let count = count_of(life)?;
-    let bound = has_bindings(life);
     let (standing, binding) = standings(alloc, ask, life)?;
-    let (named, subject_last) = polled(alloc, ask, life)?;
-    let last = last_of(life)?;
+    let (last, named, subject_last) = orders_shown(alloc, ask, life)?;
     Ok(View {
         standing,
         last,
@@ -35,9 +41,24 @@ pub(super) fn shown(
         named,
         subject_last,
         count,
-        bound,
-        listing,
+        bound: has_bindings(life),
+        listing: Vec::new(alloc),
     })
+}
+
+/// The last order, the one that the ask names, and the last of those that its poll is about.
+fn orders_shown(
+    alloc: Global,
+    ask: &Ask,
+    life: &[Order],
+) -> Result<(Option<Order>, Option<Order>, Option<Order>), AllocError>
+    ensures last { IfOk result (λ parts. parts.0 ≡ last_of life.now) }
+    ensures named { IfOk result (λ parts. parts.1 ≡ named_in ask.now life.now) }
+    ensures polled { IfOk result (λ parts. parts.2 ≡ last_of (subject ask.now life.now)) }
+{
+    let last = last_of(life)?;
+    let (named, polled) = polled(alloc, ask, life)?;
+    Ok((last, named, polled))
 }
 
 /// The instance, and the binding that the ask names.
@@ -73,10 +94,7 @@ fn polled(
 fn count_of(life: &[Order]) -> Result<u32, AllocError>
     ensures { IfOk result (λ count. count ≡ length life.now) }
 {
-    match u32::try_from(life.len()) {
-        Ok(count) => Ok(count),
-        Err(_) => Err(AllocError),
-    }
+    u32::try_from(life.len()).map_err(|_| AllocError)
 }
 
 fn named_binding(alloc: Global, ask: &Ask, life: &[Order]) -> Result<Option<BindingNow>, AllocError>

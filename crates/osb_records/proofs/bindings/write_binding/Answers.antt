@@ -22,7 +22,7 @@ returns-clause-ok g c clean live inside sound =
     let tables = subst HasTables now (c.requires (clean_before old mid _ c.read_binding.ensures.survives between) live) in
     let steps = rw (c.as_str-binding.ensures) at (c.in_ok-apply_edit.ensures.ok clean same.0.is_open (same.0.mode ∙ inside) (subst IsDatabase now sound)) in
     let row = (rw (c.as_str-binding.ensures) at (c.in_ok-old.ensures.ok between)) ∙ ap (λ (db : Database). binding_found id order.binding (bindings_in db.trees)) now in
-    follows_by old mid new id order c.in_ok-edit.edit same steps tables (λ life change w stands. c.in_ok-edit.ensures.follows life change w (c.as_ref.ensures.value ∙ row ∙ found_row id order.binding life (content mid).bindings stands))
+    follows_by old mid new id order c.in_ok-had.edit same steps tables (λ life change w stands. c.in_ok-had.ensures.follows life change w (row ∙ found_row id order.binding life (content mid).bindings stands))
 
 pub returns-clause-survives : goal.returns-clause-survives
 returns-clause-survives g c = survives_then _ _ _ (λ _. ⊥) (λ _. ⊥) (λ _. ⊥) (λ _ _ h. h) (λ _ _ h. h) c.read_binding.ensures.survives c.apply_edit.ensures.survives

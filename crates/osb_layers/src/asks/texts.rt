@@ -1,0 +1,97 @@
+use super::{Case, Reading, lines_for, told};
+use osb_asks::{AskFault, Id, ObjectText};
+use osb_text::Text;
+use std::alloc::{AllocError, Global};
+use std::process::Abort;
+use std::test::Fail;
+
+/// Whether the text is an id, and a copy of it is the same.
+fn is_kept_id(alloc: Global, text: &str) -> Result<bool, AllocError> {
+    let Some(id) = Id::new(Text::from_str(alloc, text)?) else {
+        return Ok(false);
+    };
+    let copy = id.clone()?;
+    Ok(copy == id && Text::from(copy).as_str() == text)
+}
+
+/// The same of texts of objects.
+fn is_kept_object(alloc: Global, text: &str) -> Result<bool, AllocError> {
+    let Some(object) = ObjectText::new(alloc, Text::from_str(alloc, text)?)? else {
+        return Ok(false);
+    };
+    let copy = object.clone()?;
+    Ok(copy == object && Text::from(copy).as_str() == text)
+}
+
+#[test]
+fn ids_and_objects(rt: HostRuntime) -> Result<(), Fail> {
+    let alloc = rt.alloc();
+    assert!(rt; is_kept_id(alloc, "a/b")? && !is_kept_id(alloc, "")?);
+    assert!(rt; !is_kept_id(alloc, "a\u{1}")? && !is_kept_id(alloc, "\u{9F}")?);
+    assert!(rt; is_kept_object(alloc, "{}")? && is_kept_object(alloc, r#"{"a":1,"b":{}}"#)?);
+    assert!(rt; !is_kept_object(alloc, "")? && !is_kept_object(alloc, "[]")?);
+    assert!(rt; !is_kept_object(alloc, r#"{"b":1,"a":1}"#)?);
+    assert!(rt; !is_kept_object(alloc, r#"{"a": 1}"#)? && !is_kept_object(alloc, r#"{"a":1.5}"#)?);
+    assert!(rt; ObjectText::empty(alloc)?.as_str() == "{}");
+    assert!(rt; AskFault::from(AllocError) == AskFault::Memory);
+    Ok(())
+}
+
+/// A method and a target, a body, and the instance and the binding that the ask is about.
+const SUBJECTS: [Case; 12] = [
+    ("GET /v2/catalog", "", "- -"),
+    (
+        "PUT /v2/service_instances/i",
+        r#"{"service_id":"svc","plan_id":"p-sync","organization_guid":"o","space_guid":"s"}"#,
+        "i -",
+    ),
+    ("GET /v2/service_instances/i", "", "i -"),
+    (
+        "PATCH /v2/service_instances/i",
+        r#"{"service_id":"svc"}"#,
+        "i -",
+    ),
+    (
+        "DELETE /v2/service_instances/i?service_id=svc&plan_id=p-sync",
+        "",
+        "i -",
+    ),
+    ("GET /v2/service_instances/i/last_operation", "", "i -"),
+    (
+        "PUT /v2/service_instances/i/service_bindings/b",
+        r#"{"service_id":"svc","plan_id":"p-sync"}"#,
+        "i b",
+    ),
+    ("GET /v2/service_instances/i/service_bindings/b", "", "i b"),
+    (
+        "DELETE /v2/service_instances/i/service_bindings/b?service_id=svc&plan_id=p-sync",
+        "",
+        "i b",
+    ),
+    (
+        "GET /v2/service_instances/i/service_bindings/b/last_operation",
+        "",
+        "i b",
+    ),
+    ("GET /backend/v1/orders?after=x", "", "- -"),
+    ("PUT /backend/v1/orders/i/1", r#"{"state":"failed"}"#, "i -"),
+];
+
+/// The instance and the binding that the request is about.
+fn subjects(alloc: Global, line: &str, body: &str) -> Result<String, Fail> {
+    let Reading { asked: _, subjects } = told(alloc, line, lines_for(line), body.as_bytes())?;
+    Ok(subjects)
+}
+
+fn tells_subjects(rt: &(impl Abort + AllocGlobal), cases: &[Case]) -> Result<(), Fail> {
+    for (line, body, expected) in cases {
+        let subjects = subjects(rt.alloc(), *line, *body)?;
+        assert!(rt; subjects.as_str() == *expected, "{line}: {subjects}");
+    }
+    Ok(())
+}
+
+#[test]
+fn subjects_of_asks(rt: HostRuntime) -> Result<(), Fail> {
+    tells_subjects(&rt, &SUBJECTS)
+}
