@@ -80,20 +80,22 @@ def modules(folder):
 
 
 def functions(folder):
-    """The functions and methods of a crate's source, without those of traits, as a check names them: a
-    method by the module that its type stands in."""
+    """The functions and methods of a crate's source, without those of traits and those of a cycle of calls,
+    which have one proof, as a check names them: a method by the module that its type stands in."""
     owners = {name: [*module, name] for module, text in modules(folder) for name in TYPE.findall(text)}
     for module, text in modules(folder):
-        owner = module
+        owner, of_cycle = module, False
         for line in text.splitlines():
+            of_cycle = of_cycle or line.strip().startswith("#[cycle(")
             if line.startswith(("impl", "trait", "pub trait", "mod ")):
                 methods = METHODS.match(line)
                 owner = owners.get(methods.group(1)) if methods else None
             elif line == "}":
                 owner = module
             found = FUNCTION.match(line)
-            if found and owner is not None and len(found.group(1)) == (0 if owner is module else 4):
+            if found and not of_cycle and owner is not None and len(found.group(1)) == (0 if owner is module else 4):
                 yield [*owner, found.group(2)]
+            of_cycle = of_cycle and not found
 
 
 def take_at_its_word(folder, crate, function):
@@ -182,9 +184,12 @@ def passes(told):
     return told.startswith(("no holes", "depends on a hole"))
 
 
-def is_refused(told):
-    """Whether a goal of the function itself is open."""
-    return told.startswith("not proved") or told.startswith("no proof") and "did not prove" in told
+def is_refused(crate, function, told):
+    """Whether a goal of the function itself is open: one that search didn't prove, or an answer of its own that
+    is refused. What it calls plays no part in either."""
+    own = f"Rattle.{crate}.proofs.{function.replace('::', '.')}."
+    is_open = told.startswith("no proof") and "did not prove" in told
+    return is_open or told.startswith("not proved; it stands on") and own in told.partition(";")[2]
 
 
 def try_batch(crate, batch, kept):
@@ -195,9 +200,11 @@ def try_batch(crate, batch, kept):
     wrong, again = [], []
     for edit in batch:
         told = said.get(edit.refused, "nothing is said of it")
+        if is_refused(crate, edit.refused, told):
+            continue
         if any(f"`{crate}::{other}`" in told for other in names - {edit.refused}):
             again.append(edit)
-        elif not is_refused(told):
+        else:
             wrong.append("\n".join([f"{crate}/{edit.name}: {edit.refused}: {told[:300]}", *errors]))
     parts = [again] if len(again) < len(batch) else [[edit] for edit in again]
     return wrong + [line for part in parts if part for line in try_batch(crate, part, kept)]
