@@ -3,7 +3,8 @@
 #             database osb-broker.db in the working folder
 # make test   is the whole gate: every proof from nothing, edits that must be refused, and then the built
 #             program tried from outside
-# make edits  tries all edits of crates/*/edits, over the libraries that the gate or rt check left
+# make edits  tries those edits alone, over the libraries that the gate or rt check left, and first that
+#             the functions that they name pass without them
 
 RT ?= rt
 
@@ -20,9 +21,10 @@ osb-broker: FORCE
 run: osb-broker
 	./osb-broker serve --settings examples/settings.json --database osb-broker.db --listen 127.0.0.1:8080
 
-# What is tried from outside is the program that rt ci proved and linked.
+# The edits run beside rt ci and behind it, two checks at once. With RT_JOBS, so does rt ci, each check with one
+# job: two jobs of one check are slower than one. What is tried from outside is the program that it linked.
 test:
-	$(RT) ci
+	RT_JOBS=2 python3 tests/edits.py --beside $(RT) ci
 	cp crates/osb_program/out/osb_program osb-broker
 	python3 tests/program.py ./osb-broker
 	python3 tests/served.py ./osb-broker
@@ -30,9 +32,9 @@ test:
 	python3 tests/killed.py ./osb-broker
 	python3 tests/refused.py ./osb-broker
 	python3 tests/readme.py ./osb-broker
-	python3 tests/edits.py osb_orders osb_standing osb_audit osb_machine osb_records osb_broker
 
 edits:
+	python3 tests/edits.py --unedited
 	python3 tests/edits.py
 
 clean:

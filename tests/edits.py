@@ -2,6 +2,11 @@
 that the edit names.
 
     python3 tests/edits.py [CRATE ..]
+    python3 tests/edits.py --beside rt ci
+
+The first tries the edits of these crates, or of all, over the libraries that `rt ci` or `rt check` left.
+The second runs a command that proves all crates, and tries each crate's edits beside it, behind its work,
+as soon as it tells that the libraries below that crate are proved.
 
 An edit is a file crates/CRATE/edits/NAME.edit: the function that must be refused, and then texts of
 its files and what is put in their place.
@@ -13,18 +18,21 @@ its files and what is put in their place.
 
 `rt ci` has proved every function just before, so here each other function of the crate is taken at its
 word: its proof is a hole, and the edited function alone is checked against what the others promise. That
-takes seconds, where an edit under must-fail/ costs a check of the whole crate. First the functions are
-checked as they are, and have to pass. Then edits of several functions are tried in one check, and those
-whose functions call others of these are tried again without them."""
+takes seconds, where an edit under must-fail/ costs a check of the whole crate. Edits of several functions
+are tried in one check. An edit counts as refused where a goal of its own function is open.
+
+    python3 tests/edits.py --unedited [CRATE ..]
+
+checks the functions that edits name as they are, past the same holes: each has to pass."""
 
 import concurrent.futures
-import os
 import pathlib
 import re
 import shutil
 import subprocess
 import sys
 import tempfile
+import threading
 
 ROOT = pathlib.Path(__file__).resolve().parent.parent
 KIT = pathlib.Path(subprocess.run(["rt", "doc"], stdout=subprocess.PIPE, text=True, check=True).stdout.strip()).parent
@@ -54,7 +62,7 @@ def rlib(crate):
 
 def command(crate, functions, kept):
     """The check of these functions of a crate, past holes."""
-    words = [str(KIT / "bin" / "rattle"), "check", "--crate-name", crate, "src/lib.rt"]
+    words = ["nice", "-n", "19", str(KIT / "bin" / "rattle"), "check", "--crate-name", crate, "src/lib.rt"]
     for name in ["std", *LIBRARIES[crate]]:
         words += ["--extern", f"{name}={rlib(name) if name in LIBRARIES else KIT / 'rlibs' / f'{name}.rlib'}"]
     for folder in [KIT / "rlibs", *(rlib(name).parent for name in below(crate))]:
@@ -210,30 +218,67 @@ def try_batch(crate, batch, kept):
     return wrong + [line for part in parts if part for line in try_batch(crate, part, kept)]
 
 
-def try_crate(crate, edits):
-    """The edits of a crate that weren't refused, and its functions that don't pass without them."""
+def try_crate(crate, edits, stands):
+    """The edits of a crate that weren't refused, tried once the libraries below it stand."""
+    for name in below(crate):
+        stands[name].wait()
     with tempfile.TemporaryDirectory() as kept:
-        names = {edit.refused for edit in edits}
-        said, _ = check(crate, names, [], kept)
-        told = {name: said.get(name, "nothing is said of it") for name in sorted(names)}
-        wrong = [f"{crate}: {name} without an edit: {it[:300]}" for name, it in told.items() if not passes(it)]
-        for batch in batches(edits):
-            wrong += try_batch(crate, batch, kept)
+        wrong = [line for batch in batches(edits) for line in try_batch(crate, batch, kept)]
     print(f"{crate}: {len(edits)} edits, {len(wrong)} faults", flush=True)
     return wrong
 
 
+def passes_unedited(crate, edits):
+    """The functions that a crate's edits name and that don't pass without them."""
+    names = {edit.refused for edit in edits}
+    with tempfile.TemporaryDirectory() as kept:
+        said, _ = check(crate, names, [], kept)
+    told = {name: said.get(name, "nothing is said of it") for name in sorted(names)}
+    return [f"{crate}: {name} without an edit: {it[:300]}" for name, it in told.items() if not passes(it)]
+
+
+def beside(words, stands):
+    """Runs a command, shows what it prints, and marks each library that it tells to be proved. Gives its status."""
+    with subprocess.Popen(words, stdout=subprocess.PIPE, text=True, errors="replace") as command:
+        for line in command.stdout:
+            print(line, end="", flush=True)
+            proved = re.fullmatch(r"rt: (\w+) proved\n", line)
+            if proved and proved.group(1) in stands:
+                stands[proved.group(1)].set()
+    return command.returncode
+
+
+def edits_of(crates):
+    """The edits of each of these crates that has any."""
+    found = {crate: [Edit(it) for it in sorted((ROOT / "crates" / crate / "edits").glob("*.edit"))] for crate in crates}
+    return {crate: edits for crate, edits in found.items() if edits}
+
+
+def try_all(edits, words):
+    """Tries the edits of each crate, beside a command where one is given. Gives what is wrong, and its status."""
+    stands = {name: threading.Event() for name in LIBRARIES}
+    with concurrent.futures.ThreadPoolExecutor(2) as pool:
+        results = [pool.submit(try_crate, crate, found, stands) for crate, found in edits.items()]
+        status = beside(words, stands) if words else 0
+        if status:
+            pool.shutdown(wait=False, cancel_futures=True)
+        for event in stands.values():
+            event.set()
+    return [line for result in results if not result.cancelled() for line in result.result()], status
+
+
 def main():
-    crates = sys.argv[1:] or list(LIBRARIES)
-    edits = {crate: [Edit(it) for it in sorted((ROOT / "crates" / crate / "edits").glob("*.edit"))] for crate in crates}
-    edits = {crate: found for crate, found in edits.items() if found}
-    with concurrent.futures.ThreadPoolExecutor(len(os.sched_getaffinity(0))) as pool:
-        results = [pool.submit(try_crate, crate, found) for crate, found in edits.items()]
-    wrong = [line for result in results for line in result.result()]
+    first, rest = sys.argv[1:2], sys.argv[2:]
+    words = rest if first == ["--beside"] else []
+    crates = rest if first == ["--unedited"] else [] if words else sys.argv[1:]
+    edits = edits_of(crates or LIBRARIES)
+    if first == ["--unedited"]:
+        wrong, status = [line for crate, found in edits.items() for line in passes_unedited(crate, found)], 0
+    else:
+        wrong, status = try_all(edits, words)
     print(*wrong, sep="\n")
-    tried = sum(len(found) for found in edits.values())
-    print(f"edits: {tried} tried, {len(wrong)} faults")
-    return 1 if wrong or not tried else 0
+    print(f"edits: {sum(len(found) for found in edits.values())} tried, {len(wrong)} faults")
+    return status or (1 if wrong or not edits else 0)
 
 
 if __name__ == "__main__":
