@@ -276,9 +276,11 @@ def main():
         wrong, status = [line for crate, found in edits.items() for line in passes_unedited(crate, found)], 0
     else:
         wrong, status = try_all(edits, words)
+    if status:
+        return status
     print(*wrong, sep="\n")
     print(f"edits: {sum(len(found) for found in edits.values())} tried, {len(wrong)} faults")
-    return status or (1 if wrong or not edits else 0)
+    return 1 if wrong or not edits else 0
 
 
 if __name__ == "__main__":

@@ -1,9 +1,10 @@
 //! Readers and writers that fail or end early, and what is read and written before.
 
 use crate::catalogs::built_in;
-use crate::serving::{joined, new_broker};
+use crate::serving::{joined, new_broker, output_of};
 use crate::whole::{CREATED_LAST, GET_CATALOG, KNOWN_LAST, NO_HEAD, PUT_I};
 use osb_broker::{Broker, Buffer, ServeFault};
+use osb_catalog::Settings;
 use osb_frames::{Counted, Limits};
 use sqlite::MemStore;
 use std::alloc::Global;
@@ -68,26 +69,6 @@ impl Write for Writer {
     }
 }
 
-/// What the broker writes to a connection whose bytes come in pieces of that size.
-fn served(
-    alloc: Global,
-    broker: &mut Broker<'_, MemStore>,
-    bytes: &[u8],
-    piece: usize,
-) -> Result<Vec<u8>, Fail> {
-    let mut buffer = Buffer::new(alloc, &Limits::STANDARD)?;
-    let mut source = Counted::new(Reader {
-        bytes,
-        piece,
-        reads_before_failure: usize::MAX,
-    });
-    let mut sink = Counted::new(Vec::new(alloc));
-    match broker.serve(&mut buffer, &mut source, &mut sink) {
-        Ok(()) => Ok(sink.into_inner()),
-        Err(_) => Err("a fault")?,
-    }
-}
-
 const CATALOG_TEXT: &[u8] =
     b"HTTP/1.1 200 OK\r\nContent-Type: application/json\r\nContent-Length: 293\r\nConnection: close\r\n\r\n{\"services\":[{\"bindable\":true,\"bindings_retrievable\":true,\"description\":\"Key store\",\"id\":\"svc\",\"name\":\"store\",\"plan_updateable\":true,\"plans\":[{\"description\":\"At once\",\"id\":\"p-sync\",\"name\":\"small\"},{\"description\":\"Later\",\"id\":\"p-async\",\"maintenance_info\":{\"version\":\"1.2.0\"},\"name\":\"large\"}]}]}";
 
@@ -97,14 +78,62 @@ const CREATED: &[u8] =
 const NOT_FOUND: &[u8] =
     b"HTTP/1.1 404 Not Found\r\nContent-Type: application/json\r\nContent-Length: 2\r\n\r\n{}";
 
+/// Reads from one and writes to the other: what is taken, and how the connection ends.
+fn serves(
+    broker: &mut Broker<'_, MemStore>,
+    buffer: &mut Buffer,
+    reader: Reader<'_>,
+    writer: Writer,
+) -> (Vec<u8>, Result<(), ServeFault>) {
+    let mut source = Counted::new(reader);
+    let mut sink = Counted::new(writer);
+    let result = broker.serve(buffer, &mut source, &mut sink);
+    let Writer { taken, .. } = sink.into_inner();
+    (taken, result)
+}
+
+/// Whether the connection ends so, and this text is what was written.
+fn ends(
+    alloc: Global,
+    broker: &mut Broker<'_, MemStore>,
+    ends: (Reader<'_>, Writer),
+    end: Result<(), ServeFault>,
+    text: &[u8],
+) -> Result<bool, Fail> {
+    let mut buffer = Buffer::new(alloc, &Limits::STANDARD)?;
+    let (reader, writer) = ends;
+    let (taken, result) = serves(broker, &mut buffer, reader, writer);
+    Ok(result == end && taken.as_slice() == text)
+}
+
+/// Whether an instance that is put again was there.
+fn is_known(alloc: Global, broker: &mut Broker<'_, MemStore>) -> Result<bool, Fail> {
+    let output = output_of(alloc, broker, PUT_I, 100)?;
+    Ok(output.as_slice().starts_with(b"HTTP/1.1 200"))
+}
+
+/// Takes all that is written.
+fn willing(alloc: Global) -> Writer {
+    Writer {
+        taken: Vec::new(alloc),
+        piece: usize::MAX,
+        writes_before_last: usize::MAX,
+        last: Last::Fails,
+    }
+}
+
+fn is_no_request(alloc: Global, settings: &Settings, bytes: &[u8]) -> Result<bool, Fail> {
+    let mut broker = new_broker(alloc, settings, 1)?;
+    let output = output_of(alloc, &mut broker, bytes, 100_000)?;
+    Ok(output.as_slice() == NO_HEAD)
+}
+
 #[test]
 fn no_beginning_of_a_request_is_one(rt: HostRuntime) -> Result<(), Fail> {
     let alloc = rt.alloc();
     let settings = built_in(alloc)?;
     for length in 1..GET_CATALOG.len() {
-        let mut broker = new_broker(alloc, &settings, 1)?;
-        let text = served(alloc, &mut broker, &GET_CATALOG[..length], 100_000)?;
-        assert_eq!(rt; text.as_slice(), NO_HEAD);
+        assert!(rt; is_no_request(alloc, &settings, &GET_CATALOG[..length])?);
     }
     Ok(())
 }
@@ -114,15 +143,12 @@ fn no_beginning_of_a_request_is_one(rt: HostRuntime) -> Result<(), Fail> {
 fn answers_before_a_failure(alloc: Global, bytes: &[u8], text: &[u8]) -> Result<bool, Fail> {
     let settings = built_in(alloc)?;
     let mut broker = new_broker(alloc, &settings, 1)?;
-    let mut buffer = Buffer::new(alloc, &Limits::STANDARD)?;
-    let mut source = Counted::new(Reader {
+    let reader = Reader {
         bytes,
         piece: 1,
         reads_before_failure: bytes.len(),
-    });
-    let mut sink = Counted::new(Vec::new(alloc));
-    let result = broker.serve(&mut buffer, &mut source, &mut sink);
-    Ok(result == Ok(()) && sink.into_inner().as_slice() == text)
+    };
+    ends(alloc, &mut broker, (reader, willing(alloc)), Ok(()), text)
 }
 
 #[test]
@@ -137,68 +163,86 @@ fn nothing_is_read_once_the_answer_stands(rt: HostRuntime) -> Result<(), Fail> {
 /// How many bytes a read gives, or a write takes, before one that fails.
 const PIECE: usize = 7;
 
+/// Whether a broker that reads so often answers the requests that it has read whole, and keeps what
+/// its replies say.
+fn leaves_whole_replies(
+    alloc: Global,
+    settings: &Settings,
+    bytes: &[u8],
+    reads: usize,
+) -> Result<bool, Fail> {
+    let mut broker = new_broker(alloc, settings, 2)?;
+    let reader = Reader {
+        bytes,
+        piece: PIECE,
+        reads_before_failure: reads,
+    };
+    let first_is_whole = reads.saturating_mul(PIECE) >= PUT_I.len();
+    let text = if first_is_whole {
+        CREATED
+    } else {
+        b"".as_slice()
+    };
+    let fault = Err(ServeFault::Read);
+    let is_cut = ends(alloc, &mut broker, (reader, willing(alloc)), fault, text)?;
+    Ok(is_cut && is_known(alloc, &mut broker)? == first_is_whole)
+}
+
 #[test]
 fn a_read_that_fails_leaves_whole_replies(rt: HostRuntime) -> Result<(), Fail> {
     let alloc = rt.alloc();
-    let bytes = joined(alloc, &[PUT_I, PUT_I])?;
     let settings = built_in(alloc)?;
-    let mut buffer = Buffer::new(alloc, &Limits::STANDARD)?;
+    let bytes = joined(alloc, &[PUT_I, PUT_I])?;
     // The last piece is the rest of both requests.
     for reads in 0..bytes.len().div_ceil(PIECE) {
-        let first_is_whole = reads * PIECE >= PUT_I.len();
-        let mut broker = new_broker(alloc, &settings, 2)?;
-        let mut source = Counted::new(Reader {
-            bytes: bytes.as_slice(),
-            piece: PIECE,
-            reads_before_failure: reads,
-        });
-        let mut sink = Counted::new(Vec::new(alloc));
-        let result = broker.serve(&mut buffer, &mut source, &mut sink);
-        assert_eq!(rt; result, Err(ServeFault::Read));
-        let text = sink.into_inner();
-        let expected = if first_is_whole {
-            CREATED
-        } else {
-            b"".as_slice()
-        };
-        assert_eq!(rt; text.as_slice(), expected);
-        // What is kept is what the written replies say.
-        let later = served(alloc, &mut broker, PUT_I, 100)?;
-        assert_eq!(rt; later.starts_with(b"HTTP/1.1 200"), first_is_whole);
+        assert!(rt; leaves_whole_replies(alloc, &settings, bytes.as_slice(), reads)?);
     }
     Ok(())
+}
+
+/// Whether a broker whose writes end after so many has written the beginning of this text, and
+/// keeps the first request's instance, although its reply was cut.
+fn leaves_a_prefix(
+    alloc: Global,
+    settings: &Settings,
+    bytes: &[u8],
+    writer: Writer,
+    text: &[u8],
+) -> Result<bool, Fail> {
+    let mut broker = new_broker(alloc, settings, 2)?;
+    let reader = Reader {
+        bytes,
+        piece: 100,
+        reads_before_failure: usize::MAX,
+    };
+    let fault = Err(ServeFault::Write);
+    let is_cut = ends(alloc, &mut broker, (reader, writer), fault, text)?;
+    Ok(is_cut && is_known(alloc, &mut broker)?)
+}
+
+/// The same for both requests, and a writer that ends so.
+fn is_cut(alloc: Global, settings: &Settings, writes: usize, last: Last) -> Result<bool, Fail> {
+    let bytes = joined(alloc, &[PUT_I, PUT_I])?;
+    let text = joined(alloc, &[CREATED, KNOWN_LAST])?;
+    let writer = Writer {
+        taken: Vec::new(alloc),
+        piece: PIECE,
+        writes_before_last: writes,
+        last,
+    };
+    match text.as_slice().get(..writes.saturating_mul(PIECE)) {
+        Some(prefix) => leaves_a_prefix(alloc, settings, bytes.as_slice(), writer, prefix),
+        None => Ok(false),
+    }
 }
 
 #[test]
 fn a_write_that_fails_leaves_a_prefix(rt: HostRuntime) -> Result<(), Fail> {
     let alloc = rt.alloc();
-    let bytes = joined(alloc, &[PUT_I, PUT_I])?;
-    let text = joined(alloc, &[CREATED, KNOWN_LAST])?;
     let settings = built_in(alloc)?;
-    let mut buffer = Buffer::new(alloc, &Limits::STANDARD)?;
-    for writes in 0..text.len().div_ceil(PIECE) {
-        for last in [Last::Fails, Last::TakesNothing] {
-            let mut broker = new_broker(alloc, &settings, 2)?;
-            let mut source = Counted::new(Reader {
-                bytes: bytes.as_slice(),
-                piece: 100,
-                reads_before_failure: usize::MAX,
-            });
-            let mut sink = Counted::new(Writer {
-                taken: Vec::new(alloc),
-                piece: PIECE,
-                writes_before_last: writes,
-                last,
-            });
-            let result = broker.serve(&mut buffer, &mut source, &mut sink);
-            assert_eq!(rt; result, Err(ServeFault::Write));
-            assert_eq!(rt;
-                Some(sink.into_inner().taken.as_slice()),
-                text.get(..writes * PIECE)
-            );
-            // The first request's instance is kept, although its reply was cut.
-            assert!(rt; served(alloc, &mut broker, PUT_I, 100)?.starts_with(b"HTTP/1.1 200"));
-        }
+    for writes in 0..(CREATED.len() + KNOWN_LAST.len()).div_ceil(PIECE) {
+        assert!(rt; is_cut(alloc, &settings, writes, Last::Fails)?);
+        assert!(rt; is_cut(alloc, &settings, writes, Last::TakesNothing)?);
     }
     Ok(())
 }
@@ -208,42 +252,59 @@ fn a_reply_goes_out_in_one_write(rt: HostRuntime) -> Result<(), Fail> {
     let alloc = rt.alloc();
     let settings = built_in(alloc)?;
     let mut broker = new_broker(alloc, &settings, 1)?;
-    let mut buffer = Buffer::new(alloc, &Limits::STANDARD)?;
-    let mut source = Counted::new(GET_CATALOG);
-    let mut sink = Counted::new(Writer {
-        taken: Vec::new(alloc),
+    let reader = Reader {
+        bytes: GET_CATALOG,
         piece: usize::MAX,
+        reads_before_failure: usize::MAX,
+    };
+    let writer = Writer {
         writes_before_last: 1,
-        last: Last::Fails,
-    });
-    assert_eq!(rt; broker.serve(&mut buffer, &mut source, &mut sink), Ok(()));
-    assert_eq!(rt; sink.into_inner().taken.as_slice(), CATALOG_TEXT);
+        ..willing(alloc)
+    };
+    assert!(rt; ends(alloc, &mut broker, (reader, writer), Ok(()), CATALOG_TEXT)?);
     Ok(())
+}
+
+/// What a broker writes to these bytes with a buffer of these limits.
+fn output_within(
+    alloc: Global,
+    broker: &mut Broker<'_, MemStore>,
+    limits: &Limits,
+    bytes: &[u8],
+) -> Result<Vec<u8>, Fail> {
+    let mut buffer = Buffer::new(alloc, limits)?;
+    let reader = Reader {
+        bytes,
+        piece: usize::MAX,
+        reads_before_failure: usize::MAX,
+    };
+    match serves(broker, &mut buffer, reader, willing(alloc)) {
+        (taken, Ok(())) => Ok(taken),
+        _ => Err("a fault")?,
+    }
+}
+
+/// Whether the first request isn't found, and the second is too large.
+fn is_not_found_and_too_large(text: &[u8]) -> bool {
+    match text.get(NOT_FOUND.len()..) {
+        Some(rest) => text.starts_with(NOT_FOUND) && rest.starts_with(b"HTTP/1.1 413"),
+        None => false,
+    }
 }
 
 #[test]
 fn smaller_buffers_keep_to_their_limits(rt: HostRuntime) -> Result<(), Fail> {
     let alloc = rt.alloc();
     let settings = built_in(alloc)?;
+    let mut broker = new_broker(alloc, &settings, 2)?;
     let limits = Limits {
         head: 60,
         fields: 2,
         body: 3,
     };
-    let mut buffer = Buffer::new(alloc, &limits)?;
-    let mut broker = new_broker(alloc, &settings, 2)?;
     let bytes =
         b"PUT /v1/service_instances/i HTTP/1.1\r\nHost: b\r\nA: b\r\n\r\nPUT / HTTP/1.1\r\nHost: b\r\nContent-Length: 4\r\n\r\nabcd";
-    let mut source = Counted::new(bytes.as_slice());
-    let mut sink = Counted::new(Vec::new(alloc));
-    assert_eq!(rt; broker.serve(&mut buffer, &mut source, &mut sink), Ok(()));
-    let text = sink.into_inner();
-    assert!(rt; text.starts_with(NOT_FOUND));
-    assert!(rt;
-        text.as_slice()
-            .get(NOT_FOUND.len()..)
-            .unwrap_or(b"")
-            .starts_with(b"HTTP/1.1 413")
-    );
+    let text = output_within(alloc, &mut broker, &limits, bytes)?;
+    assert!(rt; is_not_found_and_too_large(text.as_slice()));
     Ok(())
 }

@@ -10,8 +10,6 @@ mod beside;
 #[cfg(test)]
 mod catalogs;
 #[cfg(test)]
-mod commands;
-#[cfg(test)]
 mod connections;
 #[cfg(test)]
 mod exchange;

@@ -42,16 +42,27 @@ fn created(alloc: Global) -> Result<(Status, Records<FileStore<Memory>>), Fail> 
     created_over(alloc, &settings, records)
 }
 
+/// The same after a change of nothing, and whether it was acknowledged.
+fn acknowledged_over<D: Crash + Drop>(
+    alloc: Global,
+    records: Records<FileStore<D>>,
+) -> Result<(bool, Records<FileStore<D>>), Fail> {
+    records.are_whole();
+    let nothing = Change::Nothing;
+    let again = committed_and_restarted(alloc, records, "i", &nothing, OPTIONS);
+    Ok(again.ok_or("not restarted")?)
+}
+
 /// How many orders the instance has.
-fn orders_of<S: Alter>(alloc: Global, records: &mut Records<S>) -> Result<usize, Fail> {
+fn orders_in<S: Alter + Drop>(alloc: Global, mut records: Records<S>) -> Result<usize, Fail> {
     let life = records.life(alloc, "i")?;
     Ok(life.len())
 }
 
 #[test]
 fn what_was_answered_is_found_again(rt: HostRuntime) -> Result<(), Fail> {
-    let (status, mut records) = created(rt.alloc())?;
-    let orders = orders_of(rt.alloc(), &mut records)?;
+    let (status, records) = created(rt.alloc())?;
+    let orders = orders_in(rt.alloc(), records)?;
     assert!(rt; status == Status::Created && orders == 1);
     Ok(())
 }
@@ -59,24 +70,16 @@ fn what_was_answered_is_found_again(rt: HostRuntime) -> Result<(), Fail> {
 #[test]
 fn what_is_committed_is_found_again(rt: HostRuntime) -> Result<(), Fail> {
     let (_, records) = created(rt.alloc())?;
-    let mut again = restarted(rt.alloc(), records, OPTIONS).ok_or("not restarted")?;
-    assert!(rt; orders_of(rt.alloc(), &mut again)? == 1);
+    let again = restarted(rt.alloc(), records, OPTIONS).ok_or("not restarted")?;
+    assert!(rt; orders_in(rt.alloc(), again)? == 1);
     Ok(())
 }
 
 #[test]
 fn what_is_acknowledged_is_found_again(rt: HostRuntime) -> Result<(), Fail> {
     let (_, records) = created(rt.alloc())?;
-    records.are_whole();
-    let nothing = Change::Nothing;
-    let (acknowledged, mut again) = committed_and_restarted(
-        rt.alloc(),
-        records,
-        "i",
-        &nothing,
-        OPTIONS,
-    ).ok_or("not restarted")?;
-    let orders = orders_of(rt.alloc(), &mut again)?;
+    let (acknowledged, again) = acknowledged_over(rt.alloc(), records)?;
+    let orders = orders_in(rt.alloc(), again)?;
     assert!(rt; acknowledged && orders == 1);
     Ok(())
 }

@@ -58,7 +58,7 @@ pub(crate) fn new_broker(
 }
 
 /// What the broker writes to a connection whose bytes come in pieces of that size.
-fn output_of(
+pub(crate) fn output_of(
     alloc: Global,
     broker: &mut Broker<'_, MemStore>,
     bytes: &[u8],
