@@ -22,6 +22,9 @@ use Rattle.osb_asks.specs.Bodies as body
 use Rattle.osb_asks.specs.Offers.{has_service, has_plan, has_given_plan}
 use Rattle.osb_asks.specs.Targets.{query_of}
 use Rattle.osb_asks.specs.Doors.{entry_of}
+use Rattle.osb_asks.specs.declared.content.NamedPlan.{NamedPlan}
+use Rattle.osb_asks.specs.declared.content.NamedSpace.{NamedSpace}
+use Rattle.osb_asks.specs.declared.content.Details.{Details}
 use Rattle.osb_asks.specs.Routes.{Routed}
 use Rattle.osb_asks.specs.Routes as route
 use Rattle.osb_asks.specs.Admission.{is_let_in, has_version, route_of, admit_at, admit_of}
@@ -34,20 +37,47 @@ use Rattle.osb_asks.proofs.Finds.{is_late, Finds, then_finds, tested_finds, Anyt
 
 -- ---- the objects of bodies
 
+abbrev IsNamedPlan : NamedPlan → Type 0
+IsNamedPlan a = IsId a.service × IsId a.plan
+
+plan_finds : (v : Data) → Finds NamedPlan IsNamedPlan (body.plan_at v)
+unfolding body.plan_at
+plan_finds v =
+    then_finds IsId IsNamedPlan (body.id_at (codes "service_id") v) _ (id_at_finds (codes "service_id") v)
+    (λ s hs. then_finds IsId IsNamedPlan (body.id_at (codes "plan_id") v) _ (id_at_finds (codes "plan_id") v)
+    (λ p hp. record { found = (hs, hp) }))
+
+abbrev IsNamedSpace : NamedSpace → Type 0
+IsNamedSpace a = IsId a.organization × IsId a.space
+
+space_finds : (v : Data) → Finds NamedSpace IsNamedSpace (body.space_at v)
+unfolding body.space_at
+space_finds v =
+    then_finds IsId IsNamedSpace (body.id_at (codes "organization_guid") v) _ (id_at_finds (codes "organization_guid") v)
+    (λ o ho. then_finds IsId IsNamedSpace (body.id_at (codes "space_guid") v) _ (id_at_finds (codes "space_guid") v)
+    (λ s hs. record { found = (ho, hs) }))
+
+abbrev AreDetails : Details → Type 0
+AreDetails a = IsObject a.context × IsObject a.parameters
+
+details_finds : (v : Data) → IsReadable v → Finds Details AreDetails (body.details_at v)
+unfolding body.details_at
+details_finds v w =
+    then_finds IsObject AreDetails (body.object_or_empty (codes "context") v) _ (or_empty_finds (codes "context") v w)
+    (λ c hc. then_finds IsObject AreDetails (body.object_or_empty (codes "parameters") v) _ (or_empty_finds (codes "parameters") v w)
+    (λ r hr. record { found = (hc, hr) }))
+
 abbrev IsProvision : Provision → Type 0
 IsProvision a = IsId a.instance × IsId a.service × IsId a.plan × IsId a.organization × IsId a.space × IsObject a.context × IsObject a.parameters
 
 provision_in_finds : (i : List ℕ) (b : Bool) (v : Data) → IsId i → IsReadable v → Finds Provision IsProvision (provision_in i b v)
 unfolding provision_in
 provision_in_finds i b v hi w =
-    then_finds IsId IsProvision (body.id_at (codes "service_id") v) _ (id_at_finds (codes "service_id") v)
-    (λ s hs. then_finds IsId IsProvision (body.id_at (codes "plan_id") v) _ (id_at_finds (codes "plan_id") v)
-    (λ p hp. then_finds IsId IsProvision (body.id_at (codes "organization_guid") v) _ (id_at_finds (codes "organization_guid") v)
-    (λ o ho. then_finds IsId IsProvision (body.id_at (codes "space_guid") v) _ (id_at_finds (codes "space_guid") v)
-    (λ g hg. then_finds IsObject IsProvision (body.object_or_empty (codes "context") v) _ (or_empty_finds (codes "context") v w)
-    (λ c hc. then_finds IsObject IsProvision (body.object_or_empty (codes "parameters") v) _ (or_empty_finds (codes "parameters") v w)
-    (λ r hr. then_finds Anything IsProvision (body.maintenance_at v) _ (maintenance_finds v)
-    (λ x _. record { found = (hi, hs, hp, ho, hg, hc, hr) })))))))
+    then_finds IsNamedPlan IsProvision (body.plan_at v) _ (plan_finds v)
+    (λ n hn. then_finds IsNamedSpace IsProvision (body.space_at v) _ (space_finds v)
+    (λ s hs. then_finds AreDetails IsProvision (body.details_at v) _ (details_finds v w)
+    (λ t ht. then_finds Anything IsProvision (body.maintenance_at v) _ (maintenance_finds v)
+    (λ x _. record { found = (hi, hn.0, hn.1, hs.0, hs.1, ht.0, ht.1) }))))
 
 abbrev IsUpdate : Update → Type 0
 IsUpdate a = IsId a.instance × IsId a.service × IfSome a.plan IsId × IfSome a.context IsObject × IfSome a.parameters IsObject
@@ -68,13 +98,11 @@ IsBind a = IsId a.instance × IsId a.binding × IsId a.service × IsId a.plan ×
 bind_in_finds : (i j : List ℕ) (b : Bool) (v : Data) → IsId i → IsId j → IsReadable v → Finds Bind IsBind (bind_in i j b v)
 unfolding bind_in
 bind_in_finds i j b v hi hj w =
-    then_finds IsId IsBind (body.id_at (codes "service_id") v) _ (id_at_finds (codes "service_id") v)
-    (λ s hs. then_finds IsId IsBind (body.id_at (codes "plan_id") v) _ (id_at_finds (codes "plan_id") v)
-    (λ p hp. then_finds IsGivenId IsBind (body.app_guid_at v) _ (app_finds v)
+    then_finds IsNamedPlan IsBind (body.plan_at v) _ (plan_finds v)
+    (λ n hn. then_finds IsGivenId IsBind (body.app_guid_at v) _ (app_finds v)
     (λ a ha. then_finds IsObject IsBind (body.object_or_empty (codes "bind_resource") v) _ (or_empty_finds (codes "bind_resource") v w)
-    (λ b hb. then_finds IsObject IsBind (body.object_or_empty (codes "context") v) _ (or_empty_finds (codes "context") v w)
-    (λ c hc. then_finds IsObject IsBind (body.object_or_empty (codes "parameters") v) _ (or_empty_finds (codes "parameters") v w)
-    (λ r hr. record { found = (hi, hj, hs, hp, ha, hb, hc, hr) }))))))
+    (λ b hb. then_finds AreDetails IsBind (body.details_at v) _ (details_finds v w)
+    (λ t ht. record { found = (hi, hj, hn.0, hn.1, ha, hb, ht.0, ht.1) }))))
 
 abbrev IsReport : Report → Type 0
 IsReport a = IsId a.instance × (length a.description ≤ 1000) × (has_no_controls a.description ≡ true) × IsObject a.credentials

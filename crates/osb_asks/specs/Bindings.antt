@@ -10,20 +10,18 @@ use Rattle.osb_asks.specs.declared.ask.Bind.{Bind}
 use Rattle.osb_asks.specs.Reads.{◌>>=◌}
 use Rattle.osb_asks.specs.Ids.{id_of}
 use Rattle.osb_asks.specs.Queries as query
-use Rattle.osb_asks.specs.Bodies.{body_of, id_at, app_guid_at, object_or_empty}
+use Rattle.osb_asks.specs.Bodies.{body_of, app_guid_at, plan_at, object_or_empty, details_at}
 use Rattle.osb_asks.specs.Offers.{has_plan, if_offered}
 
 -- ---- OSB API 2.17, "Binding"
 
 unfoldable pub bind_in : List ℕ → List ℕ → Bool → Data → Result Bind AskFault
 bind_in instance binding accepts_incomplete v = do
-  service ← id_at (codes "service_id") v
-  plan ← id_at (codes "plan_id") v
+  named ← plan_at v
   app_guid ← app_guid_at v
   bind_resource ← object_or_empty (codes "bind_resource") v
-  context ← object_or_empty (codes "context") v
-  parameters ← object_or_empty (codes "parameters") v
-  Ok (record { instance = instance; binding = binding; service = service; plan = plan; app_guid = app_guid; bind_resource = bind_resource; context = context; parameters = parameters; accepts_incomplete = accepts_incomplete })
+  details ← details_at v
+  Ok (record { instance = instance; binding = binding; service = named.service; plan = named.plan; app_guid = app_guid; bind_resource = bind_resource; context = details.context; parameters = details.parameters; accepts_incomplete = accepts_incomplete })
 
 unfoldable pub bind_of : Rules → List ℕ → List ℕ → List ℕ → List ℕ → Result Ask AskFault
 bind_of rules i b q body = do

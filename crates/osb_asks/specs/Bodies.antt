@@ -12,6 +12,9 @@ use Rattle.osb_text.specs.Member.{field, object_value}
 use Rattle.osb_asks.specs.declared.ask.ReportState.{ReportState}
 use Rattle.osb_asks.specs.declared.ask.ReportState.TheVariants.{Succeeded, Failed}
 use Rattle.osb_asks.specs.declared.ask_fault.AskFault.{AskFault}
+use Rattle.osb_asks.specs.declared.content.NamedPlan.{NamedPlan}
+use Rattle.osb_asks.specs.declared.content.NamedSpace.{NamedSpace}
+use Rattle.osb_asks.specs.declared.content.Details.{Details}
 use Rattle.osb_asks.specs.declared.ask_fault.AskFault.TheVariants.{Body}
 use Rattle.osb_asks.specs.Reads.{◌>>=◌, needed, given}
 use Rattle.osb_asks.specs.Ids.{id_or, id_unless_empty_or}
@@ -69,6 +72,20 @@ state_by (Some text) =
 abbrev pub state_at : Data → Result ReportState AskFault
 state_at v = text_at (codes "state") v >>= state_by
 
+-- the plan that a body names, and its service
+unfoldable pub plan_at : Data → Result NamedPlan AskFault
+plan_at v = do
+  service ← id_at (codes "service_id") v
+  plan ← id_at (codes "plan_id") v
+  Ok (record { service = service; plan = plan })
+
+-- the space that a body names, and its organization
+unfoldable pub space_at : Data → Result NamedSpace AskFault
+space_at v = do
+  organization ← id_at (codes "organization_guid") v
+  space ← id_at (codes "space_guid") v
+  Ok (record { organization = organization; space = space })
+
 -- ---- objects
 
 -- the compact text of an object that may be there
@@ -78,6 +95,13 @@ object_at name v = or_body (field object_value name v) >>= λ o. Ok (option_map 
 -- the compact text of an object, `{}` where there is none
 abbrev pub object_or_empty : List ℕ → Data → Result (List ℕ) AskFault
 object_or_empty name v = object_at name v >>= λ o. Ok (unwrap_or o (codes "{}"))
+
+-- what the platform tells of itself, and the parameters
+unfoldable pub details_at : Data → Result Details AskFault
+details_at v = do
+  context ← object_or_empty (codes "context") v
+  parameters ← object_or_empty (codes "parameters") v
+  Ok (record { context = context; parameters = parameters })
 
 abbrev pub maintenance_by : Option Data → Result (Option (List ℕ)) AskFault
 maintenance_by None = Ok None

@@ -11,21 +11,18 @@ use Rattle.osb_asks.specs.declared.ask.Update.{Update}
 use Rattle.osb_asks.specs.Reads.{◌>>=◌}
 use Rattle.osb_asks.specs.Ids.{id_of}
 use Rattle.osb_asks.specs.Queries as query
-use Rattle.osb_asks.specs.Bodies.{body_of, id_at, given_id_at, object_at, object_or_empty, maintenance_at}
+use Rattle.osb_asks.specs.Bodies.{body_of, id_at, given_id_at, plan_at, space_at, object_at, details_at, maintenance_at}
 use Rattle.osb_asks.specs.Offers.{has_plan, has_given_plan, if_offered}
 
 -- ---- OSB API 2.17, "Provisioning"
 
 unfoldable pub provision_in : List ℕ → Bool → Data → Result Provision AskFault
 provision_in instance accepts_incomplete v = do
-  service ← id_at (codes "service_id") v
-  plan ← id_at (codes "plan_id") v
-  organization ← id_at (codes "organization_guid") v
-  space ← id_at (codes "space_guid") v
-  context ← object_or_empty (codes "context") v
-  parameters ← object_or_empty (codes "parameters") v
+  named ← plan_at v
+  place ← space_at v
+  details ← details_at v
   maintenance ← maintenance_at v
-  Ok (record { instance = instance; service = service; plan = plan; organization = organization; space = space; context = context; parameters = parameters; maintenance = maintenance; accepts_incomplete = accepts_incomplete })
+  Ok (record { instance = instance; service = named.service; plan = named.plan; organization = place.organization; space = place.space; context = details.context; parameters = details.parameters; maintenance = maintenance; accepts_incomplete = accepts_incomplete })
 
 unfoldable pub provision_of : Rules → List ℕ → List ℕ → List ℕ → Result Ask AskFault
 provision_of rules i q body = do

@@ -20,6 +20,27 @@ pub(crate) struct Content {
     object: Object,
 }
 
+/// The plan that a body names, and its service.
+#[derive(Debug, Drop)]
+pub(crate) struct NamedPlan {
+    pub(crate) service: Id,
+    pub(crate) plan: Id,
+}
+
+/// The space that a body names, and its organization.
+#[derive(Debug, Drop)]
+pub(crate) struct NamedSpace {
+    pub(crate) organization: Id,
+    pub(crate) space: Id,
+}
+
+/// What the platform tells of itself, and the parameters, as compact texts.
+#[derive(Debug, Drop)]
+pub(crate) struct Details {
+    pub(crate) context: ObjectText,
+    pub(crate) parameters: ObjectText,
+}
+
 impl Content {
     ghost use Rattle.osb_asks.specs.Contents.{data_of};
 
@@ -63,6 +84,27 @@ impl Content {
             Some(text) => Ok(Some(id_or(AskFault::Body, Text::from_str(alloc, text)?)?)),
             None => Ok(None),
         }
+    }
+
+    #[tactic(auto, unfolding(crate::specs::Bodies::plan_at))]
+    pub(crate) fn plan(&self, alloc: Global) -> Result<NamedPlan, AskFault>
+        ensures { Reads result (spec.plan_at (data_of self.now)) }
+    {
+        let service = self.id(alloc, "service_id")?;
+        let plan = self.id(alloc, "plan_id")?;
+        Ok(NamedPlan { service, plan })
+    }
+
+    #[tactic(auto, unfolding(crate::specs::Bodies::space_at))]
+    pub(crate) fn space(&self, alloc: Global) -> Result<NamedSpace, AskFault>
+        ensures { Reads result (spec.space_at (data_of self.now)) }
+    {
+        let organization = self.id(alloc, "organization_guid")?;
+        let space = self.id(alloc, "space_guid")?;
+        Ok(NamedSpace {
+            organization,
+            space,
+        })
     }
 
     /// The app that is bound, if there is one.
@@ -131,6 +173,19 @@ impl Content {
             Some(text) => Ok(text),
             None => Ok(ObjectText::empty(alloc)?),
         }
+    }
+
+    #[tactic(auto, unfolding(crate::specs::Bodies::details_at))]
+    pub(crate) fn details(&self, alloc: Global) -> Result<Details, AskFault>
+        requires { IsReadable (data_of self.now) }
+        ensures { Reads result (spec.details_at (data_of self.now)) }
+    {
+        let context = self.object_or_empty(alloc, "context")?;
+        let parameters = self.object_or_empty(alloc, "parameters")?;
+        Ok(Details {
+            context,
+            parameters,
+        })
     }
 
     /// The maintenance version, if there is one.

@@ -8,7 +8,7 @@ ghost use Rattle.osb_asks.specs.Reads.{Reads};
 
 use crate::ask::{Ask, Deprovision, Fetch, InstanceOp, Provision, Update};
 use crate::ask_fault::AskFault;
-use crate::content::Content;
+use crate::content::{Content, Details, NamedPlan, NamedSpace};
 use crate::id::Id;
 use crate::offers::{has_given_plan, has_plan};
 use crate::query::{accepts_incomplete_in, id_in, value_of};
@@ -26,12 +26,15 @@ fn provision_in(
     requires { IsReadable (data_of content.now) }
     ensures { Reads result (spec.provision_in instance accepts_incomplete (data_of content.now)) }
 {
-    let service = content.id(alloc, "service_id")?;
-    let plan = content.id(alloc, "plan_id")?;
-    let organization = content.id(alloc, "organization_guid")?;
-    let space = content.id(alloc, "space_guid")?;
-    let context = content.object_or_empty(alloc, "context")?;
-    let parameters = content.object_or_empty(alloc, "parameters")?;
+    let NamedPlan { service, plan } = content.plan(alloc)?;
+    let NamedSpace {
+        organization,
+        space,
+    } = content.space(alloc)?;
+    let Details {
+        context,
+        parameters,
+    } = content.details(alloc)?;
     let maintenance = content.maintenance(alloc)?;
     Ok(Provision {
         instance,
