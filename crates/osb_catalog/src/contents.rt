@@ -71,13 +71,24 @@ fn read_plan(alloc: Global, file: &Value, service: &Value, plan: &Value) -> Resu
     ensures { IfOk result (λ p. p ≡ plan_of (view file.now) (view service.now) (view plan.now)) }
 {
     let id = text_at(plan, Field::Id);
+    let (service_id, plan_id) = copied(alloc, text_at(service, Field::Id), id)?;
     Ok(Plan {
-        service: Text::from_str(alloc, text_at(service, Field::Id))?,
-        id: Text::from_str(alloc, id)?,
+        service: service_id,
+        id: plan_id,
         facts: read_facts(alloc, service, plan)?,
         mode: read_mode(alloc, file, id)?,
         bindings_retrievable: flag_at(service, Field::BindingsRetrievable),
     })
+}
+
+fn copied(alloc: Global, first: &str, second: &str) -> Result<(Text, Text), AllocError>
+    ensures first { IfOk result (λ texts. texts.0 ≡ first.now) }
+    ensures second { IfOk result (λ texts. texts.1 ≡ second.now) }
+{
+    Ok((
+        Text::from_str(alloc, first)?,
+        Text::from_str(alloc, second)?,
+    ))
 }
 
 fn read_facts(alloc: Global, service: &Value, plan: &Value) -> Result<PlanFacts, AllocError>
