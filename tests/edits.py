@@ -89,11 +89,12 @@ def modules(folder):
 
 def functions(folder):
     """The functions and methods of a crate's source, without those of traits and those of a cycle of calls,
-    which have one proof, as a check names them: a method by the module that its type stands in."""
+    which have one proof: each as a check names it, a method by the module that its type stands in, with its
+    file and the place of its first line."""
     owners = {name: [*module, name] for module, text in modules(folder) for name in TYPE.findall(text)}
     for module, text in modules(folder):
         owner, of_cycle = module, False
-        for line in text.splitlines():
+        for place, line in enumerate(text.splitlines()):
             of_cycle = of_cycle or line.strip().startswith("#[cycle(")
             if line.startswith(("impl", "trait", "pub trait", "mod ")):
                 methods = METHODS.match(line)
@@ -102,8 +103,17 @@ def functions(folder):
                 owner = module
             found = FUNCTION.match(line)
             if found and not of_cycle and owner is not None and len(found.group(1)) == (0 if owner is module else 4):
-                yield [*owner, found.group(2)]
+                yield [*owner, found.group(2)], folder.joinpath("src", *(module or ["lib"])).with_suffix(".rt"), place
             of_cycle = of_cycle and not found
+
+
+def empty_body(lines, place):
+    """Puts a body that gives nothing in the place of a function's, and marks its other lines."""
+    indent = FUNCTION.match(lines[place]).group(1)
+    first = next(it for it in range(place, len(lines)) if lines[it] == indent + "{" or lines[it].endswith((" {", "{}")))
+    if not lines[first].endswith("{}"):
+        last = lines.index(indent + "}", first + 1)
+        lines[first + 1 : last] = [indent + "    loop {}"] + [None] * (last - first - 2)
 
 
 def take_at_its_word(folder, crate, function):
@@ -117,6 +127,19 @@ def take_at_its_word(folder, crate, function):
         f"use Rattle.{crate}.proofs.{path}.Statement.{{statement}}\n\n"
         f"pub {name}_spec : {{M : Type 1}} → statement M\n{name}_spec = ?\n"
     )
+
+
+def keep_alone(folder, crate, names):
+    """Takes each other function of a crate at its word: its body gives nothing, so that nothing is asked of what
+    it calls, and its proof is a hole."""
+    others = [it for it in functions(folder) if "::".join(it[0]) not in names]
+    for file in {it[1] for it in others}:
+        lines = file.read_text().splitlines()
+        for _, _, place in (it for it in others if it[1] == file):
+            empty_body(lines, place)
+        file.write_text("\n".join(line for line in lines if line is not None) + "\n")
+    for function, _, _ in others:
+        take_at_its_word(folder, crate, function)
 
 
 class Edit:
@@ -176,11 +199,9 @@ def check(crate, names, edits, kept):
         for part in ("src", "specs", "proofs"):
             if (ROOT / "crates" / crate / part).is_dir():
                 shutil.copytree(ROOT / "crates" / crate / part, folder / part)
-        for function in functions(folder):
-            if "::".join(function) not in names:
-                take_at_its_word(folder, crate, function)
         for edit in edits:
             edit.apply(folder)
+        keep_alone(folder, crate, names)
         words = command(crate, sorted(names), kept)
         ran = subprocess.run(words, cwd=room, stdin=subprocess.DEVNULL, stdout=subprocess.PIPE, stderr=subprocess.STDOUT, text=True)
     found = re.findall(rf"^fn {crate}::(\S+): (.*)$", ran.stdout, re.M)
