@@ -14,9 +14,11 @@ pub(crate) const READY: &str =
 const FAILED: &str =
     "INSERT INTO instances (instance_id, phase, busy, last_seq, service_id, plan_id, organization, space, params, maint) VALUES ('i', 3, 0, 1, 's', 'p', 'o', 'q', '{}', '')";
 
-/// How many orders an instance of a new database has.
-fn orders_at_first(alloc: Global) -> Result<usize, StoreFault> {
-    let mut records = open_memory(alloc)?;
+/// How many orders the instance `i` has.
+pub(crate) fn count_orders<S: Alter + Drop>(
+    alloc: Global,
+    mut records: Records<S>,
+) -> Result<usize, StoreFault> {
     let life = records.life(alloc, "i")?;
     Ok(life.len())
 }
@@ -67,7 +69,7 @@ fn plans_after(alloc: Global, statements: &[&str]) -> Result<usize, StoreFault> 
 
 #[test]
 fn a_new_database_has_no_orders(rt: HostRuntime) -> Result<(), Fail> {
-    assert_eq!(rt; orders_at_first(rt.alloc())?, 0);
+    assert_eq!(rt; count_orders(rt.alloc(), open_memory(rt.alloc())?)?, 0);
     assert_eq!(rt; running_at_first(rt.alloc())?, 0);
     Ok(())
 }

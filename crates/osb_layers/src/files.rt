@@ -1,23 +1,24 @@
 //! A database file, made and opened again.
 
-use crate::adopting::{ORDER, READY, run};
+use crate::adopting::{ORDER, READY, count_orders, run};
 use osb_file::open_file;
-use osb_records::StoreFault;
-use sqlite::Unknown;
+use osb_records::{Records, StoreFault};
+use sqlite::{Alter, Unknown};
 use std::test::Fail;
 use std::{env, fs};
 
-/// How many orders the instance `i` has in the file.
 fn orders_in(rt: &HostRuntime, path: &str) -> Result<usize, StoreFault> {
-    let mut records = open_file(rt, path, Unknown)?;
-    let life = records.life(rt.alloc(), "i")?;
-    Ok(life.len())
+    count_orders(rt.alloc(), open_file(rt, path, Unknown)?)
 }
 
-/// Puts a ready instance into the file.
-fn put_instance(rt: &HostRuntime, path: &str) -> Result<(), StoreFault> {
-    let mut conn = open_file(rt, path, Unknown)?.into_connection();
+/// Puts a ready instance into the database.
+fn put_into<S: Alter + Drop>(records: Records<S>) -> Result<(), StoreFault> {
+    let mut conn = records.into_connection();
     run(&mut conn, &[ORDER, READY])
+}
+
+fn put_instance(rt: &HostRuntime, path: &str) -> Result<(), StoreFault> {
+    put_into(open_file(rt, path, Unknown)?)
 }
 
 #[test]
