@@ -304,6 +304,30 @@ impl<'s, S: Alter> Broker<'s, S> {
         }
     }
 
+    /// Makes the change that is pending, once there is room for the reply and `spare` bytes.
+    fn settle_within<W: Room>(
+        &mut self,
+        pending: &Option<Pending>,
+        reply: &Reply<'_>,
+        room: &mut W,
+        spare: usize,
+    ) -> Result<(), AllocError>
+        requires { Works (store_of S.Store self.old) → IsSettleable pending.now (lives_of S.Store self.old) }
+        ensures ok { HasCleanDisk (store_of S.Store self.new) → OnOk result (lives_of S.Store self.new ≡ settled pending.now (lives_of S.Store self.old)) }
+        ensures err { Works (store_of S.Store self.new) → OnErr result (lives_of S.Store self.new ≡ lives_of S.Store self.old) }
+        ensures works { Works (store_of S.Store self.new) → Works (store_of S.Store self.old) }
+        ensures crash { Survives (store_of S.Store self.old) (store_of S.Store self.new) (Commits (store_of S.Store self.old) (settled pending.now (lives_of S.Store self.old))) }
+        ensures lasts { HasCleanDisk (store_of S.Store self.new) → OnOk result ((db : Trees) → (store_of S.Store self.new).may_leave db → LastsSettled (store_of S.Store self.old) (lives_of S.Store self.old) pending.now db) }
+        ensures room { OnOk result (length (reply_text (parts reply.now)) + spare ≤ W.room room.new) }
+        ensures spare { OnErr result (spare ≤ W.room room.old → spare ≤ W.room room.new) }
+        ensures taken { W.taken room.new ≡ W.taken room.old }
+        ensures most { most_of self.new ≡ most_of self.old }
+        ensures rules { rules_of self.new ≡ rules_of self.old }
+    {
+        make_room(room, reply, spare)?;
+        self.settle(pending)
+    }
+
     /// The reply to a request, once there is room for it and `spare` bytes, and its change is made.
     fn replied_in<'a, W: Room>(
         &mut self,
@@ -328,8 +352,7 @@ impl<'s, S: Alter> Broker<'s, S> {
     {
         let Prepared { answer, pending } = self.prepared(request)?;
         let reply = reply_to(request, last, answer);
-        make_room(room, &reply, spare)?;
-        self.settle(&pending)?;
+        self.settle_within(&pending, &reply, room, spare)?;
         Ok(reply)
     }
 
