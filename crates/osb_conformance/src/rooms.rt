@@ -45,16 +45,19 @@ fn writes(
     Ok(are_texts(outputs.as_slice(), texts))
 }
 
+const CONNECTIONS: &[&[u8]] = &[PUT_I, b"", PUT_I, b"\r\n"];
+
+const TEXTS: &[&[u8]] = &[CREATED_LAST, b"", KNOWN_LAST, NO_HEAD];
+
 #[test]
 fn one_connection_after_another(rt: HostRuntime) -> Result<(), Fail> {
     let alloc = rt.alloc();
     let settings = built_in(alloc)?;
     let mut broker = new_broker(alloc, &settings, 1)?;
-    let connections = [PUT_I, b"".as_slice(), PUT_I, b"\r\n".as_slice()];
-    let texts = [CREATED_LAST, b"".as_slice(), KNOWN_LAST, NO_HEAD];
-    assert!(rt; writes(alloc, &mut broker, &connections, &texts)?);
-    // What they left is there for those that come after.
-    assert!(rt; writes(alloc, &mut broker, &[PUT_I], &[KNOWN_LAST])?);
+    // What they leave is there for those that come after.
+    let is_written = writes(alloc, &mut broker, CONNECTIONS, TEXTS)?
+        && writes(alloc, &mut broker, &[PUT_I], &[KNOWN_LAST])?;
+    assert!(rt; is_written);
     Ok(())
 }
 

@@ -187,6 +187,23 @@ pub(crate) fn answers(
     }
 }
 
+/// Whether it writes the text to these bytes in pieces of that size.
+fn is_output(
+    alloc: Global,
+    settings: &Settings,
+    per_connection: u32,
+    sent: (&[u8], usize),
+    text: &[u8],
+) -> Result<bool, Fail>
+    requires some { 1 ≤ per_connection }
+    requires few { per_connection ≤ 1000 }
+{
+    let (bytes, piece) = sent;
+    let mut broker = new_broker(alloc, settings, per_connection)?;
+    let output = output_of(alloc, &mut broker, bytes, piece)?;
+    Ok(output.as_slice() == text)
+}
+
 const PIECES: [usize; 3] = [1, 7, usize::MAX];
 
 /// The same, with the bytes one by one, in pieces of seven, and whole.
@@ -201,9 +218,7 @@ pub(crate) fn answers_in_pieces(
 {
     let settings = built_in(alloc)?;
     for piece in PIECES {
-        let mut broker = new_broker(alloc, &settings, per_connection)?;
-        let output = output_of(alloc, &mut broker, bytes, piece)?;
-        if output.as_slice() != text {
+        if !is_output(alloc, &settings, per_connection, (bytes, piece), text)? {
             let told = format!(in alloc; "another text, in pieces of {piece}")?;
             return Err(Fail::from(told));
         }

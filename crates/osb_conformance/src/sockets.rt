@@ -68,17 +68,21 @@ fn a_write_that_fails_is_told(rt: HostRuntime) -> Result<(), Fail> {
     Ok(())
 }
 
-#[test]
-fn no_connection_can_be_accepted(rt: HostRuntime) -> Result<(), Fail> {
-    let alloc = rt.alloc();
+/// Whether a broker finds that no connection can be accepted.
+fn accepts_none(alloc: Global, listener: &TcpListener) -> Result<bool, Fail> {
     let settings = built_in(alloc)?;
     let mut broker = new_broker(alloc, &settings, 1)?;
     let mut buffer = Buffer::new(alloc, &Limits::STANDARD)?;
     let mut errors = Counted::new(Vec::new(alloc));
+    let result = serve_listener(&mut broker, &mut buffer, listener, 1, &mut errors);
+    Ok(result == Err(ListenFault::CannotAccept))
+}
+
+#[test]
+fn no_connection_can_be_accepted(rt: HostRuntime) -> Result<(), Fail> {
     // A listener that doesn't wait has nobody to accept.
     let listener = TcpListener::bind(&rt, "127.0.0.1:0")?;
     listener.set_nonblocking(true)?;
-    let result = serve_listener(&mut broker, &mut buffer, &listener, 1, &mut errors);
-    assert!(rt; result == Err(ListenFault::CannotAccept));
+    assert!(rt; accepts_none(rt.alloc(), &listener)?);
     Ok(())
 }

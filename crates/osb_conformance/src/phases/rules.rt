@@ -6,7 +6,10 @@ use super::in_phase;
 use crate::catalogs::{built_in, settings_with};
 use crate::exchange::Exchange;
 use crate::replies::*;
-use crate::serving::{broker_over, goes_on, goes_over, new_broker};
+use crate::serving::{after_all, goes_over};
+use osb_records::{Records, open_memory};
+use sqlite::MemStore;
+use std::alloc::Global;
 use std::test::Fail;
 
 const MADE: [Exchange; 2] = [
@@ -261,12 +264,17 @@ const INSTANCES_AT_ONCE: [Exchange; 8] = [
     (REMOVE_NOW, "", UNPROCESSABLE, BUSY),
 ];
 
+/// Fails where one of these exchanges goes otherwise over the settings without this text.
+fn goes_without(alloc: Global, text: &str, exchanges: &[Exchange]) -> Result<(), Fail> {
+    let settings = settings_with(alloc, text, "")?;
+    goes_over(alloc, &settings, exchanges)
+}
+
 #[test]
 fn modes_of_bindings_and_of_instances(rt: HostRuntime) -> Result<(), Fail> {
-    let settings = settings_with(rt.alloc(), ",\"bindings\":\"asynchronous\"", "")?;
-    goes_over(rt.alloc(), &settings, &BINDINGS_AT_ONCE)?;
-    let settings = settings_with(rt.alloc(), "\"instances\":\"asynchronous\",", "")?;
-    goes_over(rt.alloc(), &settings, &INSTANCES_AT_ONCE)
+    let alloc = rt.alloc();
+    goes_without(alloc, ",\"bindings\":\"asynchronous\"", &BINDINGS_AT_ONCE)?;
+    goes_without(alloc, "\"instances\":\"asynchronous\",", &INSTANCES_AT_ONCE)
 }
 
 const UPDATE_TO_NEW: &str = r#"{"service_id":"svc","maintenance_info":{"version":"1.3.0"}}"#;
@@ -300,13 +308,16 @@ const IN_NEW_CATALOG: [Exchange; 10] = [
     (UPDATE, NOTHING, UNPROCESSABLE, BUSY),
 ];
 
+/// The records once an instance is made over the built-in settings.
+fn made(alloc: Global) -> Result<Records<MemStore>, Fail> {
+    let settings = built_in(alloc)?;
+    after_all(alloc, &settings, open_memory(alloc)?, &MADE)
+}
+
 #[test]
 fn another_version_in_the_catalog(rt: HostRuntime) -> Result<(), Fail> {
-    let alloc = rt.alloc();
-    let old = built_in(alloc)?;
-    let mut broker = new_broker(alloc, &old, 1)?;
-    goes_on(alloc, &mut broker, &MADE)?;
-    let new = settings_with(alloc, "1.2.0", "1.3.0")?;
-    let mut broker = broker_over(alloc, &new, broker.into_records(), 1)?;
-    goes_on(alloc, &mut broker, &IN_NEW_CATALOG)
+    let settings = settings_with(rt.alloc(), "1.2.0", "1.3.0")?;
+    let records = made(rt.alloc())?;
+    after_all(rt.alloc(), &settings, records, &IN_NEW_CATALOG)?;
+    Ok(())
 }
