@@ -28,13 +28,17 @@ fn told_by_records(
     ask: &Ask,
 ) -> Result<String, Fail> {
     let view = memory::view(records, alloc, ask)?;
-    told(alloc, &view)
+    let text = told(alloc, &view);
+    drop(view);
+    text
 }
 
 /// The same of the plain lives.
 fn told_plainly(alloc: Global, plain: &PlainLives, ask: &Ask) -> Result<String, Fail> {
     let view = plain.view(alloc, ask)?;
-    told(alloc, &view)
+    let text = told(alloc, &view);
+    drop(view);
+    text
 }
 
 /// What the table has for an ask by a view.
@@ -44,7 +48,9 @@ fn decided<'s>(
     view: View,
     ask: &Ask,
 ) -> Result<Step<'s>, AllocError> {
-    decide(alloc, settings, &view, ask)
+    let step = decide(alloc, settings, &view, ask);
+    drop(view);
+    step
 }
 
 fn change_of(step: Step<'_>) -> Change {

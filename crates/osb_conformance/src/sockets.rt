@@ -5,6 +5,7 @@ use crate::serving::new_broker;
 use osb_broker::Buffer;
 use osb_frames::{Counted, Limits};
 use osb_listen::{ListenFault, serve_listener, serve_stream};
+use std::alloc::Global;
 use std::io::{self, Read, Write};
 use std::net::{Shutdown, TcpListener, TcpStream};
 use std::test::Fail;
