@@ -247,14 +247,14 @@ struct Reading {
     subjects: String,
 }
 
-/// What is told of the request by these settings. Of all functions here it alone holds an ask, whose
-/// drop takes minutes to prove.
+/// What is told of the request by these settings.
 fn told_by(alloc: Global, request: &Request<'_>, settings: &Settings) -> Reading {
     let found = read_ask(alloc, request, settings);
     let mut asked = String::new(alloc);
     tell(alloc, &mut asked, &found);
     let mut subjects = String::new(alloc);
     tell_subjects(&mut subjects, &found);
+    drop(found);
     Reading { asked, subjects }
 }
 
