@@ -150,10 +150,13 @@ pub(crate) fn stay_beside_once(
     exchange: Exchange,
 ) -> Result<String, Fail> {
     let bytes = request(alloc, exchange.0, exchange.1)?;
-    match ask_of(alloc, settings, bytes.as_slice()) {
-        Ok(ask) => are_beside(alloc, settings, records, plain, &ask),
+    let found = ask_of(alloc, settings, bytes.as_slice());
+    let told = match &found {
+        Ok(ask) => are_beside(alloc, settings, records, plain, ask),
         Err(_) => Ok(String::new(alloc)),
-    }
+    };
+    drop(found);
+    told
 }
 
 /// Fails where records and plain lives part in a conversation.
