@@ -7,6 +7,7 @@ use crate::catalogs::{built_in, settings_with};
 use crate::exchange::Exchange;
 use crate::replies::*;
 use crate::serving::{after_all, goes_over};
+use osb_catalog::Settings;
 use osb_records::{Records, open_memory};
 use sqlite::MemStore;
 use std::alloc::Global;
@@ -136,17 +137,26 @@ const IN_ABSENT_OR_FAILED: [Exchange; 2] = [
     (BIND_C, BINDING_OF_OTHER, NOT_FOUND, "{}"),
 ];
 
+/// The built-in settings with another service before the one that is there.
+fn with_another_service(alloc: Global) -> Result<Settings, Fail> {
+    let services = format!(in alloc; "\"services\":[{OTHER_SERVICE},")?;
+    settings_with(alloc, "\"services\":[", services.as_str())
+}
+
+/// Fails where an ask for the other service goes otherwise in one of the phases.
+fn asks_for_another(alloc: Global, settings: &Settings) -> Result<(), Fail> {
+    in_phase(alloc, settings, &MADE, &IN_READY)?;
+    in_phase(alloc, settings, &UPDATING, &IN_UPDATING)?;
+    in_phase(alloc, settings, &CREATING, &IN_CREATING_OR_DELETING)?;
+    in_phase(alloc, settings, &DELETING, &IN_CREATING_OR_DELETING)?;
+    in_phase(alloc, settings, &CREATION_FAILED, &IN_ABSENT_OR_FAILED)?;
+    in_phase(alloc, settings, &[], &IN_ABSENT_OR_FAILED)
+}
+
 #[test]
 fn another_service(rt: HostRuntime) -> Result<(), Fail> {
-    let alloc = rt.alloc();
-    let services = format!(in alloc; "\"services\":[{OTHER_SERVICE},")?;
-    let settings = settings_with(alloc, "\"services\":[", services.as_str())?;
-    in_phase(alloc, &settings, &MADE, &IN_READY)?;
-    in_phase(alloc, &settings, &UPDATING, &IN_UPDATING)?;
-    in_phase(alloc, &settings, &CREATING, &IN_CREATING_OR_DELETING)?;
-    in_phase(alloc, &settings, &DELETING, &IN_CREATING_OR_DELETING)?;
-    in_phase(alloc, &settings, &CREATION_FAILED, &IN_ABSENT_OR_FAILED)?;
-    in_phase(alloc, &settings, &[], &IN_ABSENT_OR_FAILED)
+    let settings = with_another_service(rt.alloc())?;
+    asks_for_another(rt.alloc(), &settings)
 }
 
 const IN_FIXED: [Exchange; 4] = [

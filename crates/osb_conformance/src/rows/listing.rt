@@ -5,6 +5,7 @@ use crate::catalogs::built_in;
 use crate::exchange::{Exchange, last_reply, request};
 use crate::replies::*;
 use crate::serving::{goes, new_broker};
+use osb_catalog::Settings;
 use std::alloc::Global;
 use std::test::Fail;
 
@@ -45,18 +46,41 @@ fn listing(alloc: Global, from: u32, to: u32) -> Result<Vec<u8>, Fail> {
     last_reply(alloc, "200 OK", body.as_str())
 }
 
-#[test]
-fn a_hundred_orders_and_one(rt: HostRuntime) -> Result<(), Fail> {
-    let alloc = rt.alloc();
+/// What a broker without orders writes to these connections.
+fn served(
+    alloc: Global,
+    settings: &Settings,
+    connections: &[Vec<u8>],
+) -> Result<Vec<Vec<u8>>, Fail> {
+    let mut broker = new_broker(alloc, settings, 1)?;
+    Ok(broker.serve_all(connections)?)
+}
+
+/// What is written to the requests.
+fn outputs(alloc: Global) -> Result<Vec<Vec<u8>>, Fail> {
     let settings = built_in(alloc)?;
     let connections = requests(alloc)?;
-    let mut broker = new_broker(alloc, &settings, 1)?;
-    let outputs = broker.serve_all(connections.as_slice())?;
-    let [.., first, second] = outputs.as_slice() else {
-        return Err("no outputs")?;
-    };
-    assert!(rt; first.as_slice() == listing(alloc, 0, 100)?.as_slice());
-    assert!(rt; second.as_slice() == listing(alloc, 100, 101)?.as_slice());
+    served(alloc, &settings, connections.as_slice())
+}
+
+/// Whether the listing has these orders.
+fn lists(alloc: Global, output: &[u8], first: u32, end: u32) -> Result<bool, Fail> {
+    Ok(output == listing(alloc, first, end)?.as_slice())
+}
+
+fn end_in_listings(alloc: Global, outputs: &[Vec<u8>]) -> Result<bool, Fail> {
+    match outputs {
+        [.., first, second] => Ok(
+            lists(alloc, first.as_slice(), 0, 100)? && lists(alloc, second.as_slice(), 100, 101)?,
+        ),
+        _ => Ok(false),
+    }
+}
+
+#[test]
+fn a_hundred_orders_and_one(rt: HostRuntime) -> Result<(), Fail> {
+    let outputs = outputs(rt.alloc())?;
+    assert!(rt; end_in_listings(rt.alloc(), outputs.as_slice())?);
     Ok(())
 }
 
