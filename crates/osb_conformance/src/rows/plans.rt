@@ -43,15 +43,39 @@ fn is_in_use(fault: &NewFault, service: &str, plan: &str) -> bool {
     }
 }
 
+/// The same records, where these settings lack the plan that is in use.
+fn refused_over(
+    alloc: Global,
+    settings: &Settings,
+    records: Records<MemStore>,
+) -> Result<Records<MemStore>, Fail> {
+    let (fault, records) = fault_over(alloc, settings, records)?;
+    let is_lacking = is_in_use(&fault, "svc", "p-async");
+    drop(fault);
+    if is_lacking {
+        Ok(records)
+    } else {
+        Err("another fault")?
+    }
+}
+
+/// The same where the settings have `p-sync` alone.
+fn refused(alloc: Global, records: Records<MemStore>) -> Result<Records<MemStore>, Fail> {
+    let fewer = Settings::read(alloc, SYNC_ALONE.as_bytes())?;
+    refused_over(alloc, &fewer, records)
+}
+
+/// The records after both, which are as they were for a catalog that has the plan.
+fn stay(alloc: Global, settings: &Settings) -> Result<Records<MemStore>, Fail> {
+    let created = after(alloc, settings, open_memory(alloc)?, CREATION)?;
+    let records = refused(alloc, created)?;
+    after(alloc, settings, records, RUNNING)
+}
+
 #[test]
 fn plan_in_use(rt: HostRuntime) -> Result<(), Fail> {
-    let alloc = rt.alloc();
-    let settings = built_in(alloc)?;
-    let fewer = Settings::read(alloc, SYNC_ALONE.as_bytes())?;
-    let records = after(alloc, &settings, open_memory(alloc)?, CREATION)?;
-    let (fault, records) = fault_over(alloc, &fewer, records)?;
-    assert!(rt; is_in_use(&fault, "svc", "p-async"));
-    // The records are as they were, for a catalog that has the plan.
-    after(alloc, &settings, records, RUNNING)?;
+    let settings = built_in(rt.alloc())?;
+    let records = stay(rt.alloc(), &settings)?;
+    drop(records);
     Ok(())
 }
