@@ -1,6 +1,6 @@
 #!/usr/bin/env python3
-"""Measures the built program's `replay`: requests a second, memory, and what one listing and one
-look-up take where many instances stand.
+"""Measures the built program's `replay`: requests a second, memory, what one listing and one look-up
+take where many instances stand, and what polls take in a long life.
 
 usage: measure/replay.py PROGRAM
 """
@@ -98,6 +98,25 @@ def standing(program, folder, instances):
         print(f"{name} at {instances:,}: {each:.1f} microseconds")
 
 
+def long_life(program, folder, orders):
+    """Polls of an instance and of a binding behind so many orders about another binding."""
+    instance = "/v2/service_instances/i"
+    plan = "service_id=svc&plan_id=p-sync"
+    bound = '{"service_id":"svc","plan_id":"p-sync"}'
+    first, other = (f"{instance}/service_bindings/{name}" for name in "ab")
+    bind = "PUT {} HTTP/1.1\r\n" + f"{PLATFORM}Content-Length: {len(bound)}\r\n\r\n{bound}"
+    unbind = "DELETE {}?" + f"{plan} HTTP/1.1\r\n{PLATFORM}\r\n"
+    words = ["--per-connection", "1000", folder.write(put("i") + bind.format(first))]
+    words += [folder.write((bind.format(other) + unbind.format(other)) * 500)] * (orders // 1000)
+    base, _ = run(program, words, 3)
+    polled = [("the instance", instance), ("the first binding", first), ("the other binding", other)]
+    for name, path in polled:
+        more = folder.write(get(f"{path}/last_operation") * 1000)
+        seconds, _ = run(program, words + [more] * 20, 3)
+        each = (seconds - base) / 20_000 * 1e6
+        print(f"a poll of {name} after {orders:,} orders: {each:.1f} microseconds")
+
+
 def main():
     program = sys.argv[1]
     with tempfile.TemporaryDirectory() as path:
@@ -105,6 +124,8 @@ def main():
         connections(program, folder)
         for instances in (1_000, 100_000):
             standing(program, folder, instances)
+        for orders in (1_000, 50_000):
+            long_life(program, folder, orders)
 
 
 if __name__ == "__main__":

@@ -51,6 +51,12 @@ TABLES = {
     "bindings": [("i", "b", 2, "svc", "p-async", "", "{}", "{}", '{"k":"v"}')],
 }
 
+# The indexes beside those of the keys, in the order in which they were made.
+INDEXES = [
+    "CREATE INDEX busy_instances ON instances (busy, instance_id)",
+    "CREATE INDEX subject_orders ON orders (instance_id, binding_id, kind, seq)",
+]
+
 # What is answered from these tables, and changes nothing.
 ASKED_AGAIN = [
     ("GET", I, "", 200, '{"parameters":{},"plan_id":"p-async","service_id":"svc"}'),
@@ -93,6 +99,13 @@ def content(path):
         schema = sorted(connection.execute("SELECT type, name, sql FROM sqlite_schema"), key=repr)
         named = [name for kind, name, _ in schema if kind == "table"]
         return schema, [sorted(connection.execute(f"SELECT * FROM {name}")) for name in named]
+
+
+def indexes(path):
+    """What made the indexes beside those of the keys, in the schema's order."""
+    with contextlib.closing(sqlite3.connect(path)) as connection:
+        made = connection.execute("SELECT sql FROM sqlite_schema WHERE type = 'index' AND sql IS NOT NULL ORDER BY rowid")
+        return [row[0] for row in made]
 
 
 def integrity(path):
@@ -221,6 +234,15 @@ SPOILED = {
     "a table is missing": ["DROP TABLE bindings"],
     "a further table": ["CREATE TABLE more (a TEXT)"],
     "a further index": ["CREATE INDEX more ON orders (kind)"],
+    "the second index alone": ["DROP INDEX busy_instances"],
+    "the indexes in another order": [
+        "DROP INDEX busy_instances",
+        "CREATE INDEX busy_instances ON instances (busy, instance_id)",
+    ],
+    "an index of that name on other columns": [
+        "DROP INDEX subject_orders",
+        "CREATE INDEX subject_orders ON orders (instance_id, binding_id, seq, kind)",
+    ],
     "a further view": ["CREATE VIEW more AS SELECT 1 AS a"],
     "statistics": ["ANALYZE"],
 }
@@ -236,10 +258,11 @@ UNREADABLE = {
 
 # What may be done to the file without a change of its rows.
 HARMLESS = {
-    "no index": "DROP INDEX busy_instances",
-    "written anew": "VACUUM",
-    "with a rollback journal": "PRAGMA journal_mode = DELETE",
-    "in one file": "PRAGMA wal_checkpoint(TRUNCATE)",
+    "no second index": ["DROP INDEX subject_orders"],
+    "no index": ["DROP INDEX subject_orders", "DROP INDEX busy_instances"],
+    "written anew": ["VACUUM"],
+    "with a rollback journal": ["PRAGMA journal_mode = DELETE"],
+    "in one file": ["PRAGMA wal_checkpoint(TRUNCATE)"],
 }
 
 
@@ -280,13 +303,14 @@ def try_spoiled(program, folder, path):
 def try_harmless(program, folder, path):
     """A file of the same tables and rows is taken, whatever made it."""
     others = {"backed up": made_from(path, folder, backed_up)}
-    for name, statement in HARMLESS.items():
+    for name, statements in HARMLESS.items():
         others[name] = copied(path, folder)
-        run(others[name], statement)
+        run(others[name], *statements)
     for name, other in others.items():
         with Serving(program, other) as serving:
             yield from goes(serving, ASKED_AGAIN)
         yield name, tables(copied(other, folder)), TABLES
+        yield f"{name}: the indexes", indexes(copied(other, folder)), INDEXES
 
 
 def try_others(program, folder):

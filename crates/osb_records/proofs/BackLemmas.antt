@@ -58,7 +58,7 @@ first_push : {A : Type 0} (xs : List A) (x : A) → slice_get (xs ++ x ∷ []) 0
 first_push [] x = refl
 first_push (y ∷ ys) x = refl
 
-last_more : {A : Type 0} (x : A) (xs : List A) → last_of (x ∷ xs) ≡ Some (unwrap_or (last_of xs) x)
+pub last_more : {A : Type 0} (x : A) (xs : List A) → last_of (x ∷ xs) ≡ Some (unwrap_or (last_of xs) x)
 last_more x [] = refl
 last_more x (y ∷ ys) = refl
 

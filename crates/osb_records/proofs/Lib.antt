@@ -20,6 +20,7 @@ pub mod ListingLemmas
 pub mod BackLemmas
 pub mod OrderTexts
 pub mod OrderLemmas
+pub mod SubjectLemmas
 pub mod NameLemmas
 pub mod NamedLemmas
 pub mod BindingTexts

@@ -30,7 +30,7 @@ shows_again old new result survives same shows = elim result as (λ r. (HasClean
 
 -- ---- numbers
 
-above : (n : ℕ) (life : Life) → IsNumberedFrom n life → AllByRecursion (λ (order : Order). n < order.number) life
+pub above : (n : ℕ) (life : Life) → IsNumberedFrom n life → AllByRecursion (λ (order : Order). n < order.number) life
 above n [] h = tt
 above n (order ∷ later) h = (omega (arith, h.0), all_weaker (λ (other : Order). n + 1 < other.number) (λ (other : Order). n < other.number) (λ other low. omega (arith, low)) later (above (n + 1) later h.1))
 

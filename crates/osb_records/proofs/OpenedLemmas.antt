@@ -21,7 +21,7 @@ use Rattle.osb_records.specs.Stored.{Holds, content_in, lives_stored, entries_in
 use Rattle.osb_records.specs.Standing.{IsStanding}
 use Rattle.osb_records.specs.Opened.{StoreLives, StandIn, HoldsSame}
 use Rattle.osb_records.specs.Steps.{HasTables, HoldsLives, IsSettled, IsReady}
-use Rattle.osb_tables.specs.Tables.{no_schema, tables_schema, record_schema}
+use Rattle.osb_tables.specs.Tables.{no_schema, tables_schema, listed_schema, record_schema}
 use Rattle.osb_records.proofs.SortLemmas.{entries_are, instances_are, bindings_are, held_again}
 
 module _ {E : Type 0} (cmp : E → E → Ordering) where
@@ -106,13 +106,14 @@ ready_by old new settled same schema stored = record {
 
 -- the lives of a database that has all
 pub all_stand : (old new : Database) → new ≡ old → old.schema ≡ record_schema → StoreLives old.trees → StandIn old (lives_stored new.trees)
-all_stand old new same schema stored = inr (inr schema, stored, ap (λ (d : Database). lives_stored d.trees) same)
+all_stand old new same schema stored = inr (inr (inr schema), stored, ap (λ (d : Database). lives_stored d.trees) same)
 
 -- other tables, or rows of no lives
-pub others_stand : (db : Database) → db.schema ≢ no_schema → db.schema ≢ tables_schema → db.schema ≢ record_schema → (lives : Lives) → ¬ StandIn db lives
-others_stand db nothing tables all lives (inl none) = nothing none.0
-others_stand db nothing tables all lives (inr (inl some, it, are)) = tables some
-others_stand db nothing tables all lives (inr (inr some, it, are)) = all some
+pub others_stand : (db : Database) → db.schema ≢ no_schema → db.schema ≢ tables_schema → db.schema ≢ listed_schema → db.schema ≢ record_schema → (lives : Lives) → ¬ StandIn db lives
+others_stand db nothing tables listed all lives (inl none) = nothing none.0
+others_stand db nothing tables listed all lives (inr (inl some, it, are)) = tables some
+others_stand db nothing tables listed all lives (inr (inr (inl some), it, are)) = listed some
+others_stand db nothing tables listed all lives (inr (inr (inr some), it, are)) = all some
 
 pub foreign_stand : (db : Database) → db.schema ≢ no_schema → ¬ StoreLives db.trees → (lives : Lives) → ¬ StandIn db lives
 foreign_stand db some none lives (inl nothing) = some nothing.0

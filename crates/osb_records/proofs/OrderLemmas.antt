@@ -1,38 +1,33 @@
 -- What the queries for one order answer of a life.
-use Rattle.std.proofs.Common.{◌≡◌, ℕ, ◌==◌, pos, List, [], ◌∷◌, map, filter, take, Bool, true, false, not, cond, ◌&&◌, bytes_eq, Some, option_map, slice_get, refl, sym, ap, ◌∙◌}
+use Rattle.std.proofs.Common.{◌≡◌, ℕ, ◌==◌, pos, List, [], ◌∷◌, map, filter, take, Bool, true, false, cond, ◌&&◌, Some, option_map, slice_get, refl, sym, ap, ◌∙◌}
 use Rattle.std.specs.List.{list_all}
-use Rattle.std.specs.Ordering.{nat_cmp, is_lt, is_gt, flip_args}
+use Rattle.std.specs.Ordering.{flip_args}
 use Rattle.std.proofs.lemmas.Cmp.{back_total}
 use Rattle.sqlite.specs.declared.types.Value.TheVariants.{Null, Int, Text}
 use Rattle.sqlite.specs.Order.{Row}
 use Rattle.sqlite.specs.Program.{overlay}
-use Rattle.sqlite.specs.Term.{Term, holds}
-use Rattle.sqlite.specs.Ops.{binary, is_true}
-use Rattle.sqlite_sql.specs.declared.ops.BinaryOp.TheVariants.{Compare}
-use Rattle.sqlite_sql.specs.declared.ops.CompareOp.TheVariants.{Lt, Gt}
-use Rattle.sqlite_value.specs.declared.keys.Collation.TheVariants.{Binary}
+use Rattle.sqlite.specs.Term.{holds}
 use Rattle.sqlite.specs.State.{State, Shown}
 use Rattle.sqlite.proofs.Callers.{reads_as}
 use Rattle.osb_orders.specs.declared.order.OrderKind.{OrderKind}
-use Rattle.osb_orders.specs.declared.order.OrderKind.TheVariants.{Create, Update, Delete, Bind, Unbind}
 use Rattle.osb_orders.specs.declared.order.Order.{Order}
 use Rattle.osb_orders.specs.Lists.{last_of}
-use Rattle.osb_orders.specs.Orders.{kind_number, is_about_binding, is_a, is_of_instance, is_of_binding}
+use Rattle.osb_orders.specs.Orders.{kind_number}
 use Rattle.osb_orders.specs.Lives.{life_of}
 use Rattle.osb_orders.specs.Named.{order_numbered}
 use Rattle.osb_tables.specs.Tables.{record_schema}
 use Rattle.osb_audit.specs.Orders.{Entry, entry_cmp, is_of}
 use Rattle.osb_records.specs.Stored.{entry_row, order_cells, entries_in, is_keyed}
 use Rattle.osb_records.specs.Steps.{HasTables, stored}
-use Rattle.osb_records.specs.Queries.{first_order}
-use Rattle.osb_records.proofs.TestLemmas.{truth_back, same_text, same_number, and_true, number_cmp, at_key}
+use Rattle.osb_records.specs.Queries.{first_order, is_kind_of}
+use Rattle.osb_records.proofs.TestLemmas.{same_text, same_number, and_true, at_key}
 use Rattle.osb_records.proofs.SortLemmas.{entry_total, told_back}
-use Rattle.osb_records.proofs.AnswerLemmas.{over, one_answer}
+use Rattle.osb_records.proofs.AnswerLemmas.{one_answer}
 use Rattle.osb_records.proofs.SelectLemmas.{by_both}
 use Rattle.osb_records.proofs.LivesLemmas.{life_in, life_of_lives}
 use Rattle.osb_records.proofs.BackLemmas.{back, stores_back, filter_back, first_back, last_map}
 use Rattle.osb_records.proofs.Texts.{all_cells, by_key, every}
-use Rattle.osb_records.proofs.OrderTexts.{Reads, by_key_back, one, select_order, order_tests, select_order_is, select_creation, creation_tests, select_creation_is, select_of_instance, instance_tests, select_of_instance_is, select_of_binding, binding_tests, select_of_binding_is}
+use Rattle.osb_records.proofs.OrderTexts.{by_key_back, one, select_order, order_tests, select_order_is, select_last, last_tests, select_last_is}
 
 -- ---- the first row
 
@@ -89,36 +84,8 @@ last_of_those id passes es =
 
 -- ---- the tests of WHERE
 
-at_creation : (id : List ℕ) (entry : Entry) → list_all (holds ((Text id ∷ []) ∷ (Null ∷ entry_row entry) ∷ [])) creation_tests ≡ is_of_with id (is_a Create) entry
-at_creation id entry = rw (same_text entry.0 id, same_number (kind_number entry.1.kind) 1, and_true (kind_number entry.1.kind == 1)) refl
-
-lower_number : (m n : ℕ) → is_true (binary (Compare Lt Binary) (Int (pos m)) (Int (pos n))) ≡ is_lt (nat_cmp m n)
-unfolding binary
-lower_number m n = truth_back _ ∙ ap is_lt (number_cmp m n)
-
-greater_number : (m n : ℕ) → is_true (binary (Compare Gt Binary) (Int (pos m)) (Int (pos n))) ≡ is_gt (nat_cmp m n)
-unfolding binary
-greater_number m n = truth_back _ ∙ ap is_gt (number_cmp m n)
-
-below_four : (kind : OrderKind) → is_true (binary (Compare Lt Binary) (Int (pos (kind_number kind))) (Int (pos 4))) ≡ not (is_about_binding kind)
-below_four Create = lower_number 1 4
-below_four Update = lower_number 2 4
-below_four Delete = lower_number 3 4
-below_four Bind = lower_number 4 4
-below_four Unbind = lower_number 5 4
-
-above_three : (kind : OrderKind) → is_true (binary (Compare Gt Binary) (Int (pos (kind_number kind))) (Int (pos 3))) ≡ is_about_binding kind
-above_three Create = greater_number 1 3
-above_three Update = greater_number 2 3
-above_three Delete = greater_number 3 3
-above_three Bind = greater_number 4 3
-above_three Unbind = greater_number 5 3
-
-at_of_instance : (id : List ℕ) (entry : Entry) → list_all (holds ((Text id ∷ []) ∷ (Null ∷ entry_row entry) ∷ [])) instance_tests ≡ is_of_with id is_of_instance entry
-at_of_instance id entry = rw (same_text entry.0 id, below_four entry.1.kind, and_true (not (is_about_binding entry.1.kind))) refl
-
-at_of_binding : (id binding : List ℕ) (entry : Entry) → list_all (holds ((Text id ∷ Text binding ∷ []) ∷ (Null ∷ entry_row entry) ∷ [])) binding_tests ≡ is_of_with id (is_of_binding binding) entry
-at_of_binding id binding entry = rw (same_text entry.0 id, above_three entry.1.kind, same_text entry.1.binding binding, and_true (bytes_eq entry.1.binding binding)) refl
+at_last : (id binding : List ℕ) (kind : OrderKind) (entry : Entry) → list_all (holds ((Text id ∷ Text binding ∷ Int (pos (kind_number kind)) ∷ []) ∷ (Null ∷ entry_row entry) ∷ [])) last_tests ≡ is_of_with id (is_kind_of binding kind) entry
+at_last id binding kind entry = rw (same_text entry.0 id, same_text entry.1.binding binding, same_number (kind_number entry.1.kind) (kind_number kind), and_true (kind_number entry.1.kind == kind_number kind)) refl
 
 -- ---- the queries
 
@@ -126,27 +93,16 @@ module _ (old new : State) (tables : HasTables old.now) where
   abbrev entries : List Entry
   entries = entries_in old.now.trees
 
-  abbrev SeesCells : Row → List Term → Type 0
-  SeesCells params terms = (row : Row) → list_all (holds (params ∷ row ∷ [])) terms ≡ list_all (holds (params ∷ (Null ∷ order_cells row) ∷ [])) terms
-
-  shows_last : (text : List ℕ) (terms : List Term) → Reads text (over 1 terms all_cells by_key_back one) → (params : Row) → SeesCells params terms → (id : List ℕ) (passes : Order → Bool)
-      → ((entry : Entry) → list_all (holds (params ∷ (Null ∷ entry_row entry) ∷ [])) terms ≡ is_of_with id passes entry)
-      → (rows : List Row) → Shown text params old new rows → first_order rows ≡ last_of (filter passes (life_of (stored old) id))
-  shows_last text terms reads params sees id passes agree rows h =
-      let read = reads_as text params old new record_schema tables.schema _ reads.0 reads.2 reads.1 rows h in
-      ap first_order (one_answer 1 terms all_cells by_key_back one (overlay old.now.trees []) params order_cells entry_row (flip_args entry_cmp) (back_total entry_total) (is_of_with id passes)
-      sees (λ _. refl) agree (λ a b less. by_both b a ∙ less) (back entries) rows (stores_back order_cells entry_row entry_cmp _ entries tables.holds.orders) (read.answer Null))
+  -- the last order of a kind about a binding, or about the instance
+  pub shows_last : (id binding : List ℕ) (kind : OrderKind) (rows : List Row) → Shown select_last (Text id ∷ Text binding ∷ Int (pos (kind_number kind)) ∷ []) old new rows → first_order rows ≡ last_of (filter (is_kind_of binding kind) (life_of (stored old) id))
+  shows_last id binding kind rows h =
+      let params = Text id ∷ Text binding ∷ Int (pos (kind_number kind)) ∷ [] in
+      let passes = is_kind_of binding kind in
+      let read = reads_as select_last params old new record_schema tables.schema _ select_last_is.0 select_last_is.2 select_last_is.1 rows h in
+      ap first_order (one_answer 1 last_tests all_cells by_key_back one (overlay old.now.trees []) params order_cells entry_row (flip_args entry_cmp) (back_total entry_total) (is_of_with id passes)
+      (λ _. refl) (λ _. refl) (at_last id binding kind) (λ a b less. by_both b a ∙ less) (back entries) rows (stores_back order_cells entry_row entry_cmp _ entries tables.holds.orders) (read.answer Null))
       ∙ last_of_those id passes entries
       ∙ ap (λ life. last_of (filter passes life)) (sym (life_of_lives id entries))
-
-  pub shows_creation : (id : List ℕ) (rows : List Row) → Shown select_creation (Text id ∷ []) old new rows → first_order rows ≡ last_of (filter (is_a Create) (life_of (stored old) id))
-  shows_creation id rows h = shows_last select_creation creation_tests select_creation_is (Text id ∷ []) (λ _. refl) id (is_a Create) (at_creation id) rows h
-
-  pub shows_of_instance : (id : List ℕ) (rows : List Row) → Shown select_of_instance (Text id ∷ []) old new rows → first_order rows ≡ last_of (filter is_of_instance (life_of (stored old) id))
-  shows_of_instance id rows h = shows_last select_of_instance instance_tests select_of_instance_is (Text id ∷ []) (λ _. refl) id is_of_instance (at_of_instance id) rows h
-
-  pub shows_of_binding : (id binding : List ℕ) (rows : List Row) → Shown select_of_binding (Text id ∷ Text binding ∷ []) old new rows → first_order rows ≡ last_of (filter (is_of_binding binding) (life_of (stored old) id))
-  shows_of_binding id binding rows h = shows_last select_of_binding binding_tests select_of_binding_is (Text id ∷ Text binding ∷ []) (λ _. refl) id (is_of_binding binding) (at_of_binding id binding) rows h
 
   pub shows_order : (id : List ℕ) (number : ℕ) (rows : List Row) → Shown select_order (Text id ∷ Int (pos number) ∷ []) old new rows → first_order rows ≡ order_numbered number (life_of (stored old) id)
   shows_order id number rows h =

@@ -4,9 +4,6 @@ use Rattle.sqlite.specs.declared.types.Value.TheVariants.{Int}
 use Rattle.sqlite.specs.Query.{Query}
 use Rattle.sqlite.specs.Term.{Term, lit, col}
 use Rattle.sqlite.specs.Command.TheVariants.{Select}
-use Rattle.sqlite_sql.specs.Term.{op2}
-use Rattle.sqlite_sql.specs.declared.ops.BinaryOp.TheVariants.{Compare}
-use Rattle.sqlite_sql.specs.declared.ops.CompareOp.TheVariants.{Eq, Lt, Gt}
 use Rattle.sqlite_value.specs.declared.keys.Collation.TheVariants.{Binary}
 use Rattle.sqlite_value.specs.declared.keys.Key.{Key}
 use Rattle.sqlite_tied.specs.Compute.{everything}
@@ -41,32 +38,12 @@ pub select_order_is : Reads select_order (over 1 order_tests all_cells by_key ev
 unfolding understood everything
 select_order_is = (refl, refl, (refl, refl))
 
-abbrev pub select_creation : List ℕ
-select_creation = codes "SELECT instance_id, seq, kind, binding_id, service_id, plan_id, place, spot, params, maint, state, note, credentials FROM orders WHERE instance_id = ?1 AND kind = 1 ORDER BY instance_id DESC, seq DESC LIMIT 1"
+abbrev pub select_last : List ℕ
+select_last = codes "SELECT instance_id, seq, kind, binding_id, service_id, plan_id, place, spot, params, maint, state, note, credentials FROM orders WHERE instance_id = ?1 AND binding_id = ?2 AND kind = ?3 ORDER BY instance_id DESC, seq DESC LIMIT 1"
 
-abbrev pub creation_tests : List Term
-creation_tests = is_at 1 0 ∷ op2 (Compare Eq Binary) (col 1 3) (lit (Int (pos 1))) ∷ []
+abbrev pub last_tests : List Term
+last_tests = is_at 1 0 ∷ is_at 4 1 ∷ is_at 3 2 ∷ []
 
-pub select_creation_is : Reads select_creation (over 1 creation_tests all_cells by_key_back one)
+pub select_last_is : Reads select_last (over 1 last_tests all_cells by_key_back one)
 unfolding understood everything
-select_creation_is = (refl, refl, (refl, refl))
-
-abbrev pub select_of_instance : List ℕ
-select_of_instance = codes "SELECT instance_id, seq, kind, binding_id, service_id, plan_id, place, spot, params, maint, state, note, credentials FROM orders WHERE instance_id = ?1 AND kind < 4 ORDER BY instance_id DESC, seq DESC LIMIT 1"
-
-abbrev pub instance_tests : List Term
-instance_tests = is_at 1 0 ∷ op2 (Compare Lt Binary) (col 1 3) (lit (Int (pos 4))) ∷ []
-
-pub select_of_instance_is : Reads select_of_instance (over 1 instance_tests all_cells by_key_back one)
-unfolding understood everything
-select_of_instance_is = (refl, refl, (refl, refl))
-
-abbrev pub select_of_binding : List ℕ
-select_of_binding = codes "SELECT instance_id, seq, kind, binding_id, service_id, plan_id, place, spot, params, maint, state, note, credentials FROM orders WHERE instance_id = ?1 AND kind > 3 AND binding_id = ?2 ORDER BY instance_id DESC, seq DESC LIMIT 1"
-
-abbrev pub binding_tests : List Term
-binding_tests = is_at 1 0 ∷ op2 (Compare Gt Binary) (col 1 3) (lit (Int (pos 3))) ∷ is_at 4 1 ∷ []
-
-pub select_of_binding_is : Reads select_of_binding (over 1 binding_tests all_cells by_key_back one)
-unfolding understood everything
-select_of_binding_is = (refl, refl, (refl, refl))
+select_last_is = (refl, refl, (refl, refl))

@@ -15,10 +15,12 @@ use Rattle.sqlite_value.specs.Keys.{ascending}
 use Rattle.sqlite_tied.specs.Compute.{everything}
 use Rattle.sqlite.specs.Listing.{understood, reads_listing}
 use Rattle.sqlite.proofs.Callers.{IsPlain, command_of, statement_of}
-use Rattle.osb_tables.specs.Tables.{format_table, instances_table, busy_index, no_schema, format_schema, orders_schema, instances_schema, tables_schema, record_schema, plain_table, order_columns, instance_columns, binding_columns}
+use Rattle.osb_tables.specs.Tables.{format_table, orders_table, instances_table, busy_index, subject_index, no_schema, format_schema, orders_schema, instances_schema, tables_schema, listed_schema, record_schema, plain_table, order_columns, instance_columns, binding_columns}
 use Rattle.osb_records.proofs.AnswerLemmas.{over}
 use Rattle.sqlite.specs.Change.{created}
 use Rattle.sqlite.specs.Table.{Table}
+use Rattle.sqlite.specs.Schema.{Schema}
+use Rattle.sqlite_schema.specs.declared.schema.Index.{Index}
 
 -- no LIMIT
 abbrev pub every : Term
@@ -98,16 +100,23 @@ pub bindings_placed : created instances_schema bindings_made ≡ tables_schema
 unfolding everything
 bindings_placed = refl
 
-abbrev pub create_index : List ℕ
-create_index = codes "CREATE INDEX busy_instances ON instances (busy, instance_id)"
+-- what is known of a text that makes an index on the table at this place
+abbrev pub MakesOn : List ℕ → Schema → ℕ → Table → Index → Type 0
+MakesOn text before place table index = (command_of (understood before text) ≡ CreateIndex place) × (statement_of text (understood before text) ≡ text) × (index_defined_by table text ≡ Ok index) × IsPlain (understood before text)
 
-pub create_index_is : (command_of (understood tables_schema create_index) ≡ CreateIndex 2) × (statement_of create_index (understood tables_schema create_index) ≡ create_index) × (index_defined_by instances_table create_index ≡ Ok busy_index)
-unfolding understood everything
-create_index_is = (refl, refl, refl)
+abbrev pub create_busy_index : List ℕ
+create_busy_index = codes "CREATE INDEX busy_instances ON instances (busy, instance_id)"
 
-pub create_index_plain : IsPlain (understood tables_schema create_index)
+pub create_busy_index_is : MakesOn create_busy_index tables_schema 2 instances_table busy_index
 unfolding understood everything
-create_index_plain = (refl, refl)
+create_busy_index_is = (refl, refl, refl, (refl, refl))
+
+abbrev pub create_subject_index : List ℕ
+create_subject_index = codes "CREATE INDEX subject_orders ON orders (instance_id, binding_id, kind, seq)"
+
+pub create_subject_index_is : MakesOn create_subject_index listed_schema 1 orders_table subject_index
+unfolding understood everything
+create_subject_index_is = (refl, refl, refl, (refl, refl))
 
 abbrev pub insert_version : List ℕ
 insert_version = codes "INSERT INTO format (version) VALUES (1)"

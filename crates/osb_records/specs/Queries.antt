@@ -1,10 +1,13 @@
 -- What a connection shows to queries, and what the rows of an answer tell.
-use Rattle.std.specs.Prelude.{IsTrue, ℕ, pos, Bool, false, List, [], ◌∷◌, Option, None, Some, option_map, slice_get, if◌then◌else◌}
+use Rattle.std.specs.Prelude.{IsTrue, ℕ, pos, Bool, false, ◌&&◌, ◌||◌, nat_lt, List, [], ◌∷◌, bytes_eq, Option, None, Some, option_map, slice_get, if◌then◌else◌}
 use Rattle.sqlite.specs.declared.types.Value.TheVariants.{Int, Text as Words}
 use Rattle.sqlite.specs.Order.{Row, column, bytes}
 use Rattle.sqlite.specs.Effect.{Database}
 use Rattle.sqlite.specs.State.{State, HasCleanDisk}
 use Rattle.osb_orders.specs.declared.order.Order.{Order}
+use Rattle.osb_orders.specs.declared.order.OrderKind.{OrderKind}
+use Rattle.osb_orders.specs.declared.order.OrderKind.TheVariants.{Create, Update}
+use Rattle.osb_orders.specs.Orders.{is_a}
 use Rattle.osb_orders.specs.Facts.{Facts}
 use Rattle.osb_orders.specs.Lives.{Lives, life_of}
 use Rattle.osb_orders.specs.Named.{order_numbered}
@@ -41,6 +44,20 @@ order_for lives cells = option_map (λ (order : Order). (bytes (column cells 0),
 abbrev pub only : {A : Type 0} → (A → Bool) → Option A → Option A
 only passes None = None
 only passes (Some item) = if passes item then Some item else None
+
+-- an order of this kind about this binding; one about the instance itself names none
+abbrev pub is_kind_of : List ℕ → OrderKind → Order → Bool
+is_kind_of binding kind order = bytes_eq order.binding binding && is_a kind order
+
+-- a creation or an update, which keep the instance
+abbrev pub is_kept : Order → Bool
+is_kept order = is_kind_of [] Create order || is_kind_of [] Update order
+
+-- the one with the greater number
+abbrev pub later_of : Option Order → Option Order → Option Order
+later_of None other = other
+later_of (Some order) None = Some order
+later_of (Some order) (Some other) = if nat_lt order.number other.number then Some other else Some order
 
 -- the view for an ask about no instance
 abbrev pub listed_facts : List (List ℕ × Order) → Facts

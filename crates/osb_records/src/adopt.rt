@@ -5,13 +5,13 @@ ghost use Rattle.std.specs.FinMap.{empty};
 ghost use Rattle.sqlite.specs.Held.{state};
 ghost use Rattle.sqlite.specs.State.{HasCleanDisk, KeepsCommit, Survives};
 ghost use Rattle.osb_orders.specs.Lives.{Lives};
-ghost use Rattle.osb_tables.specs.Tables.{no_schema, tables_schema, record_schema};
+ghost use Rattle.osb_tables.specs.Tables.{no_schema, record_schema};
 ghost use Rattle.osb_records.specs.declared.fault.StoreFault.TheVariants as faults;
-ghost use Rattle.osb_records.specs.Opened.{StoreLives, StandIn, HoldsSame};
+ghost use Rattle.osb_records.specs.Opened.{StoreLives, StandIn, HoldsSame, lacking};
 ghost use Rattle.osb_records.specs.Steps.{ShowsSchema, HoldsLives, IsSettled, IsReady, Writes, stored};
 
 use crate::fault::StoreFault;
-use crate::tables::{create_index, make_tables};
+use crate::tables::{add_indexes, make_tables};
 use crate::whole::are_tables_whole;
 use osb_tables::{Found, find};
 use sqlite::{Alter, Connection, Transaction};
@@ -53,17 +53,21 @@ fn take_tables<S: Alter>(conn: &mut Connection<S>, alloc: Global) -> Result<(), 
     }
 }
 
-/// Makes the index beside the tables, if these are of well-formed lives.
-fn index_tables<S: Alter>(tx: &mut Transaction<'_, S>, alloc: Global) -> Result<(), StoreFault>
-    requires { ShowsSchema tables_schema (state S.Store tx.old.conn.now) }
+/// Makes the indexes that the tables lack, if these are of well-formed lives.
+fn index_tables<S: Alter>(
+    tx: &mut Transaction<'_, S>,
+    alloc: Global,
+    is_listed: bool,
+) -> Result<(), StoreFault>
+    requires { ShowsSchema (lacking is_listed) (state S.Store tx.old.conn.now) }
     ensures same_reference { tx.new.conn.ghost_name ≡ tx.old.conn.ghost_name }
     ensures ok { HasCleanDisk (state S.Store tx.new.conn.now) → OnOk result (Writes (state S.Store tx.old.conn.now) (state S.Store tx.new.conn.now) (stored (state S.Store tx.old.conn.now))) }
-    ensures lives { HasCleanDisk (state S.Store tx.new.conn.now) → OnOk result (((state S.Store tx.old.conn.now).now.schema ≡ tables_schema) × StoreLives (state S.Store tx.old.conn.now).now.trees) }
+    ensures lives { HasCleanDisk (state S.Store tx.new.conn.now) → OnOk result (((state S.Store tx.old.conn.now).now.schema ≡ lacking is_listed) × StoreLives (state S.Store tx.old.conn.now).now.trees) }
     ensures not_ours { HasCleanDisk (state S.Store tx.new.conn.now) → result ≡ Err faults.NotOurs → ¬ StoreLives (state S.Store tx.old.conn.now).now.trees }
     ensures kept { HasCleanDisk (state S.Store tx.new.conn.now) → IsTrue (state S.Store tx.old.conn.now).in_transaction → KeepsCommit (state S.Store tx.old.conn.now) (state S.Store tx.new.conn.now) }
     ensures survives { Survives (state S.Store tx.old.conn.now) (state S.Store tx.new.conn.now) (λ _. ⊥) }
 {
-    create_index(tx)?;
+    add_indexes(tx, is_listed)?;
     match are_tables_whole(tx, alloc) {
         Ok(true) => Ok(()),
         Ok(false) => Err(StoreFault::NotOurs),
@@ -71,12 +75,16 @@ fn index_tables<S: Alter>(tx: &mut Transaction<'_, S>, alloc: Global) -> Result<
     }
 }
 
-/// Takes the tables of a database that lacks the index, and makes it: one transaction that writes
-/// nothing else.
-#[tactic(auto, using(crate::proofs::IndexLemmas::completed_same))]
-fn complete_tables<S: Alter>(conn: &mut Connection<S>, alloc: Global) -> Result<(), StoreFault>
+/// Takes the tables of a database that lacks an index or both, and makes them: one transaction that writes
+/// nothing else. `is_listed` says whether the index of the listing is there.
+#[tactic(auto, using(crate::proofs::IndexLemmas::completed_same, crate::proofs::IndexLemmas::lacking_has))]
+fn complete_tables<S: Alter>(
+    conn: &mut Connection<S>,
+    alloc: Global,
+    is_listed: bool,
+) -> Result<(), StoreFault>
     requires settled { IsSettled (state S.Store conn.old) }
-    requires schema { ShowsSchema tables_schema (state S.Store conn.old) }
+    requires schema { ShowsSchema (lacking is_listed) (state S.Store conn.old) }
     ensures ready { OnOk result (IsReady (state S.Store conn.new)) }
     ensures ok { HasCleanDisk (state S.Store conn.new) → OnOk result (StandIn (state S.Store conn.old).now (stored (state S.Store conn.new))) }
     ensures err { HasCleanDisk (state S.Store conn.new) → IsTrue (state S.Store conn.new).is_open → OnErr result ((state S.Store conn.new).now ≡ (state S.Store conn.old).now) }
@@ -84,7 +92,7 @@ fn complete_tables<S: Alter>(conn: &mut Connection<S>, alloc: Global) -> Result<
     ensures crash { Survives (state S.Store conn.old) (state S.Store conn.new) (HoldsSame (state S.Store conn.old).now) }
 {
     let mut tx = conn.transaction();
-    index_tables(&mut tx, alloc)?;
+    index_tables(&mut tx, alloc, is_listed)?;
     tx.commit()?;
     Ok(())
 }
@@ -116,7 +124,8 @@ fn take_settled<S: Alter>(conn: &mut Connection<S>, alloc: Global) -> Result<(),
     match find(conn.schema()) {
         Found::Nothing => make(conn),
         Found::All => take_tables(conn, alloc),
-        Found::Tables => complete_tables(conn, alloc),
+        Found::Listed => complete_tables(conn, alloc, true),
+        Found::Tables => complete_tables(conn, alloc, false),
         Found::Others => Err(StoreFault::NotOurs),
     }
 }

@@ -280,7 +280,9 @@ fn write_binding<S: Alter>(
     let binding = order.binding.as_str();
     let old = read_binding(tx, alloc, instance, binding)?;
     let (had, edit) = edit_from(alloc, order, old)?;
-    apply_edit(tx, instance, binding, had, &edit)?;
+    let applied = apply_edit(tx, instance, binding, had, &edit);
+    drop(edit);
+    applied?;
     Ok(())
 }
 
@@ -301,6 +303,8 @@ pub(crate) fn write_bindings<S: Alter>(
         return write_binding(tx, alloc, instance, order);
     }
     let edit = binding_edit(alloc, order, None)?;
-    apply_edit(tx, instance, order.binding.as_str(), false, &edit)?;
+    let applied = apply_edit(tx, instance, order.binding.as_str(), false, &edit);
+    drop(edit);
+    applied?;
     Ok(())
 }

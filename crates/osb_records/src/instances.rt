@@ -263,6 +263,9 @@ pub(crate) fn write_instance<S: Alter>(
 {
     let old = read_instance(tx, instance)?;
     let row = next_row(tx, instance, order, old.as_ref())?;
-    put_instance(tx, instance, old.as_ref(), &row)?;
+    let put = put_instance(tx, instance, old.as_ref(), &row);
+    drop(old);
+    drop(row);
+    put?;
     Ok(())
 }

@@ -11,12 +11,12 @@ ghost use Rattle.osb_orders.specs.Lives.{life_of};
 ghost use Rattle.osb_orders.specs.Named as spec;
 ghost use Rattle.osb_standing.specs.Rows as rows;
 ghost use Rattle.osb_records.specs.Steps.{ShowsTables, stored};
-ghost use Rattle.osb_records.specs.Queries.{ShowsRecords, first_order, only};
+ghost use Rattle.osb_records.specs.Queries.{ShowsRecords, first_order, is_kind_of, is_kept, later_of, only};
 
 use crate::fault::StoreFault;
 use crate::names::number_named;
 use crate::row::first_in;
-use osb_orders::{Order, OrderState};
+use osb_orders::{Order, OrderKind, OrderState};
 use sqlite::{Alter, Error, Row, Transaction, params};
 use std::alloc::Global;
 
@@ -38,52 +38,22 @@ fn select_order<S: Alter>(
     )
 }
 
-fn select_creation<S: Alter>(tx: &mut Transaction<'_, S>, instance: &str) -> Result<Vec<Row>, Error>
-    requires { ShowsTables (state S.Store tx.old.conn.now) }
-    ensures same_reference { tx.new.conn.ghost_name ≡ tx.old.conn.ghost_name }
-    ensures ok { HasCleanDisk (state S.Store tx.new.conn.now) → IfOk result (λ rows. first_order rows.items ≡ last_of (filter (is_a Create) (life_of (stored (state S.Store tx.old.conn.now)) instance.now))) }
-    ensures same { HasCleanDisk (state S.Store tx.new.conn.now) → OnOk result (IsUnchanged (state S.Store tx.old.conn.now) (state S.Store tx.new.conn.now)) }
-    ensures kept { HasCleanDisk (state S.Store tx.new.conn.now) → IsTrue (state S.Store tx.old.conn.now).in_transaction → KeepsCommit (state S.Store tx.old.conn.now) (state S.Store tx.new.conn.now) }
-    ensures survives { Survives (state S.Store tx.old.conn.now) (state S.Store tx.new.conn.now) (λ _. ⊥) }
-{
-    tx.query_all(
-        "SELECT instance_id, seq, kind, binding_id, service_id, plan_id, place, spot, params, maint, state, note, credentials FROM orders WHERE instance_id = ?1 AND kind = 1 ORDER BY instance_id DESC, seq DESC LIMIT 1",
-        params![instance],
-    )
-}
-
-fn select_of_instance<S: Alter>(
-    tx: &mut Transaction<'_, S>,
-    instance: &str,
-) -> Result<Vec<Row>, Error>
-    requires { ShowsTables (state S.Store tx.old.conn.now) }
-    ensures same_reference { tx.new.conn.ghost_name ≡ tx.old.conn.ghost_name }
-    ensures ok { HasCleanDisk (state S.Store tx.new.conn.now) → IfOk result (λ rows. first_order rows.items ≡ last_of (filter is_of_instance (life_of (stored (state S.Store tx.old.conn.now)) instance.now))) }
-    ensures same { HasCleanDisk (state S.Store tx.new.conn.now) → OnOk result (IsUnchanged (state S.Store tx.old.conn.now) (state S.Store tx.new.conn.now)) }
-    ensures kept { HasCleanDisk (state S.Store tx.new.conn.now) → IsTrue (state S.Store tx.old.conn.now).in_transaction → KeepsCommit (state S.Store tx.old.conn.now) (state S.Store tx.new.conn.now) }
-    ensures survives { Survives (state S.Store tx.old.conn.now) (state S.Store tx.new.conn.now) (λ _. ⊥) }
-{
-    tx.query_all(
-        "SELECT instance_id, seq, kind, binding_id, service_id, plan_id, place, spot, params, maint, state, note, credentials FROM orders WHERE instance_id = ?1 AND kind < 4 ORDER BY instance_id DESC, seq DESC LIMIT 1",
-        params![instance],
-    )
-}
-
-fn select_of_binding<S: Alter>(
+fn select_last<S: Alter>(
     tx: &mut Transaction<'_, S>,
     instance: &str,
     binding: &str,
+    kind: OrderKind,
 ) -> Result<Vec<Row>, Error>
     requires { ShowsTables (state S.Store tx.old.conn.now) }
     ensures same_reference { tx.new.conn.ghost_name ≡ tx.old.conn.ghost_name }
-    ensures ok { HasCleanDisk (state S.Store tx.new.conn.now) → IfOk result (λ rows. first_order rows.items ≡ last_of (filter (is_of_binding binding.now) (life_of (stored (state S.Store tx.old.conn.now)) instance.now))) }
+    ensures ok { HasCleanDisk (state S.Store tx.new.conn.now) → IfOk result (λ rows. first_order rows.items ≡ last_of (filter (is_kind_of binding.now kind) (life_of (stored (state S.Store tx.old.conn.now)) instance.now))) }
     ensures same { HasCleanDisk (state S.Store tx.new.conn.now) → OnOk result (IsUnchanged (state S.Store tx.old.conn.now) (state S.Store tx.new.conn.now)) }
     ensures kept { HasCleanDisk (state S.Store tx.new.conn.now) → IsTrue (state S.Store tx.old.conn.now).in_transaction → KeepsCommit (state S.Store tx.old.conn.now) (state S.Store tx.new.conn.now) }
     ensures survives { Survives (state S.Store tx.old.conn.now) (state S.Store tx.new.conn.now) (λ _. ⊥) }
 {
     tx.query_all(
-        "SELECT instance_id, seq, kind, binding_id, service_id, plan_id, place, spot, params, maint, state, note, credentials FROM orders WHERE instance_id = ?1 AND kind > 3 AND binding_id = ?2 ORDER BY instance_id DESC, seq DESC LIMIT 1",
-        params![instance, binding],
+        "SELECT instance_id, seq, kind, binding_id, service_id, plan_id, place, spot, params, maint, state, note, credentials FROM orders WHERE instance_id = ?1 AND binding_id = ?2 AND kind = ?3 ORDER BY instance_id DESC, seq DESC LIMIT 1",
+        params![instance, binding, u32::from(kind.number())],
     )
 }
 
@@ -106,6 +76,60 @@ pub(crate) fn order_numbered<S: Alter>(
     first_in(&rows)
 }
 
+/// The last order of that kind about the binding, by the index on what orders are about. One about the
+/// instance itself names no binding.
+#[tactic(auto, using(crate::proofs::NamedLemmas::shows_again))]
+fn last_of_kind<S: Alter>(
+    tx: &mut Transaction<'_, S>,
+    instance: &str,
+    binding: &str,
+    kind: OrderKind,
+) -> Result<Option<Order>, StoreFault>
+    requires { ShowsRecords (state S.Store tx.old.conn.now) }
+    ensures same_reference { tx.new.conn.ghost_name ≡ tx.old.conn.ghost_name }
+    ensures ok { HasCleanDisk (state S.Store tx.new.conn.now) → IfOk result (λ order. order ≡ last_of (filter (is_kind_of binding.now kind) (life_of (stored (state S.Store tx.old.conn.now)) instance.now))) }
+    ensures same { HasCleanDisk (state S.Store tx.new.conn.now) → OnOk result (IsUnchanged (state S.Store tx.old.conn.now) (state S.Store tx.new.conn.now)) }
+    ensures shows { OnOk result (ShowsRecords (state S.Store tx.new.conn.now)) }
+    ensures kept { HasCleanDisk (state S.Store tx.new.conn.now) → IsTrue (state S.Store tx.old.conn.now).in_transaction → KeepsCommit (state S.Store tx.old.conn.now) (state S.Store tx.new.conn.now) }
+    ensures survives { Survives (state S.Store tx.old.conn.now) (state S.Store tx.new.conn.now) (λ _. ⊥) }
+{
+    let rows = select_last(tx, instance, binding, kind)?;
+    first_in(&rows)
+}
+
+fn later(order: Option<Order>, other: Option<Order>) -> Option<Order>
+    ensures { result ≡ later_of order other }
+{
+    let Some(order) = order else {
+        return other;
+    };
+    match other {
+        Some(other) if order.number < other.number => Some(other),
+        _ => Some(order),
+    }
+}
+
+/// The later of an order and the last one of that kind about the binding.
+#[tactic(auto, using(crate::proofs::NamedLemmas::shows_again))]
+fn later_of_kind<S: Alter>(
+    tx: &mut Transaction<'_, S>,
+    instance: &str,
+    binding: &str,
+    kind: OrderKind,
+    order: Option<Order>,
+) -> Result<Option<Order>, StoreFault>
+    requires { ShowsRecords (state S.Store tx.old.conn.now) }
+    ensures same_reference { tx.new.conn.ghost_name ≡ tx.old.conn.ghost_name }
+    ensures ok { HasCleanDisk (state S.Store tx.new.conn.now) → IfOk result (λ last. last ≡ later_of order (last_of (filter (is_kind_of binding.now kind) (life_of (stored (state S.Store tx.old.conn.now)) instance.now)))) }
+    ensures same { HasCleanDisk (state S.Store tx.new.conn.now) → OnOk result (IsUnchanged (state S.Store tx.old.conn.now) (state S.Store tx.new.conn.now)) }
+    ensures shows { OnOk result (ShowsRecords (state S.Store tx.new.conn.now)) }
+    ensures kept { HasCleanDisk (state S.Store tx.new.conn.now) → IsTrue (state S.Store tx.old.conn.now).in_transaction → KeepsCommit (state S.Store tx.old.conn.now) (state S.Store tx.new.conn.now) }
+    ensures survives { Survives (state S.Store tx.old.conn.now) (state S.Store tx.new.conn.now) (λ _. ⊥) }
+{
+    let other = last_of_kind(tx, instance, binding, kind)?;
+    Ok(later(order, other))
+}
+
 /// The last creation of the instance.
 #[tactic(auto, using(crate::proofs::NamedLemmas::shows_again))]
 pub(crate) fn last_creation<S: Alter>(
@@ -120,8 +144,25 @@ pub(crate) fn last_creation<S: Alter>(
     ensures kept { HasCleanDisk (state S.Store tx.new.conn.now) → IsTrue (state S.Store tx.old.conn.now).in_transaction → KeepsCommit (state S.Store tx.old.conn.now) (state S.Store tx.new.conn.now) }
     ensures survives { Survives (state S.Store tx.old.conn.now) (state S.Store tx.new.conn.now) (λ _. ⊥) }
 {
-    let rows = select_creation(tx, instance)?;
-    first_in(&rows)
+    last_of_kind(tx, instance, "", OrderKind::Create)
+}
+
+/// The last creation or update of the instance.
+#[tactic(auto, using(crate::proofs::NamedLemmas::shows_again))]
+fn last_kept<S: Alter>(
+    tx: &mut Transaction<'_, S>,
+    instance: &str,
+) -> Result<Option<Order>, StoreFault>
+    requires { ShowsRecords (state S.Store tx.old.conn.now) }
+    ensures same_reference { tx.new.conn.ghost_name ≡ tx.old.conn.ghost_name }
+    ensures ok { HasCleanDisk (state S.Store tx.new.conn.now) → IfOk result (λ order. order ≡ last_of (filter is_kept (life_of (stored (state S.Store tx.old.conn.now)) instance.now))) }
+    ensures same { HasCleanDisk (state S.Store tx.new.conn.now) → OnOk result (IsUnchanged (state S.Store tx.old.conn.now) (state S.Store tx.new.conn.now)) }
+    ensures shows { OnOk result (ShowsRecords (state S.Store tx.new.conn.now)) }
+    ensures kept { HasCleanDisk (state S.Store tx.new.conn.now) → IsTrue (state S.Store tx.old.conn.now).in_transaction → KeepsCommit (state S.Store tx.old.conn.now) (state S.Store tx.new.conn.now) }
+    ensures survives { Survives (state S.Store tx.old.conn.now) (state S.Store tx.new.conn.now) (λ _. ⊥) }
+{
+    let created = last_of_kind(tx, instance, "", OrderKind::Create)?;
+    later_of_kind(tx, instance, "", OrderKind::Update, created)
 }
 
 /// The last creation, update or deletion of the instance.
@@ -138,8 +179,8 @@ pub(crate) fn last_of_instance<S: Alter>(
     ensures kept { HasCleanDisk (state S.Store tx.new.conn.now) → IsTrue (state S.Store tx.old.conn.now).in_transaction → KeepsCommit (state S.Store tx.old.conn.now) (state S.Store tx.new.conn.now) }
     ensures survives { Survives (state S.Store tx.old.conn.now) (state S.Store tx.new.conn.now) (λ _. ⊥) }
 {
-    let rows = select_of_instance(tx, instance)?;
-    first_in(&rows)
+    let kept = last_kept(tx, instance)?;
+    later_of_kind(tx, instance, "", OrderKind::Delete, kept)
 }
 
 /// The last order about the binding.
@@ -157,8 +198,8 @@ pub(crate) fn last_of_binding<S: Alter>(
     ensures kept { HasCleanDisk (state S.Store tx.new.conn.now) → IsTrue (state S.Store tx.old.conn.now).in_transaction → KeepsCommit (state S.Store tx.old.conn.now) (state S.Store tx.new.conn.now) }
     ensures survives { Survives (state S.Store tx.old.conn.now) (state S.Store tx.new.conn.now) (λ _. ⊥) }
 {
-    let rows = select_of_binding(tx, instance, binding)?;
-    first_in(&rows)
+    let bound = last_of_kind(tx, instance, binding, OrderKind::Bind)?;
+    later_of_kind(tx, instance, binding, OrderKind::Unbind, bound)
 }
 
 /// Whether the last creation of the instance failed.

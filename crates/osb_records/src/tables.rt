@@ -4,8 +4,8 @@ ghost use Rattle.std.specs.Prelude.{◌≡◌, [], ◌∷◌, IsTrue, OnOk, OnEr
 ghost use Rattle.std.specs.FinMap.{empty};
 ghost use Rattle.sqlite.specs.Held.{state};
 ghost use Rattle.sqlite.specs.State.{HasCleanDisk, KeepsCommit, Survives};
-ghost use Rattle.osb_tables.specs.Tables.{no_schema, format_schema, orders_schema, instances_schema, tables_schema, record_schema};
-ghost use Rattle.osb_records.specs.Opened.{Indexes};
+ghost use Rattle.osb_tables.specs.Tables.{no_schema, format_schema, orders_schema, instances_schema, tables_schema, listed_schema, record_schema};
+ghost use Rattle.osb_records.specs.Opened.{Indexes, lacking};
 ghost use Rattle.osb_records.specs.Steps.{ShowsSchema, ShowsBlank, HoldsLives, IsSettled, IsReady, Writes, Makes, LeavesOnly, stored};
 
 use sqlite::{Alter, Connection, Error, Transaction};
@@ -66,10 +66,10 @@ fn create_bindings<S: Alter>(tx: &mut Transaction<'_, S>) -> Result<usize, Error
 }
 
 /// Makes the index of the running orders' instances beside the tables.
-pub(crate) fn create_index<S: Alter>(tx: &mut Transaction<'_, S>) -> Result<usize, Error>
+fn create_busy_index<S: Alter>(tx: &mut Transaction<'_, S>) -> Result<usize, Error>
     requires { ShowsSchema tables_schema (state S.Store tx.old.conn.now) }
     ensures same_reference { tx.new.conn.ghost_name ≡ tx.old.conn.ghost_name }
-    ensures ok { HasCleanDisk (state S.Store tx.new.conn.now) → OnOk result (Indexes (state S.Store tx.old.conn.now) (state S.Store tx.new.conn.now)) }
+    ensures ok { HasCleanDisk (state S.Store tx.new.conn.now) → OnOk result (Indexes listed_schema (state S.Store tx.old.conn.now) (state S.Store tx.new.conn.now)) }
     ensures kept { HasCleanDisk (state S.Store tx.new.conn.now) → IsTrue (state S.Store tx.old.conn.now).in_transaction → KeepsCommit (state S.Store tx.old.conn.now) (state S.Store tx.new.conn.now) }
     ensures survives { Survives (state S.Store tx.old.conn.now) (state S.Store tx.new.conn.now) (λ _. ⊥) }
 {
@@ -79,7 +79,52 @@ pub(crate) fn create_index<S: Alter>(tx: &mut Transaction<'_, S>) -> Result<usiz
     )
 }
 
-/// Makes the tables of the current state, and the index.
+/// Makes the index of the orders by what they are about.
+fn create_subject_index<S: Alter>(tx: &mut Transaction<'_, S>) -> Result<usize, Error>
+    requires { ShowsSchema listed_schema (state S.Store tx.old.conn.now) }
+    ensures same_reference { tx.new.conn.ghost_name ≡ tx.old.conn.ghost_name }
+    ensures ok { HasCleanDisk (state S.Store tx.new.conn.now) → OnOk result (Indexes record_schema (state S.Store tx.old.conn.now) (state S.Store tx.new.conn.now)) }
+    ensures kept { HasCleanDisk (state S.Store tx.new.conn.now) → IsTrue (state S.Store tx.old.conn.now).in_transaction → KeepsCommit (state S.Store tx.old.conn.now) (state S.Store tx.new.conn.now) }
+    ensures survives { Survives (state S.Store tx.old.conn.now) (state S.Store tx.new.conn.now) (λ _. ⊥) }
+{
+    tx.execute(
+        "CREATE INDEX subject_orders ON orders (instance_id, binding_id, kind, seq)",
+        &[],
+    )
+}
+
+/// Makes both indexes beside the tables.
+#[tactic(auto, using(crate::proofs::IndexLemmas::indexes_then))]
+fn create_indexes<S: Alter>(tx: &mut Transaction<'_, S>) -> Result<usize, Error>
+    requires { ShowsSchema tables_schema (state S.Store tx.old.conn.now) }
+    ensures same_reference { tx.new.conn.ghost_name ≡ tx.old.conn.ghost_name }
+    ensures ok { HasCleanDisk (state S.Store tx.new.conn.now) → OnOk result (Indexes record_schema (state S.Store tx.old.conn.now) (state S.Store tx.new.conn.now)) }
+    ensures kept { HasCleanDisk (state S.Store tx.new.conn.now) → IsTrue (state S.Store tx.old.conn.now).in_transaction → KeepsCommit (state S.Store tx.old.conn.now) (state S.Store tx.new.conn.now) }
+    ensures survives { Survives (state S.Store tx.old.conn.now) (state S.Store tx.new.conn.now) (λ _. ⊥) }
+{
+    create_busy_index(tx)?;
+    create_subject_index(tx)
+}
+
+/// Makes the indexes that the tables lack. `is_listed` says whether the index of the listing is there.
+pub(crate) fn add_indexes<S: Alter>(
+    tx: &mut Transaction<'_, S>,
+    is_listed: bool,
+) -> Result<usize, Error>
+    requires { ShowsSchema (lacking is_listed) (state S.Store tx.old.conn.now) }
+    ensures same_reference { tx.new.conn.ghost_name ≡ tx.old.conn.ghost_name }
+    ensures ok { HasCleanDisk (state S.Store tx.new.conn.now) → OnOk result (Indexes record_schema (state S.Store tx.old.conn.now) (state S.Store tx.new.conn.now)) }
+    ensures kept { HasCleanDisk (state S.Store tx.new.conn.now) → IsTrue (state S.Store tx.old.conn.now).in_transaction → KeepsCommit (state S.Store tx.old.conn.now) (state S.Store tx.new.conn.now) }
+    ensures survives { Survives (state S.Store tx.old.conn.now) (state S.Store tx.new.conn.now) (λ _. ⊥) }
+{
+    if is_listed {
+        create_subject_index(tx)
+    } else {
+        create_indexes(tx)
+    }
+}
+
+/// Makes the tables of the current state, and the indexes.
 #[tactic(auto, using(crate::proofs::IndexLemmas::indexed_makes))]
 fn create_standing<S: Alter>(tx: &mut Transaction<'_, S>) -> Result<usize, Error>
     requires schema { ShowsSchema orders_schema (state S.Store tx.old.conn.now) }
@@ -91,10 +136,10 @@ fn create_standing<S: Alter>(tx: &mut Transaction<'_, S>) -> Result<usize, Error
 {
     create_instances(tx)?;
     create_bindings(tx)?;
-    create_index(tx)
+    create_indexes(tx)
 }
 
-/// Makes the four tables and the index.
+/// Makes the four tables and the indexes.
 fn create_tables<S: Alter>(tx: &mut Transaction<'_, S>) -> Result<usize, Error>
     requires { ShowsSchema no_schema (state S.Store tx.old.conn.now) }
     ensures same_reference { tx.new.conn.ghost_name ≡ tx.old.conn.ghost_name }
@@ -119,7 +164,7 @@ fn insert_version<S: Alter>(tx: &mut Transaction<'_, S>) -> Result<usize, Error>
     tx.execute("INSERT INTO format (version) VALUES (1)", &[])
 }
 
-/// Makes the tables and the index in a database that has none: all of them or none.
+/// Makes the tables and the indexes in a database that has none: all of them or none.
 #[tactic(auto, using(crate::proofs::StepLemmas::committed_lives))]
 pub(crate) fn make_tables<S: Alter>(conn: &mut Connection<S>) -> Result<(), Error>
     requires settled { IsSettled (state S.Store conn.old) }

@@ -1,7 +1,7 @@
 -- Lists of a known length, and the indexes that the keys have.
 use Rattle.std.proofs.Common.{◌≡◌, ℕ, ◌<◌, ◌≤◌, ◌==◌, List, [], ◌∷◌, ◌++◌, length, get_or, false, refl, sym, ap, ◌∙◌, arith}
 use Rattle.std.specs.Fmt.{digits}
-use Rattle.osb_tables.specs.Tables.{keys_of, key_indexes, tables_schema, record_schema, busy_found}
+use Rattle.osb_tables.specs.Tables.{keys_of, key_indexes, tables_schema, listed_schema, record_schema, busy_found, subject_found}
 
 pub one_item : {A : Type 0} (items : List A) (a : A) → a ≡ get_or items 0 a → 1 ≤ length items → length items < 2 → items ≡ a ∷ []
 one_item [] a is some few = absurd (omega (arith, some))
@@ -25,6 +25,10 @@ pub key_indexes_are : (tables_schema).indexes ≡ key_indexes
 unfolding digits
 key_indexes_are = refl
 
-pub all_indexes_are : (record_schema).indexes ≡ key_indexes ++ busy_found ∷ []
+pub listed_indexes_are : (listed_schema).indexes ≡ key_indexes ++ busy_found ∷ []
+unfolding digits
+listed_indexes_are = refl
+
+pub all_indexes_are : (record_schema).indexes ≡ key_indexes ++ busy_found ∷ subject_found ∷ []
 unfolding digits
 all_indexes_are = refl

@@ -140,9 +140,20 @@ busy_name = codes "busy_instances"
 abbrev pub busy_index : Index
 busy_index = index_of busy_name 0 3 (3 ∷ 1 ∷ []) false
 
--- the four tables and the index
+abbrev pub subject_name : List ℕ
+subject_name = codes "subject_orders"
+
+-- the orders by what they are about, then by their kinds and their numbers
+abbrev pub subject_index : Index
+subject_index = index_of subject_name 0 1 (1 ∷ 4 ∷ 3 ∷ 2 ∷ []) false
+
+-- the four tables and the index of the listing
+abbrev pub listed_schema : Schema
+listed_schema = indexed tables_schema instances_table busy_index
+
+-- the four tables and both indexes
 abbrev pub record_schema : Schema
-record_schema = indexed tables_schema instances_table busy_index
+record_schema = indexed listed_schema orders_table subject_index
 
 -- the indexes that the keys have, by name
 abbrev pub key_indexes : List Index
@@ -152,6 +163,9 @@ key_indexes =
     ∷ index_of (codes "sqlite_autoindex_bindings_1") 6 5 (1 ∷ 2 ∷ []) true
     ∷ []
 
--- the index as it stands in the schema
+-- the indexes as they stand in the schema
 abbrev pub busy_found : Index
 busy_found = record busy_index { tree = 7 }
+
+abbrev pub subject_found : Index
+subject_found = record subject_index { tree = 8 }

@@ -1,6 +1,6 @@
 ghost use Rattle.std.specs.Prelude.{◌≡◌, ◌≢◌, true, false, [], ◌∷◌, ◌++◌, None};
 ghost use Rattle.osb_tables.specs.Tables as spec;
-ghost use Rattle.osb_tables.specs.Tables.{column_of, columns_of, plain_table, index_of, key_indexes, busy_found, no_schema, tables_schema, record_schema};
+ghost use Rattle.osb_tables.specs.Tables.{column_of, columns_of, plain_table, index_of, key_indexes, busy_found, subject_found, no_schema, tables_schema, listed_schema, record_schema};
 
 use sqlite_items::Items;
 use sqlite_schema::schema::{Column, Index, Kind, Schema, Table};
@@ -14,7 +14,9 @@ pub enum Found {
     Nothing,
     /// The four tables and nothing else.
     Tables,
-    /// The four tables and the index.
+    /// The four tables and the index of the listing.
+    Listed,
+    /// The four tables and both indexes.
     All,
     Others,
 }
@@ -206,29 +208,52 @@ fn is_busy_index(index: &Index) -> bool
     is_index(index, "busy_instances", 7, 3, &[3, 1], false)
 }
 
+fn is_subject_index(index: &Index) -> bool
+    ensures is { result ≡ true → index.now ≡ subject_found }
+    ensures exact { index.now ≡ subject_found → result ≡ true }
+{
+    is_index(index, "subject_orders", 8, 1, &[1, 4, 3, 2], false)
+}
+
+/// The indexes beside those of the keys.
+fn found_more(more: &[Index]) -> Found
+    ensures nothing { result ≢ Found.Nothing }
+    ensures tables { result ≡ Found.Tables → more.now ≡ [] }
+    ensures listed { result ≡ Found.Listed → more.now ≡ busy_found ∷ [] }
+    ensures all { result ≡ Found.All → more.now ≡ busy_found ∷ subject_found ∷ [] }
+    ensures others { result ≡ Found.Others → (more.now ≢ []) × (more.now ≢ busy_found ∷ []) × (more.now ≢ busy_found ∷ subject_found ∷ []) }
+{
+    match more {
+        [] => Found::Tables,
+        [busy] if is_busy_index(busy) => Found::Listed,
+        [busy, subject] if is_busy_index(busy) && is_subject_index(subject) => Found::All,
+        _ => Found::Others,
+    }
+}
+
 fn found_indexes(indexes: &[Index]) -> Found
     ensures nothing { result ≢ Found.Nothing }
     ensures tables { result ≡ Found.Tables → indexes.now ≡ key_indexes }
-    ensures all { result ≡ Found.All → indexes.now ≡ key_indexes ++ busy_found ∷ [] }
-    ensures others { result ≡ Found.Others → (indexes.now ≢ key_indexes) × (indexes.now ≢ key_indexes ++ busy_found ∷ []) }
+    ensures listed { result ≡ Found.Listed → indexes.now ≡ key_indexes ++ busy_found ∷ [] }
+    ensures all { result ≡ Found.All → indexes.now ≡ key_indexes ++ busy_found ∷ subject_found ∷ [] }
+    ensures others { result ≡ Found.Others → (indexes.now ≢ key_indexes) × (indexes.now ≢ key_indexes ++ busy_found ∷ []) × (indexes.now ≢ key_indexes ++ busy_found ∷ subject_found ∷ []) }
 {
     match indexes {
-        [orders, instances, bindings] if are_key_indexes(orders, instances, bindings) =>
-            Found::Tables,
-        [orders, instances, bindings, busy]
-            if are_key_indexes(orders, instances, bindings) && is_busy_index(busy) => Found::All,
+        [orders, instances, bindings, more @ ..] if are_key_indexes(orders, instances, bindings) =>
+            found_more(more),
         _ => Found::Others,
     }
 }
 
 /// What the schema has. Each table is compared column by column, with its key, its rules and its
 /// place.
-#[tactic(auto, using(crate::proofs::SchemaLemmas::key_indexes_are, crate::proofs::SchemaLemmas::all_indexes_are))]
+#[tactic(auto, using(crate::proofs::SchemaLemmas::key_indexes_are, crate::proofs::SchemaLemmas::listed_indexes_are, crate::proofs::SchemaLemmas::all_indexes_are))]
 pub fn find(schema: &Schema) -> Found
     ensures nothing { result ≡ Found.Nothing → schema.now ≡ no_schema }
     ensures tables { result ≡ Found.Tables → schema.now ≡ tables_schema }
+    ensures listed { result ≡ Found.Listed → schema.now ≡ listed_schema }
     ensures all { result ≡ Found.All → schema.now ≡ record_schema }
-    ensures others { result ≡ Found.Others → (schema.now ≢ no_schema) × (schema.now ≢ tables_schema) × (schema.now ≢ record_schema) }
+    ensures others { result ≡ Found.Others → (schema.now ≢ no_schema) × (schema.now ≢ tables_schema) × (schema.now ≢ listed_schema) × (schema.now ≢ record_schema) }
 {
     if !schema.views.is_empty() {
         return Found::Others;

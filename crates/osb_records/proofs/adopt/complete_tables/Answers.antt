@@ -4,7 +4,7 @@ use Rattle.sqlite.specs.Effect.{Database}
 use Rattle.sqlite.specs.State.{HasCleanDisk}
 use Rattle.sqlite.proofs.StateLemmas.{survives_weaker}
 use Rattle.osb_records.specs.Opened.{HoldsSame}
-use Rattle.osb_records.proofs.IndexLemmas.{completed_same}
+use Rattle.osb_records.proofs.IndexLemmas.{completed_same, lacking_has}
 use Rattle.osb_records.proofs.adopt.complete_tables.Goals as goal
 
 pub returns-in_err-commit-clause-crash : goal.returns-in_err-commit-clause-crash
@@ -16,7 +16,7 @@ returns-in_err-commit-clause-crash g c =
     survives_weaker _ _ (λ db. db ≡ mid.now.trees) (HoldsSame old.now) (λ clean db is.
     let before : HasCleanDisk mid = search rules in
     let lives = c.in_ok-index_tables.ensures.lives before in
-    subst (λ (d : Database). HoldsSame d db) same (completed_same begun mid db lives.0 lives.1 (c.in_ok-index_tables.ensures.ok before) is))
+    subst (λ (d : Database). HoldsSame d db) same (completed_same begun mid db (lacking_has c.args.is_listed _ lives.0) lives.1 (c.in_ok-index_tables.ensures.ok before) is))
     (search rules)
 
 pub returns-clause-crash : goal.returns-clause-crash
@@ -28,5 +28,5 @@ returns-clause-crash g c =
     survives_weaker _ _ (λ db. db ≡ mid.now.trees) (HoldsSame old.now) (λ clean db is.
     let before : HasCleanDisk mid = search rules in
     let lives = c.in_ok-index_tables.ensures.lives before in
-    subst (λ (d : Database). HoldsSame d db) same (completed_same begun mid db lives.0 lives.1 (c.in_ok-index_tables.ensures.ok before) is))
+    subst (λ (d : Database). HoldsSame d db) same (completed_same begun mid db (lacking_has c.args.is_listed _ lives.0) lives.1 (c.in_ok-index_tables.ensures.ok before) is))
     (search rules)

@@ -13,16 +13,16 @@ pub returns-clause-ok : goal.returns-clause-ok
 returns-clause-ok g c clean live inside sound =
     let old = state g.S.Store c.args.tx.now.conn.now in
     let mid = state g.S.Store c.read_binding.new.tx.conn.now in
-    let new = state g.S.Store c.apply_edit.new.tx.conn.now in
+    let new = state g.S.Store c.apply_edit-applied.new.tx.conn.now in
     let id = c.args.instance.now in
     let order = c.args.order.now in
-    let between = clean_before mid new _ c.apply_edit.ensures.survives clean in
+    let between = clean_before mid new _ c.apply_edit-applied.ensures.survives clean in
     let same = c.in_ok-old.ensures.same between in
     let now = sym same.0.now_is in
     let tables = subst HasTables now (c.requires (clean_before old mid _ c.read_binding.ensures.survives between) live) in
-    let steps = rw (c.as_str-binding.ensures) at (c.in_ok-apply_edit.ensures.ok clean same.0.is_open (same.0.mode ∙ inside) (subst IsDatabase now sound)) in
+    let steps = rw (c.as_str-binding.ensures) at (c.in_ok-applied.ensures.ok clean same.0.is_open (same.0.mode ∙ inside) (subst IsDatabase now sound)) in
     let row = (rw (c.as_str-binding.ensures) at (c.in_ok-old.ensures.ok between)) ∙ ap (λ (db : Database). binding_found id order.binding (bindings_in db.trees)) now in
     follows_by old mid new id order c.in_ok-had.edit same steps tables (λ life change w stands. c.in_ok-had.ensures.follows life change w (row ∙ found_row id order.binding life (content mid).bindings stands))
 
 pub returns-clause-survives : goal.returns-clause-survives
-returns-clause-survives g c = survives_then _ _ _ (λ _. ⊥) (λ _. ⊥) (λ _. ⊥) (λ _ _ h. h) (λ _ _ h. h) c.read_binding.ensures.survives c.apply_edit.ensures.survives
+returns-clause-survives g c = survives_then _ _ _ (λ _. ⊥) (λ _. ⊥) (λ _. ⊥) (λ _ _ h. h) (λ _ _ h. h) c.read_binding.ensures.survives c.apply_edit-applied.ensures.survives

@@ -11,8 +11,8 @@ returns-clause-stands g c clean change written stood =
     let first = state g.S.Store c.args.tx.now.conn.now in
     let read = state g.S.Store c.read_instance.new.tx.conn.now in
     let last = state g.S.Store c.next_row.new.tx.conn.now in
-    let new = state g.S.Store c.put_instance.new.tx.conn.now in
-    let clean_last = clean_before last new _ c.put_instance.ensures.survives clean in
+    let new = state g.S.Store c.put_instance-put.new.tx.conn.now in
+    let clean_last = clean_before last new _ c.put_instance-put.ensures.survives clean in
     let clean_read = clean_before read last _ c.next_row.ensures.survives clean_last in
     let same = c.in_ok-old.ensures.same clean_read in
     let same_again = c.in_ok-row.ensures.same clean_last same.0.is_open in
@@ -20,4 +20,4 @@ returns-clause-stands g c clean change written stood =
     written_stands id c.args.order.now c.in_ok-row.row c.in_ok-old.old first.now.trees read.now.trees last.now.trees (instances_in new.now.trees) (ap (λ (d : Database). d.trees) same.0.now_is) (ap (λ (d : Database). d.trees) same_again.0.now_is)
     (c.in_ok-old.ensures.ok clean_read)
     (λ any given told. c.in_ok-row.ensures.ok clean_last any given (c.as_ref.ensures.value ∙ told))
-    (c.in_ok-put_instance.ensures.ok clean).puts change written stood
+    (c.in_ok-put.ensures.ok clean).puts change written stood

@@ -1,9 +1,0 @@
-use Rattle.sqlite.specs.Held.{state}
-use Rattle.osb_records.proofs.IndexLemmas.{indexes_by}
-use Rattle.osb_records.proofs.tables.create_index.Goals as goal
-
-pub returns-clause-ok : goal.returns-clause-ok
-returns-clause-ok g c clean =
-    let old = state g.S.Store c.args.tx.now.conn.now in
-    let new = state g.S.Store c.execute.new.self.conn.now in
-    indexes_by old new c.execute.result _ (λ over. (c.execute.ensures.ended over).0) c.execute.ensures.survives clean c.requires (c.execute.ensures.runs clean)
