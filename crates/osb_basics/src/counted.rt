@@ -1,8 +1,9 @@
-ghost use Rattle.std.specs.Prelude.{◌≡◌, ◌≤◌, ◌<◌, ◌+◌, ◌++◌, ℕ, ◌-◌, OnErr, IfOk, Some, length, take};
-ghost use Rattle.osb_frames.specs.Calls.{all_bytes, failure_count, fruitless_count};
+//! Readers and writers whose calls are counted.
 
-use super::*;
-use crate::send::send_all;
+ghost use Rattle.std.specs.Prelude.{◌≡◌, ◌≤◌, ◌<◌, ◌+◌, ◌++◌, OnErr, IfOk, length, take};
+
+use osb_frames::{Counted, Kept, Sink, Source, send_all};
+use std::io::{self, Read, Write};
 use std::mem::size_of;
 use std::test::Fail;
 
@@ -44,38 +45,6 @@ impl Write for Pieces<'_> {
 
     fn flush(&mut self) -> io::Result<()> {
         Ok(())
-    }
-}
-
-/// A writer with room for eight bytes.
-#[derive(Drop)]
-struct Slate {
-    bytes: [u8; 8],
-    used: usize,
-    calls: Calls,
-    ghost inside: { used ≤ 8 },
-}
-
-impl Sink for Slate {
-    ghost taken = { λ s. all_bytes s.calls.list };
-
-    ghost writes = { λ s. length s.calls.list };
-
-    ghost failures = { λ s. failure_count s.calls.list };
-
-    ghost fruitless = { λ s. fruitless_count s.calls.list };
-
-    ghost contents = { λ s. Some (take s.used s.bytes) };
-
-    ghost room = { λ s. 8 - s.used };
-
-    fn write(&mut self, bytes: &[u8]) -> io::Result<usize> {
-        let count = bytes.len().min(8 - self.used);
-        let end = self.used + count;
-        self.bytes[self.used..end].copy_from_slice(&bytes[..count]);
-        self.used = end;
-        self.calls = self.calls.then(&Some(&bytes[..count]));
-        Ok(count)
     }
 }
 
@@ -196,16 +165,12 @@ fn write_short<W: Sink>(sink: &mut W, bytes: &[u8]) -> usize
 }
 
 #[test]
-fn room_is_kept(rt: HostRuntime) {
-    let mut slate = Slate {
-        bytes: [0; 8],
-        used: 0,
-        calls: Calls::none(),
-    };
-    assert_eq!(rt; write_short(&mut slate, b"catalog"), 7);
-    assert!(rt; matches!(slate.write(b"id"), Ok(1)));
-    assert!(rt; matches!(slate.write(b"d"), Ok(0)));
-    assert_eq!(rt; slate.bytes, *b"catalogi");
+fn what_has_room_is_written_whole(rt: HostRuntime) -> Result<(), Fail> {
+    let mut kept = Kept::new(Vec::new(rt.alloc()));
+    kept.reserve(7)?;
+    assert_eq!(rt; write_short(&mut kept, b"catalog"), 7);
+    assert_eq!(rt; kept.into_bytes().as_slice(), b"catalog".as_slice());
+    Ok(())
 }
 
 #[test]

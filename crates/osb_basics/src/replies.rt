@@ -1,8 +1,8 @@
 ghost use Rattle.std.specs.Prelude.{◌≡◌};
 ghost use Rattle.osb_replies.specs.Parts.{parts, refused};
 
-use super::*;
 use osb_frames::Counted;
+use osb_replies::{Body, FixedError, REFUSED, Reply, Status, WriteFault, write_reply};
 use std::alloc::Global;
 use std::io::{self, Write};
 use std::process::Abort;

@@ -1,4 +1,6 @@
-use crate::{
+//! JSON objects, their members and their compact text, and ids.
+
+use osb_text::{
     Object, ObjectRef, Text, TextFault, compact_text, has_no_controls, is_id, is_object_text,
     items, laws, member, read_object,
 };

@@ -90,6 +90,3 @@ impl<T: Write> Sink for Counted<T> {
         }
     }
 }
-
-#[cfg(test)]
-mod tests;

@@ -18,8 +18,6 @@ mod send;
 mod sink;
 mod source;
 mod step;
-#[cfg(test)]
-mod tests;
 
 pub use counted::Counted;
 pub use field::Field;

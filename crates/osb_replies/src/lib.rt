@@ -15,6 +15,3 @@ pub use fixed_error::FixedError;
 pub use reply::{REFUSED, Reply};
 pub use status::Status;
 pub use write::{WriteFault, write_reply};
-
-#[cfg(test)]
-mod tests;

@@ -7,8 +7,6 @@ mod id;
 pub mod laws;
 mod object;
 mod reading;
-#[cfg(test)]
-mod tests;
 mod text;
 mod value;
 
