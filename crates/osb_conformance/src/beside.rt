@@ -159,16 +159,25 @@ pub(crate) fn stay_beside_once(
     told
 }
 
-/// Fails where records and plain lives part in a conversation.
-fn stay_beside(alloc: Global, exchanges: &[Exchange]) -> Result<(), Fail> {
-    let settings = built_in(alloc)?;
+/// Fails where records and plain lives part in a conversation over these settings.
+fn stay_beside_over(
+    alloc: Global,
+    settings: &Settings,
+    exchanges: &[Exchange],
+) -> Result<(), Fail> {
     let mut records = open_memory(alloc)?;
     let mut plain = PlainLives::new(alloc);
     for exchange in exchanges {
-        records = after(alloc, &settings, records, *exchange)?;
-        let _ = stay_beside_once(alloc, &settings, &mut records, &mut plain, *exchange)?;
+        records = after(alloc, settings, records, *exchange)?;
+        let _ = stay_beside_once(alloc, settings, &mut records, &mut plain, *exchange)?;
     }
     Ok(())
+}
+
+/// The same over the built-in settings.
+fn stay_beside(alloc: Global, exchanges: &[Exchange]) -> Result<(), Fail> {
+    let settings = built_in(alloc)?;
+    stay_beside_over(alloc, &settings, exchanges)
 }
 
 #[test]

@@ -50,6 +50,7 @@ fn acknowledged_over<D: Crash + Drop>(
     records.are_whole();
     let nothing = Change::Nothing;
     let again = committed_and_restarted(alloc, records, "i", &nothing, OPTIONS);
+    drop(nothing);
     Ok(again.ok_or("not restarted")?)
 }
 

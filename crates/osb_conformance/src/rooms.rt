@@ -49,15 +49,18 @@ const CONNECTIONS: &[&[u8]] = &[PUT_I, b"", PUT_I, b"\r\n"];
 
 const TEXTS: &[&[u8]] = &[CREATED_LAST, b"", KNOWN_LAST, NO_HEAD];
 
+/// Whether what these connections leave is there for one that comes after.
+fn leaves_what_was_made(alloc: Global, broker: &mut Broker<'_, MemStore>) -> Result<bool, Fail> {
+    Ok(writes(alloc, broker, CONNECTIONS, TEXTS)?
+        && writes(alloc, broker, &[PUT_I], &[KNOWN_LAST])?)
+}
+
 #[test]
 fn one_connection_after_another(rt: HostRuntime) -> Result<(), Fail> {
     let alloc = rt.alloc();
     let settings = built_in(alloc)?;
     let mut broker = new_broker(alloc, &settings, 1)?;
-    // What they leave is there for those that come after.
-    let is_written = writes(alloc, &mut broker, CONNECTIONS, TEXTS)?
-        && writes(alloc, &mut broker, &[PUT_I], &[KNOWN_LAST])?;
-    assert!(rt; is_written);
+    assert!(rt; leaves_what_was_made(alloc, &mut broker)?);
     Ok(())
 }
 

@@ -206,7 +206,27 @@ fn is_output(
 
 const PIECES: [usize; 3] = [1, 7, usize::MAX];
 
-/// The same, with the bytes one by one, in pieces of seven, and whole.
+/// Fails where it writes something else to the bytes one by one, in pieces of seven, or whole.
+fn answers_each_way(
+    alloc: Global,
+    settings: &Settings,
+    per_connection: u32,
+    bytes: &[u8],
+    text: &[u8],
+) -> Result<(), Fail>
+    requires some { 1 ≤ per_connection }
+    requires few { per_connection ≤ 1000 }
+{
+    for piece in PIECES {
+        if !is_output(alloc, settings, per_connection, (bytes, piece), text)? {
+            let told = format!(in alloc; "another text, in pieces of {piece}")?;
+            return Err(Fail::from(told));
+        }
+    }
+    Ok(())
+}
+
+/// The same over the built-in settings.
 pub(crate) fn answers_in_pieces(
     alloc: Global,
     per_connection: u32,
@@ -217,13 +237,7 @@ pub(crate) fn answers_in_pieces(
     requires few { per_connection ≤ 1000 }
 {
     let settings = built_in(alloc)?;
-    for piece in PIECES {
-        if !is_output(alloc, &settings, per_connection, (bytes, piece), text)? {
-            let told = format!(in alloc; "another text, in pieces of {piece}")?;
-            return Err(Fail::from(told));
-        }
-    }
-    Ok(())
+    answers_each_way(alloc, &settings, per_connection, bytes, text)
 }
 
 /// The parts, one behind the other.
