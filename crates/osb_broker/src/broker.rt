@@ -23,7 +23,7 @@ ghost use Rattle.osb_records.specs.Steps.{LeavesOnly, stored};
 ghost use Rattle.osb_machine.specs.Machine.{answer_to};
 ghost use Rattle.osb_machine.specs.Steps.{reaction};
 ghost use Rattle.osb_broker.specs.Machine.{Answered, Handled};
-ghost use Rattle.osb_broker.specs.Plans.{first_lacking, Tells};
+ghost use Rattle.osb_broker.specs.Plans.{first_lacking, NamesLacking, OffersInUse, Tells};
 ghost use Rattle.osb_broker.specs.Steps.{step_of, step_for, lives_after, machine, crowded};
 ghost use Rattle.osb_broker.specs.Prepared.{settled, IsSettleable, LastsSettled, Prepares};
 
@@ -90,8 +90,9 @@ impl<'s, S: Alter> Broker<'s, S> {
         ensures works { IfOk result (λ broker. Works (store_of S.Store broker) → Works (state S.Store records)) }
         ensures most { IfOk result (λ broker. most_of broker ≡ per_connection) }
         ensures rules { IfOk result (λ broker. rules_of broker ≡ catalog.rules_of settings.now) }
-        ensures offered { IfOk result (λ broker. HasCleanDisk (store_of S.Store broker) → first_lacking (catalog.rules_of settings.now) (plans_in_use (stored (state S.Store records))) ≡ None) }
+        ensures offered { IfOk result (λ broker. HasCleanDisk (store_of S.Store broker) → OffersInUse (catalog.rules_of settings.now) (stored (state S.Store records))) }
         ensures in_use { IfErr result (λ fault. HasCleanDisk (state S.Store fault.1) → Tells fault.0 (first_lacking (catalog.rules_of settings.now) (plans_in_use (stored (state S.Store records))))) }
+        ensures lacks { IfErr result (λ fault. NamesLacking (catalog.rules_of settings.now) fault.0) }
         ensures err { IfErr result (λ fault. Works (state S.Store fault.1) → stored (state S.Store fault.1) ≡ stored (state S.Store records)) }
         ensures crash { IfOk result (λ broker. Survives (state S.Store records) (store_of S.Store broker) (λ _. ⊥)) }
         ensures fault_crash { IfErr result (λ fault. Survives (state S.Store records) (state S.Store fault.1) (λ _. ⊥)) }

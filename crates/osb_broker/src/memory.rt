@@ -1,7 +1,7 @@
 //! The broker over records in memory, where no disk fails and the store stays open: what it says
 //! holds without a premise.
 
-ghost use Rattle.std.specs.Prelude.{◌≡◌, ◌≤◌, ◌+◌, ◌⊎◌, ℕ, List, length, map, vec_items, IfOk, IfErr, OnOk, OnErr, IfSome, None};
+ghost use Rattle.std.specs.Prelude.{◌≡◌, ◌≤◌, ◌+◌, ◌⊎◌, ℕ, List, length, map, vec_items, IfOk, IfErr, OnOk, OnErr, IfSome};
 ghost use Rattle.sqlite.specs.Held.{state};
 ghost use Rattle.sqlite.specs.Steps.{over_memory};
 ghost use Rattle.osb_frames.specs.declared.limits.Limits.{Limits};
@@ -13,7 +13,7 @@ ghost use Rattle.osb_audit.specs.Plans.{plans_in_use};
 ghost use Rattle.osb_records.specs.Steps.{stored};
 ghost use Rattle.osb_broker.specs.Kept.{lives_of, most_of, rules_of};
 ghost use Rattle.osb_broker.specs.Machine.{Handled};
-ghost use Rattle.osb_broker.specs.Plans.{first_lacking, Tells};
+ghost use Rattle.osb_broker.specs.Plans.{first_lacking, NamesLacking, OffersInUse, Tells};
 ghost use Rattle.osb_broker.specs.Room.{limits_of};
 ghost use Rattle.osb_broker.specs.Served.{Served, AreStandard, RunServed};
 ghost use Rattle.osb_broker.specs.Serving.{Gave, Outcome};
@@ -42,8 +42,9 @@ pub fn new(
     ensures lives { IfOk result (λ broker. lives_of over_memory broker ≡ stored (state over_memory records)) }
     ensures most { IfOk result (λ broker. most_of broker ≡ per_connection) }
     ensures rules { IfOk result (λ broker. rules_of broker ≡ catalog.rules_of settings.now) }
-    ensures offered { IfOk result (λ broker. first_lacking (catalog.rules_of settings.now) (plans_in_use (stored (state over_memory records))) ≡ None) }
+    ensures offered { IfOk result (λ broker. OffersInUse (catalog.rules_of settings.now) (stored (state over_memory records))) }
     ensures in_use { IfErr result (λ fault. Tells fault.0 (first_lacking (catalog.rules_of settings.now) (plans_in_use (stored (state over_memory records))))) }
+    ensures lacks { IfErr result (λ fault. NamesLacking (catalog.rules_of settings.now) fault.0) }
     ensures err { IfErr result (λ fault. stored (state over_memory fault.1) ≡ stored (state over_memory records)) }
 {
     Broker::new(alloc, settings, records, per_connection)

@@ -1,12 +1,12 @@
 //! The plans in use, held against the catalog.
 
-ghost use Rattle.std.specs.Prelude.{◌≡◌, None, IsTrue, IfErr, OnOk, option_map};
+ghost use Rattle.std.specs.Prelude.{◌≡◌, None, IsTrue, IfErr, IfSome, OnOk, option_map};
 ghost use Rattle.sqlite.specs.Held.{state};
 ghost use Rattle.sqlite.specs.State.{HasCleanDisk, Survives};
 ghost use Rattle.osb_catalog.specs.Rules.{rules_of};
 ghost use Rattle.osb_audit.specs.Plans.{plans_in_use};
 ghost use Rattle.osb_records.specs.Steps.{stored};
-ghost use Rattle.osb_broker.specs.Plans.{first_lacking, offers, Tells};
+ghost use Rattle.osb_broker.specs.Plans.{first_lacking, offers, NamesLacking, OffersInUse, Tells};
 
 use crate::fault::NewFault;
 use osb_catalog::Settings;
@@ -24,7 +24,8 @@ fn offers(settings: &Settings, pair: &(Text, Text)) -> bool
 
 /// The first pair of service and plan that the catalog lacks.
 fn first_lacking(settings: &Settings, plans: Vec<(Text, Text)>) -> Option<(Text, Text)>
-    ensures { result ≡ first_lacking (rules_of settings.now) plans.items }
+    ensures first { result ≡ first_lacking (rules_of settings.now) plans.items }
+    ensures lacks { IfSome result (λ pair. (rules_of settings.now).plan pair.0 pair.1 ≡ None) }
 {
     plans.into_iter().find(|pair| !offers(settings, pair))
 }
@@ -35,8 +36,9 @@ pub(crate) fn find_plans<S: Alter>(
     alloc: Global,
     settings: &Settings,
 ) -> Result<(), NewFault>
-    ensures ok { HasCleanDisk (state S.Store records.new) → OnOk result (first_lacking (rules_of settings.now) (plans_in_use (stored (state S.Store records.old))) ≡ None) }
+    ensures ok { HasCleanDisk (state S.Store records.new) → OnOk result (OffersInUse (rules_of settings.now) (stored (state S.Store records.old))) }
     ensures err { HasCleanDisk (state S.Store records.new) → IfErr result (λ fault. Tells fault (first_lacking (rules_of settings.now) (plans_in_use (stored (state S.Store records.old))))) }
+    ensures lacks { IfErr result (NamesLacking (rules_of settings.now)) }
     ensures same { HasCleanDisk (state S.Store records.new) → IsTrue (state S.Store records.new).is_open → stored (state S.Store records.new) ≡ stored (state S.Store records.old) }
     ensures was_open { HasCleanDisk (state S.Store records.new) → IsTrue (state S.Store records.new).is_open → IsTrue (state S.Store records.old).is_open }
     ensures crash { Survives (state S.Store records.old) (state S.Store records.new) (λ _. ⊥) }
