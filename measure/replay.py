@@ -98,22 +98,27 @@ def standing(program, folder, instances):
         print(f"{name} at {instances:,}: {each:.1f} microseconds")
 
 
+def bind(path):
+    text = '{"service_id":"svc","plan_id":"p-sync"}'
+    return f"PUT {path} HTTP/1.1\r\n{PLATFORM}Content-Length: {len(text)}\r\n\r\n{text}"
+
+
+def unbind(path):
+    return f"DELETE {path}?service_id=svc&plan_id=p-sync HTTP/1.1\r\n{PLATFORM}\r\n"
+
+
 def long_life(program, folder, orders):
-    """Polls of an instance and of a binding behind so many orders about another binding."""
+    """Polls of an instance and of two bindings after so many orders about the second."""
     instance = "/v2/service_instances/i"
-    plan = "service_id=svc&plan_id=p-sync"
-    bound = '{"service_id":"svc","plan_id":"p-sync"}'
     first, other = (f"{instance}/service_bindings/{name}" for name in "ab")
-    bind = "PUT {} HTTP/1.1\r\n" + f"{PLATFORM}Content-Length: {len(bound)}\r\n\r\n{bound}"
-    unbind = "DELETE {}?" + f"{plan} HTTP/1.1\r\n{PLATFORM}\r\n"
-    words = ["--per-connection", "1000", folder.write(put("i") + bind.format(first))]
-    words += [folder.write((bind.format(other) + unbind.format(other)) * 500)] * (orders // 1000)
-    base, _ = run(program, words, 3)
-    polled = [("the instance", instance), ("the first binding", first), ("the other binding", other)]
+    words = ["--per-connection", "1000", folder.write(put("i") + bind(first))]
+    words += [folder.write((bind(other) + unbind(other)) * 500)] * (orders // 1000)
+    base, _ = run(program, words, 5)
+    polled = [("the instance", instance), ("the first binding", first), ("the other", other)]
     for name, path in polled:
         more = folder.write(get(f"{path}/last_operation") * 1000)
-        seconds, _ = run(program, words + [more] * 20, 3)
-        each = (seconds - base) / 20_000 * 1e6
+        seconds, _ = run(program, words + [more] * 100, 5)
+        each = (seconds - base) / 100_000 * 1e6
         print(f"a poll of {name} after {orders:,} orders: {each:.1f} microseconds")
 
 

@@ -144,21 +144,28 @@ fn attributes(alloc: Global, plan: &str) -> Result<Attributes, AllocError> {
     })
 }
 
-fn order(alloc: Global, case: &OrderCase, plan: &str) -> Result<(Text, Order), AllocError> {
-    let attributes = attributes(alloc, plan)?;
-    let outcome = Outcome {
-        state: case.3,
+fn outcome(alloc: Global, state: OrderState) -> Result<Outcome, AllocError> {
+    let credentials = Text::from_str(alloc, "{}")?;
+    Ok(Outcome {
+        state,
         description: Text::new(alloc),
-        credentials: Text::from_str(alloc, "{}")?,
-    };
+        credentials,
+    })
+}
+
+fn order(alloc: Global, case: &OrderCase, plan: &str) -> Result<(Text, Order), AllocError> {
+    let id = Text::from_str(alloc, case.0)?;
+    let binding = Text::from_str(alloc, case.4)?;
+    let outcome = outcome(alloc, case.3)?;
+    let attributes = attributes(alloc, plan)?;
     let order = Order {
         number: case.1,
         kind: case.2,
-        binding: Text::from_str(alloc, case.4)?,
+        binding,
         attributes,
         outcome,
     };
-    Ok((Text::from_str(alloc, case.0)?, order))
+    Ok((id, order))
 }
 
 fn orders(alloc: Global, cases: &[OrderCase]) -> Result<Vec<(Text, Order)>, AllocError> {
@@ -170,6 +177,7 @@ fn orders(alloc: Global, cases: &[OrderCase]) -> Result<Vec<(Text, Order)>, Allo
 }
 
 fn instance(alloc: Global, case: &InstanceCase) -> Result<(Text, InstanceRow), AllocError> {
+    let id = Text::from_str(alloc, case.0)?;
     let attributes = attributes(alloc, case.4)?;
     let standing = match case.1 {
         None => None,
@@ -180,7 +188,7 @@ fn instance(alloc: Global, case: &InstanceCase) -> Result<(Text, InstanceRow), A
         busy: case.2,
         last_number: case.3,
     };
-    Ok((Text::from_str(alloc, case.0)?, row))
+    Ok((id, row))
 }
 
 fn instances(

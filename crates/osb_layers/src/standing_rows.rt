@@ -188,23 +188,33 @@ fn bound(alloc: Global) -> Result<BindingNow, AllocError> {
     })
 }
 
+/// Whether the rows that follow this one are those expected.
+fn are_rows_after(alloc: Global, old: &InstanceRow) -> Result<bool, AllocError> {
+    let mut order = order(alloc)?;
+    Ok(are_rows(alloc, &mut order, old))
+}
+
 #[test]
 fn instance_rows(rt: HostRuntime) -> Result<(), Fail> {
-    let alloc = rt.alloc();
-    let old = ready(alloc)?;
-    let mut order = order(alloc)?;
-    let same = are_rows(alloc, &mut order, &old);
-    assert!(rt; same);
+    let old = ready(rt.alloc())?;
+    let same = are_rows_after(rt.alloc(), &old);
+    drop(old);
+    assert!(rt; same?);
     Ok(())
+}
+
+/// Whether the edits that follow this row are those expected.
+fn are_edits_after(alloc: Global, old: &BindingNow) -> Result<bool, AllocError> {
+    let mut order = order(alloc)?;
+    Ok(are_edits(alloc, &mut order, old))
 }
 
 #[test]
 fn binding_rows(rt: HostRuntime) -> Result<(), Fail> {
-    let alloc = rt.alloc();
-    let old = bound(alloc)?;
-    let mut order = order(alloc)?;
-    let same = are_edits(alloc, &mut order, &old);
-    assert!(rt; same);
+    let old = bound(rt.alloc())?;
+    let same = are_edits_after(rt.alloc(), &old);
+    drop(old);
+    assert!(rt; same?);
     Ok(())
 }
 
@@ -235,6 +245,8 @@ fn views(rt: HostRuntime) -> Result<(), Fail> {
         listing: Vec::new(alloc),
     };
     let view = view_by(read);
-    assert!(rt; view.count == 7 && view.bound && view.standing.is_none());
+    let is_told = view.count == 7 && view.bound && view.standing.is_none();
+    drop(view);
+    assert!(rt; is_told);
     Ok(())
 }

@@ -118,21 +118,32 @@ fn refuses(rt: &(impl Abort + AllocGlobal), case: &Case, values: &[&str]) -> Res
     Ok(())
 }
 
-#[test]
-fn members_of_another_kind(rt: HostRuntime) -> Result<(), Fail> {
-    for case in REQUIRED_IDS {
-        refuses(&rt, &case, &NO_IDS)?;
-        // It may be neither empty nor null, nor be absent.
-        refuses(&rt, &case, &[r#""""#, "null", r#"null,"other":1"#])?;
-        tells_changes(&rt, case.0, case.1, &[(case.2, r#""other":1"#, "Body")])?;
-    }
-    for case in IDS_IN_ANY_BODY {
-        refuses(&rt, &case, &NO_IDS)?;
-    }
-    for case in OBJECTS {
-        refuses(&rt, &case, &NO_OBJECTS)?;
+fn each_refuses(
+    rt: &(impl Abort + AllocGlobal),
+    cases: &[Case],
+    values: &[&str],
+) -> Result<(), Fail> {
+    for case in cases {
+        refuses(rt, case, values)?;
     }
     Ok(())
+}
+
+/// None of them may be absent.
+fn each_is_required(rt: &(impl Abort + AllocGlobal), cases: &[Case]) -> Result<(), Fail> {
+    for case in cases {
+        tells_changes(rt, case.0, case.1, &[(case.2, r#""other":1"#, "Body")])?;
+    }
+    Ok(())
+}
+
+#[test]
+fn members_of_another_kind(rt: HostRuntime) -> Result<(), Fail> {
+    each_refuses(&rt, &REQUIRED_IDS, &NO_IDS)?;
+    each_refuses(&rt, &REQUIRED_IDS, &[r#""""#, "null", r#"null,"other":1"#])?;
+    each_is_required(&rt, &REQUIRED_IDS)?;
+    each_refuses(&rt, &IDS_IN_ANY_BODY, &NO_IDS)?;
+    each_refuses(&rt, &OBJECTS, &NO_OBJECTS)
 }
 
 const OF_PROVISION: [Change; 18] = [
