@@ -1,6 +1,12 @@
 //! The broker over a database file.
 
-ghost use Rattle.std.specs.Prelude.{◌≤◌};
+ghost use Rattle.std.specs.Prelude.{◌≡◌, ◌≢◌, ◌≤◌, ◌<◌, ◌++◌, IfOk, IfErr, OnOk};
+ghost use Rattle.sqlite.specs.Files.{over_files};
+ghost use Rattle.osb_catalog.specs.Rules as catalog;
+ghost use Rattle.osb_broker.specs.Kept.{Works, lives_of, most_of, rules_of, store_of};
+ghost use Rattle.osb_broker.specs.Plans.{OffersInUse};
+ghost use Rattle.osb_listen.specs.declared.fault.ListenFault.TheVariants.{CannotAccept, CannotWrite};
+ghost use Rattle.osb_listen.specs.Listen.{listening_line, IsAddress, IsOfDatabase, NamesLacking, Told};
 
 use crate::fault::ListenFault;
 use crate::listen::{Place, serve_at};
@@ -19,6 +25,10 @@ fn broker_over<'s>(
 ) -> Result<Broker<'s, FileStore<FileFrom<Unknown>>>, ListenFault>
     requires some { 1 ≤ per_connection }
     requires few { per_connection ≤ 1000 }
+    ensures most { IfOk result (λ broker. most_of broker ≡ per_connection) }
+    ensures rules { IfOk result (λ broker. rules_of broker ≡ catalog.rules_of settings.now) }
+    ensures offered { IfOk result (λ broker. Works (store_of over_files broker) → OffersInUse (catalog.rules_of settings.now) (lives_of over_files broker)) }
+    ensures fault { IfErr result (IsOfDatabase (catalog.rules_of settings.now)) }
 {
     let records = match open_file(rt, database, Unknown) {
         Ok(records) => records,
@@ -45,6 +55,12 @@ pub fn serve_file<W: Sink, E: Sink>(
 ) -> Result<(), ListenFault>
     requires some { 1 ≤ per_connection }
     requires few { per_connection ≤ 1000 }
+    ensures address { OnOk result (IsAddress place.now.address.now) }
+    ensures lacks { IfErr result (NamesLacking (catalog.rules_of settings.now)) }
+    ensures told { OnOk result (W.taken output.new ≡ W.taken output.old ++ listening_line place.now.address.now) }
+    ensures told_before { IfErr result (λ fault. Told fault (listening_line place.now.address.now) (W.taken output.old) (W.taken output.new)) }
+    ensures cause { IfErr result (λ fault. fault ≡ CannotWrite → W.fruitless output.old < W.fruitless output.new) }
+    ensures quiet { IfErr result (λ fault. fault ≢ CannotAccept → E.taken errors.new ≡ E.taken errors.old) }
 {
     let mut broker = broker_over(rt, settings, place.database, per_connection)?;
     serve_at(rt, &mut broker, place, output, errors)

@@ -1,10 +1,20 @@
 //! An address, and the connections that are taken at it.
 
+ghost use Rattle.std.specs.Prelude.{◌≡◌, ◌≢◌, ◌<◌, ◌++◌, IfOk, IfErr, OnOk, OnErr, IsOkUnless};
+ghost use Rattle.osb_frames.specs.declared.limits.Limits.{Limits};
+ghost use Rattle.osb_broker.specs.Kept.{Works, lives_of, most_of, rules_of, store_of};
+ghost use Rattle.osb_broker.specs.Room.{limits_of};
+ghost use Rattle.osb_broker.specs.Served.{AreStandard};
+ghost use Rattle.osb_listen.specs.declared.fault.ListenFault.TheVariants.{CannotAccept, CannotListen, CannotWrite};
+ghost use Rattle.osb_listen.specs.Connections.{After, AfterFewer, AfterOne, IsWrittenInPart};
+ghost use Rattle.osb_listen.specs.Listen.{listening_line, IsAddress, IsOfAddress, Told};
+
 use crate::fault::ListenFault;
 use crate::stream::serve_stream;
 use osb_broker::{Broker, Buffer};
 use osb_frames::{Limits, Sink, send_all};
 use sqlite::Alter;
+use std::alloc::{AllocError, Global};
 use std::net::{SocketAddr, TcpListener};
 
 /// Where orders are kept and connections are taken, and how many of these.
@@ -18,6 +28,31 @@ pub struct Place<'a> {
     pub connections: u32,
 }
 
+/// Takes the next connection of a listener and serves it.
+fn serve_next<S: Alter, E: Sink>(
+    broker: &mut Broker<'_, S>,
+    buffer: &mut Buffer,
+    listener: &TcpListener,
+    errors: &mut E,
+) -> Result<(), ListenFault>
+    ensures ok { Works (store_of S.Store broker.new) → OnOk result (AfterOne (rules_of broker.old) (limits_of buffer.old) (most_of broker.old) (lives_of S.Store broker.old) (lives_of S.Store broker.new) (E.taken errors.old) (E.taken errors.new)) }
+    ensures fault { IsOkUnless result CannotAccept }
+    ensures same { OnErr result (lives_of S.Store broker.new ≡ lives_of S.Store broker.old) }
+    ensures quiet { OnErr result (E.taken errors.new ≡ E.taken errors.old) }
+    ensures works { Works (store_of S.Store broker.new) → Works (store_of S.Store broker.old) }
+    ensures most { most_of broker.new ≡ most_of broker.old }
+    ensures rules { rules_of broker.new ≡ rules_of broker.old }
+    ensures limits { limits_of buffer.new ≡ limits_of buffer.old }
+{
+    match listener.accept() {
+        Ok((stream, _)) => {
+            serve_stream(broker, buffer, &stream, errors);
+            Ok(())
+        }
+        Err(_) => Err(ListenFault::CannotAccept),
+    }
+}
+
 /// Serves so many connections of a listener, one after the other.
 pub fn serve_listener<S: Alter, E: Sink>(
     broker: &mut Broker<'_, S>,
@@ -25,18 +60,26 @@ pub fn serve_listener<S: Alter, E: Sink>(
     listener: &TcpListener,
     connections: u32,
     errors: &mut E,
-) -> Result<(), ListenFault> {
+) -> Result<(), ListenFault>
+    ensures ok { Works (store_of S.Store broker.new) → OnOk result (After (rules_of broker.old) (limits_of buffer.old) (most_of broker.old) connections (lives_of S.Store broker.old) (lives_of S.Store broker.new) (E.taken errors.old) (E.taken errors.new)) }
+    ensures fault { IsOkUnless result CannotAccept }
+    ensures err { Works (store_of S.Store broker.new) → OnErr result (AfterFewer (rules_of broker.old) (limits_of buffer.old) (most_of broker.old) connections (lives_of S.Store broker.old) (lives_of S.Store broker.new) (E.taken errors.old) (E.taken errors.new)) }
+    ensures works { Works (store_of S.Store broker.new) → Works (store_of S.Store broker.old) }
+    ensures most { most_of broker.new ≡ most_of broker.old }
+    ensures rules { rules_of broker.new ≡ rules_of broker.old }
+    ensures limits { limits_of buffer.new ≡ limits_of buffer.old }
+{
     for _ in 0..connections {
-        match listener.accept() {
-            Ok((stream, _)) => serve_stream(broker, buffer, &stream, errors),
-            Err(_) => return Err(ListenFault::CannotAccept),
-        }
+        serve_next(broker, buffer, listener, errors)?;
     }
     Ok(())
 }
 
 /// Listens at an address.
-fn listen_at(rt: &HostRuntime, address: &str) -> Result<TcpListener, ListenFault> {
+fn listen_at(rt: &HostRuntime, address: &str) -> Result<TcpListener, ListenFault>
+    ensures address { OnOk result (IsAddress address.now) }
+    ensures fault { IsOkUnless result CannotListen }
+{
     let Ok(parsed) = address.parse::<SocketAddr>() else {
         return Err(ListenFault::CannotListen);
     };
@@ -46,25 +89,66 @@ fn listen_at(rt: &HostRuntime, address: &str) -> Result<TcpListener, ListenFault
     }
 }
 
-/// Writes that connections are taken.
-fn tell_listening<W: Sink>(address: &str, output: &mut W) -> Result<(), ListenFault> {
-    for piece in ["listening on ", address, "\n"] {
-        if send_all(output, piece.as_bytes()).is_err() {
-            return Err(ListenFault::CannotWrite);
-        }
+/// Writes a piece of a line.
+#[tactic(auto, using(crate::proofs::PartLemmas::sent_in_part))]
+fn tell<W: Sink>(piece: &str, output: &mut W) -> Result<(), ListenFault>
+    ensures ok { OnOk result (W.taken output.new ≡ W.taken output.old ++ piece.now) }
+    ensures quiet { OnOk result (W.fruitless output.new ≡ W.fruitless output.old) }
+    ensures fault { IsOkUnless result CannotWrite }
+    ensures part { OnErr result (IsWrittenInPart piece.now (W.taken output.old) (W.taken output.new)) }
+    ensures cause { OnErr result (W.fruitless output.old < W.fruitless output.new) }
+{
+    match send_all(output, piece.as_bytes()) {
+        Ok(()) => Ok(()),
+        Err(_) => Err(ListenFault::CannotWrite),
     }
-    Ok(())
 }
 
-/// Listens at an address, tells so, and serves connections.
+/// Writes that connections are taken.
+fn tell_listening<W: Sink>(address: &str, output: &mut W) -> Result<(), ListenFault>
+    ensures ok { OnOk result (W.taken output.new ≡ W.taken output.old ++ listening_line address.now) }
+    ensures fault { IsOkUnless result CannotWrite }
+    ensures part { OnErr result (IsWrittenInPart (listening_line address.now) (W.taken output.old) (W.taken output.new)) }
+    ensures cause { OnErr result (W.fruitless output.old < W.fruitless output.new) }
+{
+    tell("listening on ", output)?;
+    tell(address, output)?;
+    tell("\n", output)
+}
+
+/// Room for connections within the standard limits.
+fn standard_buffer(alloc: Global) -> Result<Buffer, AllocError>
+    ensures { IfOk result (λ buffer. AreStandard (limits_of buffer)) }
+{
+    Buffer::new(alloc, &Limits::STANDARD)
+}
+
+/// Listens at an address, tells so, and serves connections. What is said of lives is said where the
+/// store works still.
 pub(crate) fn serve_at<S: Alter, W: Sink, E: Sink>(
     rt: &HostRuntime,
     broker: &mut Broker<'_, S>,
     place: &Place<'_>,
     output: &mut W,
     errors: &mut E,
-) -> Result<(), ListenFault> {
-    let mut buffer = Buffer::new(rt.alloc(), &Limits::STANDARD)?;
+) -> Result<(), ListenFault>
+    ensures ok { Works (store_of S.Store broker.new) → OnOk result ((limits : Limits) × AreStandard limits
+        × After (rules_of broker.old) limits (most_of broker.old) place.now.connections (lives_of S.Store broker.old) (lives_of S.Store broker.new) (E.taken errors.old) (E.taken errors.new)) }
+    ensures accepted { Works (store_of S.Store broker.new) → IfErr result (λ fault. fault ≡ CannotAccept → (limits : Limits) × AreStandard limits
+        × AfterFewer (rules_of broker.old) limits (most_of broker.old) place.now.connections (lives_of S.Store broker.old) (lives_of S.Store broker.new) (E.taken errors.old) (E.taken errors.new)) }
+
+    // Before connections are taken nothing is changed and nothing is told on `errors`.
+    ensures same { IfErr result (λ fault. fault ≢ CannotAccept → lives_of S.Store broker.new ≡ lives_of S.Store broker.old) }
+    ensures quiet { IfErr result (λ fault. fault ≢ CannotAccept → E.taken errors.new ≡ E.taken errors.old) }
+
+    ensures address { OnOk result (IsAddress place.now.address.now) }
+    ensures fault { IfErr result IsOfAddress }
+    ensures told { OnOk result (W.taken output.new ≡ W.taken output.old ++ listening_line place.now.address.now) }
+    ensures told_before { IfErr result (λ fault. Told fault (listening_line place.now.address.now) (W.taken output.old) (W.taken output.new)) }
+    ensures cause { IfErr result (λ fault. fault ≡ CannotWrite → W.fruitless output.old < W.fruitless output.new) }
+    ensures works { Works (store_of S.Store broker.new) → Works (store_of S.Store broker.old) }
+{
+    let mut buffer = standard_buffer(rt.alloc())?;
     let listener = listen_at(rt, place.address)?;
     tell_listening(place.address, output)?;
     serve_listener(broker, &mut buffer, &listener, place.connections, errors)

@@ -1,7 +1,13 @@
 //! One TCP connection.
 
+ghost use Rattle.std.specs.Prelude.{◌≡◌, ◌<◌, ℕ, List};
+ghost use Rattle.osb_broker.specs.Kept.{Works, lives_of, most_of, rules_of, store_of};
+ghost use Rattle.osb_broker.specs.Room.{limits_of};
+ghost use Rattle.osb_broker.specs.Serving.{Gave};
+ghost use Rattle.osb_listen.specs.Connections.{line_of, AfterOne, IsWrittenInPart, Serves, TellsCause};
+
 use osb_broker::{Broker, Buffer, ServeFault};
-use osb_frames::{Counted, Sink, send_all};
+use osb_frames::{Counted, Sink, Source, send_all};
 use sqlite::Alter;
 use std::io::Read;
 use std::net::{Shutdown, TcpStream};
@@ -34,23 +40,58 @@ fn end(stream: &TcpStream) {
     }
 }
 
+/// Tells how serving a connection ended. Standard error that can't be written is passed over.
+#[tactic(auto, using(crate::proofs::PartLemmas::sent_in_part, crate::proofs::PartLemmas::nothing_sent))]
+fn tell_end<E: Sink>(ended: Result<(), ServeFault>, errors: &mut E)
+    ensures { IsWrittenInPart (line_of ended) (E.taken errors.old) (E.taken errors.new) }
+{
+    let _ = match ended {
+        Ok(()) => Ok(()),
+        Err(ServeFault::Read) => send_all(errors, b"connection: read\n"),
+        Err(ServeFault::Write) => send_all(errors, b"connection: write\n"),
+    };
+}
+
+/// Serves a connection, and tells how that ended. What is said of lives is said where the store works
+/// still.
+fn serve_connection<S: Alter, R: Source, W: Sink, E: Sink>(
+    broker: &mut Broker<'_, S>,
+    buffer: &mut Buffer,
+    source: &mut R,
+    sink: &mut W,
+    errors: &mut E,
+)
+    ensures served { (got : List ℕ) × Gave (R.given source.old) (R.given source.new) (R.rest source.old) (R.rest source.new) got
+        × (Works (store_of S.Store broker.new) → Serves (rules_of broker.old) (limits_of buffer.old) (most_of broker.old) (lives_of S.Store broker.old) (lives_of S.Store broker.new) got (R.rest source.new) (W.taken sink.old) (W.taken sink.new) (E.taken errors.old) (E.taken errors.new)) }
+    ensures cause { TellsCause (R.failures source.old < R.failures source.new) (W.fruitless sink.old < W.fruitless sink.new) (E.taken errors.old) (E.taken errors.new) }
+    ensures works { Works (store_of S.Store broker.new) → Works (store_of S.Store broker.old) }
+    ensures most { most_of broker.new ≡ most_of broker.old }
+    ensures rules { rules_of broker.new ≡ rules_of broker.old }
+    ensures limits { limits_of buffer.new ≡ limits_of buffer.old }
+{
+    let ended = broker.serve(buffer, source, sink);
+    tell_end(ended, errors);
+}
+
 /// Serves a connection and ends it. A read or a write that fails is a line on `errors`,
-/// `connection: read` or `connection: write`, and is none of the next connection.
+/// `connection: read` or `connection: write`, and is none of the next connection. What is said of
+/// lives is said where the store works still.
 pub fn serve_stream<S: Alter, E: Sink>(
     broker: &mut Broker<'_, S>,
     buffer: &mut Buffer,
     stream: &TcpStream,
     errors: &mut E,
-) {
+)
+    ensures served { Works (store_of S.Store broker.new) → AfterOne (rules_of broker.old) (limits_of buffer.old) (most_of broker.old) (lives_of S.Store broker.old) (lives_of S.Store broker.new) (E.taken errors.old) (E.taken errors.new) }
+    ensures works { Works (store_of S.Store broker.new) → Works (store_of S.Store broker.old) }
+    ensures most { most_of broker.new ≡ most_of broker.old }
+    ensures rules { rules_of broker.new ≡ rules_of broker.old }
+    ensures limits { limits_of buffer.new ≡ limits_of buffer.old }
+{
     // A reply isn't held back for more to come. Where the system can't do that, it is only later.
     let _ = stream.set_nodelay(true);
     let mut source = Counted::new(stream);
     let mut sink = Counted::new(stream);
-    // Standard error that can't be written is passed over.
-    let _ = match broker.serve(buffer, &mut source, &mut sink) {
-        Ok(()) => Ok(()),
-        Err(ServeFault::Read) => send_all(errors, b"connection: read\n"),
-        Err(ServeFault::Write) => send_all(errors, b"connection: write\n"),
-    };
+    serve_connection(broker, buffer, &mut source, &mut sink, errors);
     end(stream);
 }
