@@ -51,8 +51,10 @@ const TEXTS: &[&[u8]] = &[CREATED_LAST, b"", KNOWN_LAST, NO_HEAD];
 
 /// Whether what these connections leave is there for one that comes after.
 fn leaves_what_was_made(alloc: Global, broker: &mut Broker<'_, MemStore>) -> Result<bool, Fail> {
-    Ok(writes(alloc, broker, CONNECTIONS, TEXTS)?
-        && writes(alloc, broker, &[PUT_I], &[KNOWN_LAST])?)
+    Ok(
+        writes(alloc, broker, CONNECTIONS, TEXTS)?
+            && writes(alloc, broker, &[PUT_I], &[KNOWN_LAST])?,
+    )
 }
 
 #[test]

@@ -170,6 +170,24 @@ fn outputs_over(
 }
 
 /// Fails where it writes something else than the text.
+fn answers_over(
+    alloc: Global,
+    settings: &Settings,
+    per_connection: u32,
+    bytes: &[u8],
+    text: &[u8],
+) -> Result<(), Fail>
+    requires some { 1 ≤ per_connection }
+    requires few { per_connection ≤ 1000 }
+{
+    let outputs = outputs_over(alloc, settings, per_connection, bytes)?;
+    match outputs.as_slice() {
+        [output] if output.as_slice() == text => Ok(()),
+        _ => Err("another text")?,
+    }
+}
+
+/// The same over the built-in settings.
 pub(crate) fn answers(
     alloc: Global,
     per_connection: u32,
@@ -180,11 +198,7 @@ pub(crate) fn answers(
     requires few { per_connection ≤ 1000 }
 {
     let settings = built_in(alloc)?;
-    let outputs = outputs_over(alloc, &settings, per_connection, bytes)?;
-    match outputs.as_slice() {
-        [output] if output.as_slice() == text => Ok(()),
-        _ => Err("another text")?,
-    }
+    answers_over(alloc, &settings, per_connection, bytes, text)
 }
 
 /// Whether it writes the text to these bytes in pieces of that size.
