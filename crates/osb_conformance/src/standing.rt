@@ -56,7 +56,9 @@ pub(crate) fn standing_by(
     ask: &Ask,
 ) -> Result<String, Fail> {
     let view = memory::view(records, alloc, ask)?;
-    standing_line(alloc, &view)
+    let line = standing_line(alloc, &view);
+    drop(view);
+    line
 }
 
 /// Fails where this isn't that order.
@@ -102,6 +104,29 @@ fn is_standing(
     Err(Fail::from(told))
 }
 
+/// The records after these exchanges. Fails where after one of them something else stands of `i`.
+fn standing_after(
+    alloc: Global,
+    settings: &Settings,
+    exchanges: &[Exchange],
+    standings: &[&str],
+) -> Result<Records<MemStore>, Fail> {
+    let mut records = open_memory(alloc)?;
+    let mut plain = PlainLives::new(alloc);
+    for (exchange, expected) in exchanges.iter().zip(standings) {
+        records = after(alloc, settings, records, *exchange)?;
+        is_standing(
+            alloc,
+            settings,
+            &mut records,
+            &mut plain,
+            *exchange,
+            expected,
+        )?;
+    }
+    Ok(records)
+}
+
 /// Fails where after an exchange something else stands of `i`, or in the end it has other orders.
 fn stands(
     alloc: Global,
@@ -110,19 +135,7 @@ fn stands(
     orders: &[&str],
 ) -> Result<(), Fail> {
     let settings = built_in(alloc)?;
-    let mut records = open_memory(alloc)?;
-    let mut plain = PlainLives::new(alloc);
-    for (exchange, expected) in exchanges.iter().zip(standings) {
-        records = after(alloc, &settings, records, *exchange)?;
-        is_standing(
-            alloc,
-            &settings,
-            &mut records,
-            &mut plain,
-            *exchange,
-            expected,
-        )?;
-    }
+    let mut records = standing_after(alloc, &settings, exchanges, standings)?;
     has_orders(alloc, &mut records, orders)
 }
 

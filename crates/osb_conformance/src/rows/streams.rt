@@ -6,6 +6,7 @@ use super::framing::{CREATED, CREATED_LAST, NO_HEAD, PUT_I};
 use crate::catalogs::built_in;
 use crate::serving::{joined, new_broker};
 use osb_broker::{Broker, Buffer, ServeFault};
+use osb_catalog::Settings;
 use osb_frames::{Counted, Limits};
 use osb_records::memory;
 use sqlite::MemStore;
@@ -71,6 +72,39 @@ fn orders_of(alloc: Global, broker: Broker<'_, MemStore>) -> Result<usize, Fail>
     Ok(life.len())
 }
 
+/// Whether a connection of these bytes, whose writer takes so many, ends so.
+fn ends(
+    alloc: Global,
+    broker: &mut Broker<'_, MemStore>,
+    bytes: &[u8],
+    room: usize,
+    left: &Left,
+) -> Result<bool, Fail> {
+    let mut buffer = Buffer::new(alloc, &Limits::STANDARD)?;
+    let mut source = Counted::new(Failing { bytes });
+    let taken = Vec::new(alloc);
+    let mut sink = Counted::new(Short { taken, room });
+    let result = broker.serve(&mut buffer, &mut source, &mut sink);
+    Ok(result == left.result && sink.into_inner().taken.as_slice() == left.text)
+}
+
+/// Whether it ends so over these settings, and with so many orders.
+fn leaves_over(
+    alloc: Global,
+    settings: &Settings,
+    per_connection: u32,
+    sent: (&[u8], usize),
+    left: &Left,
+) -> Result<bool, Fail>
+    requires some { 1 ≤ per_connection }
+    requires few { per_connection ≤ 1000 }
+{
+    let (bytes, room) = sent;
+    let mut broker = new_broker(alloc, settings, per_connection)?;
+    let same = ends(alloc, &mut broker, bytes, room, left)?;
+    Ok(orders_of(alloc, broker)? == left.orders && same)
+}
+
 /// Fails where a connection of these bytes, whose writer takes so many, leaves something else.
 fn leaves(
     alloc: Global,
@@ -83,14 +117,7 @@ fn leaves(
     requires few { per_connection ≤ 1000 }
 {
     let settings = built_in(alloc)?;
-    let mut broker = new_broker(alloc, &settings, per_connection)?;
-    let mut buffer = Buffer::new(alloc, &Limits::STANDARD)?;
-    let mut source = Counted::new(Failing { bytes });
-    let taken = Vec::new(alloc);
-    let mut sink = Counted::new(Short { taken, room });
-    let result = broker.serve(&mut buffer, &mut source, &mut sink);
-    let same = result == left.result && sink.into_inner().taken.as_slice() == left.text;
-    if same && orders_of(alloc, broker)? == left.orders {
+    if leaves_over(alloc, &settings, per_connection, (bytes, room), &left)? {
         Ok(())
     } else {
         Err("another end")?
