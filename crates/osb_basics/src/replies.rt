@@ -172,125 +172,132 @@ fn statuses(rt: HostRuntime) {
     }
 }
 
-fn check_error(rt: &impl Abort, error: FixedError, code: u16, body: &str) {
-    assert_eq!(rt; error.status().code().as_u16(), code);
-    assert_eq!(rt; error.body(), body.as_bytes());
+/// An error, and the code and the body of its reply.
+type ErrorCase = (FixedError, u16, &'static str);
+
+fn check_errors(rt: &impl Abort, cases: &[ErrorCase]) {
+    for (error, code, body) in cases {
+        assert_eq!(rt; error.status().code().as_u16(), *code);
+        assert_eq!(rt; error.body(), body.as_bytes());
+    }
 }
+
+/// What is wrong with a request by itself.
+const OF_REQUESTS: [ErrorCase; 10] = [
+    (
+        FixedError::NoHead,
+        400,
+        r#"{"description":"No request head was found."}"#,
+    ),
+    (
+        FixedError::Host,
+        400,
+        r#"{"description":"A request needs one Host line."}"#,
+    ),
+    (
+        FixedError::Coding,
+        411,
+        r#"{"description":"Transfer codings are not supported."}"#,
+    ),
+    (
+        FixedError::Length,
+        400,
+        r#"{"description":"The Content-Length is not usable."}"#,
+    ),
+    (
+        FixedError::TooLarge,
+        413,
+        r#"{"description":"The body is too large."}"#,
+    ),
+    (
+        FixedError::Cut,
+        400,
+        r#"{"description":"The input ended inside the body."}"#,
+    ),
+    (
+        FixedError::Version,
+        412,
+        r#"{"description":"This broker speaks version 2 of the API."}"#,
+    ),
+    (
+        FixedError::Id,
+        400,
+        r#"{"description":"An identifier is not usable."}"#,
+    ),
+    (
+        FixedError::Query,
+        400,
+        r#"{"description":"The query is not usable."}"#,
+    ),
+    (
+        FixedError::Body,
+        400,
+        r#"{"description":"The body is not usable."}"#,
+    ),
+];
 
 #[test]
 fn errors_of_requests(rt: HostRuntime) {
-    for (error, code, body) in [
-        (
-            FixedError::NoHead,
-            400,
-            r#"{"description":"No request head was found."}"#,
-        ),
-        (
-            FixedError::Host,
-            400,
-            r#"{"description":"A request needs one Host line."}"#,
-        ),
-        (
-            FixedError::Coding,
-            411,
-            r#"{"description":"Transfer codings are not supported."}"#,
-        ),
-        (
-            FixedError::Length,
-            400,
-            r#"{"description":"The Content-Length is not usable."}"#,
-        ),
-        (
-            FixedError::TooLarge,
-            413,
-            r#"{"description":"The body is too large."}"#,
-        ),
-        (
-            FixedError::Cut,
-            400,
-            r#"{"description":"The input ended inside the body."}"#,
-        ),
-        (
-            FixedError::Version,
-            412,
-            r#"{"description":"This broker speaks version 2 of the API."}"#,
-        ),
-        (
-            FixedError::Id,
-            400,
-            r#"{"description":"An identifier is not usable."}"#,
-        ),
-        (
-            FixedError::Query,
-            400,
-            r#"{"description":"The query is not usable."}"#,
-        ),
-        (
-            FixedError::Body,
-            400,
-            r#"{"description":"The body is not usable."}"#,
-        ),
-    ] {
-        check_error(&rt, error, code, body);
-    }
+    check_errors(&rt, &OF_REQUESTS);
 }
+
+/// What is wrong with a request for what stands.
+const OF_INSTANCES: [ErrorCase; 10] = [
+    (
+        FixedError::NotInCatalog,
+        400,
+        r#"{"description":"The catalog has no such service or plan."}"#,
+    ),
+    (
+        FixedError::Mismatch,
+        400,
+        r#"{"description":"The service or plan is not the instance's."}"#,
+    ),
+    (
+        FixedError::NotBindable,
+        400,
+        r#"{"description":"The plan is not bindable."}"#,
+    ),
+    (
+        FixedError::Operation,
+        400,
+        r#"{"description":"The operation is not known for this resource."}"#,
+    ),
+    (
+        FixedError::AsyncRequired,
+        422,
+        r#"{"description":"The plan needs asynchronous operations.","error":"AsyncRequired"}"#,
+    ),
+    (
+        FixedError::ConcurrencyError,
+        422,
+        r#"{"description":"Another operation is in progress.","error":"ConcurrencyError"}"#,
+    ),
+    (
+        FixedError::MaintenanceInfoConflict,
+        422,
+        r#"{"description":"The maintenance version is not the catalog's.","error":"MaintenanceInfoConflict"}"#,
+    ),
+    (
+        FixedError::NoPlanChange,
+        422,
+        r#"{"description":"The plan does not allow a change of plan."}"#,
+    ),
+    (
+        FixedError::BindingsRemain,
+        422,
+        r#"{"description":"The instance still has bindings."}"#,
+    ),
+    (
+        FixedError::Full,
+        422,
+        r#"{"description":"The instance has no order numbers left."}"#,
+    ),
+];
 
 #[test]
 fn errors_of_instances(rt: HostRuntime) {
-    for (error, code, body) in [
-        (
-            FixedError::NotInCatalog,
-            400,
-            r#"{"description":"The catalog has no such service or plan."}"#,
-        ),
-        (
-            FixedError::Mismatch,
-            400,
-            r#"{"description":"The service or plan is not the instance's."}"#,
-        ),
-        (
-            FixedError::NotBindable,
-            400,
-            r#"{"description":"The plan is not bindable."}"#,
-        ),
-        (
-            FixedError::Operation,
-            400,
-            r#"{"description":"The operation is not known for this resource."}"#,
-        ),
-        (
-            FixedError::AsyncRequired,
-            422,
-            r#"{"description":"The plan needs asynchronous operations.","error":"AsyncRequired"}"#,
-        ),
-        (
-            FixedError::ConcurrencyError,
-            422,
-            r#"{"description":"Another operation is in progress.","error":"ConcurrencyError"}"#,
-        ),
-        (
-            FixedError::MaintenanceInfoConflict,
-            422,
-            r#"{"description":"The maintenance version is not the catalog's.","error":"MaintenanceInfoConflict"}"#,
-        ),
-        (
-            FixedError::NoPlanChange,
-            422,
-            r#"{"description":"The plan does not allow a change of plan."}"#,
-        ),
-        (
-            FixedError::BindingsRemain,
-            422,
-            r#"{"description":"The instance still has bindings."}"#,
-        ),
-        (
-            FixedError::Full,
-            422,
-            r#"{"description":"The instance has no order numbers left."}"#,
-        ),
-    ] {
-        check_error(&rt, error, code, body);
-    }
+    check_errors(&rt, &OF_INSTANCES);
 }
 
 /// A writer that takes seven bytes at a time, and goes wrong at any of its writes.
