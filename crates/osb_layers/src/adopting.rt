@@ -15,12 +15,18 @@ const FAILED: &str =
     "INSERT INTO instances (instance_id, phase, busy, last_seq, service_id, plan_id, organization, space, params, maint) VALUES ('i', 3, 0, 1, 's', 'p', 'o', 'q', '{}', '')";
 
 /// How many orders the instance `i` has.
-pub(crate) fn count_orders<S: Alter + Drop>(
+pub(crate) fn count_orders<S: Alter>(
     alloc: Global,
-    mut records: Records<S>,
+    records: &mut Records<S>,
 ) -> Result<usize, StoreFault> {
     let life = records.life(alloc, "i")?;
     Ok(life.len())
+}
+
+/// How many it has in a new database.
+fn orders_at_first(alloc: Global) -> Result<usize, StoreFault> {
+    let mut records = open_memory(alloc)?;
+    count_orders(alloc, &mut records)
 }
 
 /// How many orders run in a new database.
@@ -69,7 +75,7 @@ fn plans_after(alloc: Global, statements: &[&str]) -> Result<usize, StoreFault> 
 
 #[test]
 fn a_new_database_has_no_orders(rt: HostRuntime) -> Result<(), Fail> {
-    assert_eq!(rt; count_orders(rt.alloc(), open_memory(rt.alloc())?)?, 0);
+    assert_eq!(rt; orders_at_first(rt.alloc())?, 0);
     assert_eq!(rt; running_at_first(rt.alloc())?, 0);
     Ok(())
 }

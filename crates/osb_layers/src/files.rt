@@ -1,6 +1,6 @@
 //! A database file, made and opened again.
 
-use crate::adopting::{ORDER, READY, run};
+use crate::adopting::{ORDER, READY, count_orders, run};
 use osb_file::open_file;
 use osb_records::{Records, StoreFault};
 use sqlite::{Alter, Unknown};
@@ -8,13 +8,7 @@ use std::alloc::Global;
 use std::test::Fail;
 use std::{env, fs};
 
-/// How many orders the instance `i` has.
-fn count_orders<S: Alter>(alloc: Global, records: &mut Records<S>) -> Result<usize, StoreFault> {
-    let life = records.life(alloc, "i")?;
-    Ok(life.len())
-}
-
-/// The same before these statements are run.
+/// How many orders the instance `i` has, before these statements are run.
 fn count_and_run<S: Alter + Drop>(
     alloc: Global,
     mut records: Records<S>,
