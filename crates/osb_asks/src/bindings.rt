@@ -8,7 +8,7 @@ ghost use Rattle.osb_asks.specs.Reads.{Reads};
 
 use crate::ask::{Ask, Bind, BindingOp, FetchBinding, Unbind};
 use crate::ask_fault::AskFault;
-use crate::content::{Content, Details, NamedPlan};
+use crate::content::Content;
 use crate::id::Id;
 use crate::offers::has_plan;
 use crate::query::{accepts_incomplete_in, id_in, value_of};
@@ -27,22 +27,19 @@ fn bind_in(
     requires { IsReadable (data_of content.now) }
     ensures { Reads result (spec.bind_in instance binding accepts_incomplete (data_of content.now)) }
 {
-    let NamedPlan { service, plan } = content.plan(alloc)?;
+    let named = content.plan(alloc)?;
     let app_guid = content.app_guid(alloc)?;
     let bind_resource = content.object_or_empty(alloc, "bind_resource")?;
-    let Details {
-        context,
-        parameters,
-    } = content.details(alloc)?;
+    let details = content.details(alloc)?;
     Ok(Bind {
         instance,
         binding,
-        service,
-        plan,
+        service: named.service,
+        plan: named.plan,
         app_guid,
         bind_resource,
-        context,
-        parameters,
+        context: details.context,
+        parameters: details.parameters,
         accepts_incomplete,
     })
 }

@@ -8,7 +8,7 @@ ghost use Rattle.osb_asks.specs.Reads.{Reads};
 
 use crate::ask::{Ask, Deprovision, Fetch, InstanceOp, Provision, Update};
 use crate::ask_fault::AskFault;
-use crate::content::{Content, Details, NamedPlan, NamedSpace};
+use crate::content::Content;
 use crate::id::Id;
 use crate::offers::{has_given_plan, has_plan};
 use crate::query::{accepts_incomplete_in, id_in, value_of};
@@ -26,24 +26,18 @@ fn provision_in(
     requires { IsReadable (data_of content.now) }
     ensures { Reads result (spec.provision_in instance accepts_incomplete (data_of content.now)) }
 {
-    let NamedPlan { service, plan } = content.plan(alloc)?;
-    let NamedSpace {
-        organization,
-        space,
-    } = content.space(alloc)?;
-    let Details {
-        context,
-        parameters,
-    } = content.details(alloc)?;
+    let named = content.plan(alloc)?;
+    let place = content.space(alloc)?;
+    let details = content.details(alloc)?;
     let maintenance = content.maintenance(alloc)?;
     Ok(Provision {
         instance,
-        service,
-        plan,
-        organization,
-        space,
-        context,
-        parameters,
+        service: named.service,
+        plan: named.plan,
+        organization: place.organization,
+        space: place.space,
+        context: details.context,
+        parameters: details.parameters,
         maintenance,
         accepts_incomplete,
     })

@@ -15,7 +15,7 @@ pub(crate) fn built_in(alloc: Global) -> Result<Settings, Fail> {
 }
 
 /// The text of the built-in settings with one text in the place of another.
-fn changed(alloc: Global, from: &str, to: &str) -> Result<String, Fail> {
+pub(crate) fn changed(alloc: Global, from: &str, to: &str) -> Result<String, Fail> {
     Ok(BUILT_IN.replacen(alloc, from, to, 1)?)
 }
 

@@ -2,9 +2,10 @@
 
 use crate::catalogs::built_in;
 use crate::serving::new_broker;
-use osb_broker::Buffer;
+use osb_broker::{Broker, Buffer};
 use osb_frames::{Counted, Limits};
 use osb_listen::{ListenFault, serve_listener, serve_stream};
+use sqlite::MemStore;
 use std::alloc::Global;
 use std::io::{self, Read, Write};
 use std::net::{Shutdown, TcpListener, TcpStream};
@@ -27,21 +28,29 @@ fn connected(rt: &HostRuntime, bytes: &[u8]) -> io::Result<(TcpStream, TcpStream
     Ok((client, stream))
 }
 
-/// What is written on standard error for a connection, by a broker that takes two requests of it.
-fn told(rt: &HostRuntime, stream: &TcpStream) -> Result<Vec<u8>, Fail> {
-    let alloc = rt.alloc();
-    let settings = built_in(alloc)?;
-    let mut broker = new_broker(alloc, &settings, 2)?;
+/// What is written on standard error for a connection that the broker serves.
+fn told_by(
+    alloc: Global,
+    broker: &mut Broker<'_, MemStore>,
+    stream: &TcpStream,
+) -> Result<Vec<u8>, Fail> {
     let mut buffer = Buffer::new(alloc, &Limits::STANDARD)?;
     let mut errors = Counted::new(Vec::new(alloc));
-    serve_stream(&mut broker, &mut buffer, stream, &mut errors);
+    serve_stream(broker, &mut buffer, stream, &mut errors);
     Ok(errors.into_inner())
+}
+
+/// The same by a new broker, which takes two requests of a connection.
+fn told(alloc: Global, stream: &TcpStream) -> Result<Vec<u8>, Fail> {
+    let settings = built_in(alloc)?;
+    let mut broker = new_broker(alloc, &settings, 2)?;
+    told_by(alloc, &mut broker, stream)
 }
 
 #[test]
 fn a_client_reads_its_replies(rt: HostRuntime) -> Result<(), Fail> {
     let (client, stream) = connected(&rt, PUT_TWICE)?;
-    let errors = told(&rt, &stream)?;
+    let errors = told(rt.alloc(), &stream)?;
     drop(stream);
     let mut text = Vec::new(rt.alloc());
     (&mut &client).read_to_end(&mut text)?;
@@ -55,7 +64,7 @@ fn a_read_that_fails_is_told(rt: HostRuntime) -> Result<(), Fail> {
     // The client stays silent, and the stream waits for it no longer than this.
     let (_client, stream) = connected(&rt, b"GET")?;
     stream.set_read_timeout(Some(Duration::from_millis(10)))?;
-    let errors = told(&rt, &stream)?;
+    let errors = told(rt.alloc(), &stream)?;
     assert_eq!(rt; errors.as_slice(), b"connection: read\n".as_slice());
     Ok(())
 }
@@ -64,19 +73,28 @@ fn a_read_that_fails_is_told(rt: HostRuntime) -> Result<(), Fail> {
 fn a_write_that_fails_is_told(rt: HostRuntime) -> Result<(), Fail> {
     let (_client, stream) = connected(&rt, PUT_TWICE)?;
     stream.shutdown(Shutdown::Write)?;
-    let errors = told(&rt, &stream)?;
+    let errors = told(rt.alloc(), &stream)?;
     assert_eq!(rt; errors.as_slice(), b"connection: write\n".as_slice());
     Ok(())
 }
 
-/// Whether a broker finds that no connection can be accepted.
+/// Whether the broker finds that no connection can be accepted.
+fn accepts_none_with(
+    alloc: Global,
+    broker: &mut Broker<'_, MemStore>,
+    listener: &TcpListener,
+) -> Result<bool, Fail> {
+    let mut buffer = Buffer::new(alloc, &Limits::STANDARD)?;
+    let mut errors = Counted::new(Vec::new(alloc));
+    let result = serve_listener(broker, &mut buffer, listener, 1, &mut errors);
+    Ok(result == Err(ListenFault::CannotAccept))
+}
+
+/// The same of a new broker.
 fn accepts_none(alloc: Global, listener: &TcpListener) -> Result<bool, Fail> {
     let settings = built_in(alloc)?;
     let mut broker = new_broker(alloc, &settings, 1)?;
-    let mut buffer = Buffer::new(alloc, &Limits::STANDARD)?;
-    let mut errors = Counted::new(Vec::new(alloc));
-    let result = serve_listener(&mut broker, &mut buffer, listener, 1, &mut errors);
-    Ok(result == Err(ListenFault::CannotAccept))
+    accepts_none_with(alloc, &mut broker, listener)
 }
 
 #[test]

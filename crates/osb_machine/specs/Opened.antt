@@ -35,9 +35,13 @@ running = record { state = Running; description = []; credentials = empty_object
 abbrev pub succeeded_with : List ℕ → Outcome
 succeeded_with credentials = record { state = Succeeded; description = []; credentials = credentials }
 
+-- the order of that number
+abbrev pub numbered : ℕ → Opening → Outcome → Order
+numbered number opening outcome = record { number = number; kind = opening.kind; binding = opening.binding; attributes = opening.attributes; outcome = outcome }
+
 -- the order after so many others
 abbrev pub next_order : ℕ → Opening → Outcome → Order
-next_order count opening outcome = record { number = count + 1; kind = opening.kind; binding = opening.binding; attributes = opening.attributes; outcome = outcome }
+next_order count opening outcome = numbered (count + 1) opening outcome
 
 abbrev pub appends : Status → List ℕ → Order → Reaction
 appends status body order = record { status = status; body = body; change = Append order }
@@ -46,13 +50,17 @@ appends status body order = record { status = status; body = body; change = Appe
 abbrev pub begins : Order → Reaction
 begins order = appends status.Accepted (operation_body order) order
 
+-- what the opening says, of its order, which is carried out at once
+abbrev pub carried_out : ℕ → Opening → Reaction
+carried_out number opening = appends opening.status opening.body (numbered number opening (succeeded_with opening.credentials))
+
 -- 'Open': an asynchronous mode has to be accepted; the life must have room; then the order runs, or is carried out at once.
 abbrev pub opened : Rules → Facts → Opening → Reaction
 opened rules facts opening =
     if opening.asynchronous && not opening.accepts_incomplete then refuses AsyncRequired else (
     if nat_le rules.order_limit facts.count then refuses Full else (
     if opening.asynchronous then begins (next_order facts.count opening running)
-    else appends opening.status opening.body (next_order facts.count opening (succeeded_with opening.credentials))))
+    else carried_out (facts.count + 1) opening))
 
 -- '202 of it': the order that runs, where the request accepts that
 abbrev pub accepted : Bool → Option Order → Reaction

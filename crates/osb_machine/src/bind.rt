@@ -117,7 +117,6 @@ fn bind_opening<'a>(
 ) -> Result<Opening<'a>, AllocError>
     ensures { IfOk result (λ opening. opening_of opening ≡ bind_opening (rules_of settings.now) instance.now ask.now) }
 {
-    let attributes = bound_attributes(alloc, ask)?;
     let credentials = plan_credentials(settings, instance.plan.as_str());
     let text = texts::credentials(alloc, credentials)?;
     Ok(Opening {
@@ -125,8 +124,8 @@ fn bind_opening<'a>(
         accepts_incomplete: ask.accepts_incomplete,
         kind: OrderKind::Bind,
         binding: Text::from_str(alloc, ask.binding.as_str())?,
-        attributes,
         credentials: Text::from_str(alloc, credentials)?,
+        attributes: bound_attributes(alloc, ask)?,
         answer: Answer {
             status: Status::Created,
             body: Body::from(text),

@@ -67,8 +67,8 @@ fn deletion<'a>(
         accepts_incomplete: ask.accepts_incomplete,
         kind: OrderKind::Delete,
         binding: Text::new(alloc),
-        attributes: instance.clone()?,
         credentials: Text::from_str(alloc, "{}")?,
+        attributes: instance.clone()?,
         answer: Answer {
             status: Status::Ok,
             body: Body::EMPTY_OBJECT,

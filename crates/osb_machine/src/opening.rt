@@ -1,14 +1,14 @@
 ghost use Rattle.std.specs.Prelude.{◌≡◌, IfOk};
 ghost use Rattle.osb_catalog.specs.Rules.{rules_of};
 ghost use Rattle.osb_orders.specs.Facts.{facts};
-ghost use Rattle.osb_machine.specs.Opened.{opened, begins, next_order, accepted, is_busy, is_unlike, running, succeeded_with};
+ghost use Rattle.osb_machine.specs.Opened.{opened, begins, carried_out, numbered, accepted, is_busy, is_unlike, running, succeeded_with};
 ghost use Rattle.osb_machine.specs.Steps.{reaction, opening_of};
 
 use crate::step::{Answer, Step};
 use crate::texts;
 use osb_catalog::Settings;
 use osb_orders::{Attributes, Change, Order, OrderKind, OrderState, Outcome, View};
-use osb_replies::{FixedError, Status};
+use osb_replies::{Body, FixedError, Status};
 use osb_text::Text;
 use std::alloc::{AllocError, Global};
 
@@ -44,15 +44,37 @@ pub(crate) fn open<'a>(
     }
     let number = view.count + 1;
     if opening.asynchronous {
-        let order = Order {
-            number,
-            kind: opening.kind,
-            binding: opening.binding,
-            attributes: opening.attributes,
-            outcome: running(alloc)?,
-        };
-        return begin(alloc, order);
+        begin(alloc, number, opening)
+    } else {
+        Ok(carried_out(alloc, number, opening))
     }
+}
+
+/// Says that the order begins.
+fn begin<'a>(alloc: Global, number: u32, opening: Opening<'_>) -> Result<Step<'a>, AllocError>
+    ensures { IfOk result (λ step. reaction step ≡ begins (numbered number (opening_of opening.entry) running)) }
+{
+    let order = Order {
+        number,
+        kind: opening.kind,
+        binding: opening.binding,
+        attributes: opening.attributes,
+        outcome: running(alloc)?,
+    };
+    let text = texts::operation(alloc, &order)?;
+    Ok(Step {
+        answer: Answer {
+            status: Status::Accepted,
+            body: Body::from(text),
+        },
+        change: Change::Append(order),
+    })
+}
+
+/// Says what the opening does, of its order, which is carried out at once.
+fn carried_out<'a>(alloc: Global, number: u32, opening: Opening<'a>) -> Step<'a>
+    ensures { reaction result ≡ carried_out number (opening_of opening.entry) }
+{
     let order = Order {
         number,
         kind: opening.kind,
@@ -60,22 +82,10 @@ pub(crate) fn open<'a>(
         attributes: opening.attributes,
         outcome: succeeded_with(alloc, opening.credentials),
     };
-    Ok(Step {
+    Step {
         answer: opening.answer,
         change: Change::Append(order),
-    })
-}
-
-/// Says which order begins.
-fn begin<'a>(alloc: Global, order: Order) -> Result<Step<'a>, AllocError>
-    ensures { IfOk result (λ step. reaction step ≡ begins order) }
-{
-    let text = texts::operation(alloc, &order)?;
-    let Step { answer, .. } = Step::says(Status::Accepted, text);
-    Ok(Step {
-        answer,
-        change: Change::Append(order),
-    })
+    }
 }
 
 fn running(alloc: Global) -> Result<Outcome, AllocError>

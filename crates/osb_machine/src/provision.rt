@@ -83,8 +83,8 @@ fn creation<'a>(
         accepts_incomplete: ask.accepts_incomplete,
         kind: OrderKind::Create,
         binding: Text::new(alloc),
-        attributes: created_attributes(alloc, settings, ask)?,
         credentials: Text::from_str(alloc, "{}")?,
+        attributes: created_attributes(alloc, settings, ask)?,
         answer: Answer {
             status: Status::Created,
             body: Body::EMPTY_OBJECT,

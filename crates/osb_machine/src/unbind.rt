@@ -65,8 +65,8 @@ fn unbind_opening<'a>(
         accepts_incomplete: ask.accepts_incomplete,
         kind: OrderKind::Unbind,
         binding: Text::from_str(alloc, ask.binding.as_str())?,
-        attributes: binding.attributes.clone()?,
         credentials: Text::from_str(alloc, "{}")?,
+        attributes: binding.attributes.clone()?,
         answer: Answer {
             status: Status::Ok,
             body: Body::EMPTY_OBJECT,

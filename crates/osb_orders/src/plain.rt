@@ -11,7 +11,7 @@ mod listed;
 mod named;
 mod whole;
 
-use self::kept::{end_last, keep, life_of, listing};
+use self::kept::{append, finish, life_of, listing};
 use self::whole::shown;
 use crate::order::{Change, Order};
 use crate::view::View;
@@ -129,16 +129,8 @@ impl PlainLives {
     {
         match change {
             Change::Nothing => Ok(()),
-            Change::Append(order) => {
-                let mut life = life_of(alloc, &self.lives, instance)?;
-                life.push(order)?;
-                keep(alloc, &mut self.lives, instance, life)
-            }
-            Change::Finish(_, outcome) => {
-                let mut life = life_of(alloc, &self.lives, instance)?;
-                end_last(&mut life, outcome)?;
-                keep(alloc, &mut self.lives, instance, life)
-            }
+            Change::Append(order) => append(alloc, &mut self.lives, instance, order),
+            Change::Finish(_, outcome) => finish(alloc, &mut self.lives, instance, outcome),
         }
     }
 }

@@ -98,8 +98,8 @@ fn order_in(row: &Row) -> Result<Order, StoreFault>
         number: number_in(row, 1)?,
         kind: kind_numbered(number_in(row, 2)?)?,
         binding: text_in(row, 3)?,
-        attributes: attributes_in(row)?,
         outcome: outcome_in(row)?,
+        attributes: attributes_in(row)?,
     })
 }
 
@@ -237,9 +237,9 @@ fn instance_row_in(row: &Row) -> Result<InstanceRow, StoreFault>
     ensures held { IfOk result (λ found. standing_row found ≡ standing_columns row.now) }
 {
     Ok(InstanceRow {
-        standing: standing_told(number_in(row, 1)?, attributes_in(row)?)?,
         busy: busy_numbered(number_in(row, 2)?)?,
         last_number: number_in(row, 3)?,
+        standing: standing_told(number_in(row, 1)?, attributes_in(row)?)?,
     })
 }
 
@@ -307,8 +307,8 @@ pub(crate) fn binding_in(alloc: Global, row: &Row) -> Result<BindingNow, StoreFa
 {
     Ok(BindingNow {
         phase: binding_phase_numbered(number_in(row, 2)?)?,
-        attributes: binding_attributes_in(alloc, row)?,
         credentials: text_in(row, 8)?,
+        attributes: binding_attributes_in(alloc, row)?,
     })
 }
 
@@ -316,9 +316,9 @@ fn binding_entry_in(row: &Row) -> Result<BindingEntry, StoreFault>
     ensures { IfOk result (λ entry. binding_row entry ≡ binding_columns row.now) }
 {
     Ok(BindingEntry {
+        phase: binding_phase_numbered(number_in(row, 2)?)?,
         instance: text_in(row, 0)?,
         binding: text_in(row, 1)?,
-        phase: binding_phase_numbered(number_in(row, 2)?)?,
         service: text_in(row, 3)?,
         plan: text_in(row, 4)?,
         app_guid: text_in(row, 5)?,

@@ -1,6 +1,6 @@
 //! Settings that are accepted, and one file for each fault.
 
-use crate::catalogs::built_in;
+use crate::catalogs::{built_in, changed};
 use osb_catalog::{BUILT_IN, Settings};
 use std::alloc::Global;
 use std::test::Fail;
@@ -35,12 +35,18 @@ fn fault_of(alloc: Global, file: &str) -> Result<String, Fail> {
     }
 }
 
+/// The fault of the built-in settings with one text in the place of another.
+fn fault_with(alloc: Global, from: &str, to: &str) -> Result<String, Fail> {
+    let file = changed(alloc, from, to)?;
+    fault_of(alloc, file.as_str())
+}
+
 #[test]
 fn settings_faults(rt: HostRuntime) -> Result<(), Fail> {
     let alloc = rt.alloc();
     for (from, to, fault) in SETTINGS_FAULTS {
-        let file = BUILT_IN.replacen(alloc, from, to, 1)?;
-        assert_eq!(rt; fault_of(alloc, file.as_str())?.as_str(), fault);
+        let told = fault_with(alloc, from, to)?;
+        assert_eq!(rt; told.as_str(), fault);
     }
     Ok(())
 }

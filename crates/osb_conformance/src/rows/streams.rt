@@ -88,24 +88,28 @@ fn ends(
     Ok(result == left.result && sink.into_inner().taken.as_slice() == left.text)
 }
 
-/// Whether it ends so over these settings, and with so many orders.
+/// Fails where a connection of these bytes, whose writer takes so many, leaves something else.
 fn leaves_over(
     alloc: Global,
     settings: &Settings,
     per_connection: u32,
     sent: (&[u8], usize),
     left: &Left,
-) -> Result<bool, Fail>
+) -> Result<(), Fail>
     requires some { 1 ≤ per_connection }
     requires few { per_connection ≤ 1000 }
 {
     let (bytes, room) = sent;
     let mut broker = new_broker(alloc, settings, per_connection)?;
     let same = ends(alloc, &mut broker, bytes, room, left)?;
-    Ok(orders_of(alloc, broker)? == left.orders && same)
+    if orders_of(alloc, broker)? == left.orders && same {
+        Ok(())
+    } else {
+        Err("another end")?
+    }
 }
 
-/// Fails where a connection of these bytes, whose writer takes so many, leaves something else.
+/// The same over the built-in settings.
 fn leaves(
     alloc: Global,
     per_connection: u32,
@@ -117,11 +121,7 @@ fn leaves(
     requires few { per_connection ≤ 1000 }
 {
     let settings = built_in(alloc)?;
-    if leaves_over(alloc, &settings, per_connection, (bytes, room), &left)? {
-        Ok(())
-    } else {
-        Err("another end")?
-    }
+    leaves_over(alloc, &settings, per_connection, (bytes, room), &left)
 }
 
 const UNREAD: Left = Left {

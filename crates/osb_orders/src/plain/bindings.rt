@@ -3,7 +3,7 @@ ghost use Rattle.std.specs.List.{list_any};
 ghost use Rattle.osb_orders.specs.declared.order.OrderKind.TheVariants.{Bind, Unbind};
 ghost use Rattle.osb_orders.specs.Lists.{from_last, last_where};
 ghost use Rattle.osb_orders.specs.Orders.{is_a, has_succeeded, is_of_binding};
-ghost use Rattle.osb_orders.specs.Bindings.{since_bind, binding_phase_by, binding_of, binding_since, has_bindings};
+ghost use Rattle.osb_orders.specs.Bindings.{since_bind, without_maintenance, binding_phase_by, binding_of, binding_since, has_bindings};
 
 use super::instances::since_birth;
 use crate::order::{Attributes, Order, OrderKind, OrderState};
@@ -36,14 +36,21 @@ fn binding_since(
     ensures { IfOk result (λ binding. Some binding ≡ binding_since id.now (bind.now ∷ later.now)) }
 {
     let last = last_unbind(id, bind, later);
-    let attributes = Attributes {
-        maintenance: Text::new(alloc),
-        ..bind.attributes.clone()?
-    };
+    let credentials = bind.outcome.credentials.clone()?;
     Ok(BindingNow {
         phase: binding_phase_by(last.kind, last.outcome.state),
-        attributes,
-        credentials: bind.outcome.credentials.clone()?,
+        attributes: without_maintenance(alloc, &bind.attributes)?,
+        credentials,
+    })
+}
+
+/// A binding has no maintenance version.
+fn without_maintenance(alloc: Global, attributes: &Attributes) -> Result<Attributes, AllocError>
+    ensures { IfOk result (λ bound. bound ≡ without_maintenance attributes.now) }
+{
+    Ok(Attributes {
+        maintenance: Text::new(alloc),
+        ..attributes.clone()?
     })
 }
 

@@ -1,4 +1,4 @@
-ghost use Rattle.std.specs.Prelude.{◌≡◌, IfOk, OnOk, OnErr};
+ghost use Rattle.std.specs.Prelude.{◌≡◌, ◌∷◌, ◌++◌, [], IfOk, OnOk, OnErr};
 ghost use Rattle.std.specs.FinMap.{insert};
 ghost use Rattle.osb_orders.specs.Lives.{life_of};
 ghost use Rattle.osb_orders.specs.Listing.{listing};
@@ -37,9 +37,39 @@ fn copied(alloc: Global, life: &[Order]) -> Result<Vec<Order>, AllocError>
     Ok(copy)
 }
 
+/// Appends the order to the life of the id.
+pub(super) fn append(
+    alloc: Global,
+    lives: &mut BTreeMap<Text, Vec<Order>>,
+    id: &str,
+    order: Order,
+) -> Result<(), AllocError>
+    ensures ok { OnOk result (lives_in lives.new ≡ insert (lives_in lives.old) id.now (life_of (lives_in lives.old) id.now ++ order ∷ [])) }
+    ensures err { OnErr result (lives_in lives.new ≡ lives_in lives.old) }
+{
+    let mut life = life_of(alloc, lives, id)?;
+    life.push(order)?;
+    keep(alloc, lives, id, life)
+}
+
+/// Gives the last order of the id's life the outcome.
+pub(super) fn finish(
+    alloc: Global,
+    lives: &mut BTreeMap<Text, Vec<Order>>,
+    id: &str,
+    outcome: Outcome,
+) -> Result<(), AllocError>
+    ensures ok { OnOk result (lives_in lives.new ≡ insert (lives_in lives.old) id.now (with_last_ended outcome (life_of (lives_in lives.old) id.now))) }
+    ensures err { OnErr result (lives_in lives.new ≡ lives_in lives.old) }
+{
+    let mut life = life_of(alloc, lives, id)?;
+    end_last(&mut life, outcome)?;
+    keep(alloc, lives, id, life)
+}
+
 /// Keeps the life at the id.
 #[tactic(auto, using(crate::proofs::MapLemmas::kept_insert, crate::proofs::MapLemmas::kept_same))]
-pub(super) fn keep(
+fn keep(
     alloc: Global,
     lives: &mut BTreeMap<Text, Vec<Order>>,
     id: &str,
@@ -54,7 +84,7 @@ pub(super) fn keep(
 }
 
 /// Gives the last order the outcome.
-pub(super) fn end_last(life: &mut Vec<Order>, outcome: Outcome) -> Result<(), AllocError>
+fn end_last(life: &mut Vec<Order>, outcome: Outcome) -> Result<(), AllocError>
     ensures { OnOk result (life.new.items ≡ with_last_ended outcome life.old.items) }
 {
     if let Some(last) = life.pop() {

@@ -3,7 +3,7 @@ ghost use Rattle.osb_orders.specs.Listing.{with_last, is_listed};
 ghost use Rattle.osb_orders.specs.Plain.{lives_in};
 ghost use Rattle.std.specs.FinMap.{entries};
 
-use super::named::last_of;
+use super::named::last_in;
 use crate::order::{Order, OrderState};
 use osb_text::Text;
 use std::alloc::{AllocError, Global};
@@ -33,9 +33,9 @@ fn push_running(
 ) -> Result<(), AllocError>
     ensures { OnOk result (pairs.new.items ≡ pairs.old.items ++ filter (is_listed after.now) (filter_map with_last ((id.now, life.now) ∷ []))) }
 {
-    if let Some(last) = last_of(life)? {
-        if is_listed(after, id, &last) {
-            pairs.push((id.clone()?, last))?;
+    if let Some(last) = last_in(life) {
+        if is_listed(after, id, last) {
+            pairs.push((id.clone()?, last.clone()?))?;
         }
     }
     Ok(())

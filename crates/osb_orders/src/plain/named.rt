@@ -1,4 +1,4 @@
-ghost use Rattle.std.specs.Prelude.{◌≡◌, IfOk, filter};
+ghost use Rattle.std.specs.Prelude.{◌≡◌, IfOk, filter, option_map};
 ghost use Rattle.osb_orders.specs.Lists.{last_of, last_from};
 ghost use Rattle.osb_orders.specs.Orders.{is_of_instance, is_of_binding};
 ghost use Rattle.osb_orders.specs.Named.{subject, order_named, order_numbered, named_by, named_in};
@@ -117,15 +117,24 @@ fn numbered(number: u32, orders: &[Order]) -> Result<Option<Order>, AllocError>
     Ok(None)
 }
 
-/// The last of the orders.
+/// A copy of the last of the orders.
 pub(super) fn last_of(orders: &[Order]) -> Result<Option<Order>, AllocError>
     ensures { IfOk result (λ order. order ≡ last_of orders.now) }
 {
-    if orders.is_empty() {
-        return Ok(None);
+    match last_in(orders) {
+        Some(last) => Ok(Some(last.clone()?)),
+        None => Ok(None),
     }
-    let last = last_from(&orders[0], &orders[1..]);
-    Ok(Some(last.clone()?))
+}
+
+/// The last of the orders.
+pub(super) fn last_in(orders: &[Order]) -> Option<&Order>
+    ensures { option_map (λ order. order.now) result ≡ last_of orders.now }
+{
+    if orders.is_empty() {
+        return None;
+    }
+    Some(last_from(&orders[0], &orders[1..]))
 }
 
 fn last_from<'a>(first: &'a Order, later: &'a [Order]) -> &'a Order

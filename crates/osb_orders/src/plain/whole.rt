@@ -85,9 +85,16 @@ fn polled(
     ensures last { IfOk result (λ parts. parts.1 ≡ last_of (subject ask.now life.now)) }
 {
     let named = named_in(alloc, ask, life)?;
-    let orders = subject(alloc, ask, life)?;
-    let last = last_of(orders.as_slice())?;
+    let last = last_polled(alloc, ask, life)?;
     Ok((named, last))
+}
+
+/// The last of the orders that the ask's poll is about.
+fn last_polled(alloc: Global, ask: &Ask, life: &[Order]) -> Result<Option<Order>, AllocError>
+    ensures { IfOk result (λ last. last ≡ last_of (subject ask.now life.now)) }
+{
+    let orders = subject(alloc, ask, life)?;
+    last_of(orders.as_slice())
 }
 
 /// How many orders there are. Where that is 2^32 or more, want of memory is answered.
