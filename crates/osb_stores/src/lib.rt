@@ -1,0 +1,7 @@
+//! Tests alone: what the records and a database file answer by themselves, through their public calls.
+#![tactic(auto)]
+
+#[cfg(test)]
+mod adopting;
+#[cfg(test)]
+mod files;
