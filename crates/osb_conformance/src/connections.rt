@@ -128,21 +128,32 @@ fn is_no_request(alloc: Global, settings: &Settings, bytes: &[u8]) -> Result<boo
     Ok(output.as_slice() == NO_HEAD)
 }
 
+/// Whether no beginning of a request is one, however long it is.
+fn are_no_requests(alloc: Global, settings: &Settings) -> Result<bool, Fail> {
+    for length in 1..GET_CATALOG.len() {
+        if !is_no_request(alloc, settings, &GET_CATALOG[..length])? {
+            return Ok(false);
+        }
+    }
+    Ok(true)
+}
+
 #[test]
 fn no_beginning_of_a_request_is_one(rt: HostRuntime) -> Result<(), Fail> {
-    let alloc = rt.alloc();
-    let settings = built_in(alloc)?;
-    for length in 1..GET_CATALOG.len() {
-        assert!(rt; is_no_request(alloc, &settings, &GET_CATALOG[..length])?);
-    }
+    let settings = built_in(rt.alloc())?;
+    assert!(rt; are_no_requests(rt.alloc(), &settings)?);
     Ok(())
 }
 
 /// Whether bytes that come one by one, up to a read that fails, are answered with this text before
 /// that read is made.
-fn answers_before_a_failure(alloc: Global, bytes: &[u8], text: &[u8]) -> Result<bool, Fail> {
-    let settings = built_in(alloc)?;
-    let mut broker = new_broker(alloc, &settings, 1)?;
+fn answers_before_a_failure(
+    alloc: Global,
+    settings: &Settings,
+    bytes: &[u8],
+    text: &[u8],
+) -> Result<bool, Fail> {
+    let mut broker = new_broker(alloc, settings, 1)?;
     let reader = Reader {
         bytes,
         piece: 1,
@@ -151,12 +162,18 @@ fn answers_before_a_failure(alloc: Global, bytes: &[u8], text: &[u8]) -> Result<
     ends(alloc, &mut broker, (reader, willing(alloc)), Ok(()), text)
 }
 
+/// The same of a request, and of a byte with which no head begins.
+fn answers_once_it_can(alloc: Global, settings: &Settings) -> Result<bool, Fail> {
+    Ok(
+        answers_before_a_failure(alloc, settings, PUT_I, CREATED_LAST)?
+            && answers_before_a_failure(alloc, settings, &[0], NO_HEAD)?,
+    )
+}
+
 #[test]
 fn nothing_is_read_once_the_answer_stands(rt: HostRuntime) -> Result<(), Fail> {
-    let alloc = rt.alloc();
-    assert!(rt; answers_before_a_failure(alloc, PUT_I, CREATED_LAST)?);
-    // No head begins with this byte.
-    assert!(rt; answers_before_a_failure(alloc, &[0], NO_HEAD)?);
+    let settings = built_in(rt.alloc())?;
+    assert!(rt; answers_once_it_can(rt.alloc(), &settings)?);
     Ok(())
 }
 
@@ -188,15 +205,22 @@ fn leaves_whole_replies(
     Ok(is_cut && is_known(alloc, &mut broker)? == first_is_whole)
 }
 
-#[test]
-fn a_read_that_fails_leaves_whole_replies(rt: HostRuntime) -> Result<(), Fail> {
-    let alloc = rt.alloc();
-    let settings = built_in(alloc)?;
+/// The same for each number of reads that doesn't get both requests.
+fn each_leaves_whole_replies(alloc: Global, settings: &Settings) -> Result<bool, Fail> {
     let bytes = joined(alloc, &[PUT_I, PUT_I])?;
     // The last piece is the rest of both requests.
     for reads in 0..bytes.len().div_ceil(PIECE) {
-        assert!(rt; leaves_whole_replies(alloc, &settings, bytes.as_slice(), reads)?);
+        if !leaves_whole_replies(alloc, settings, bytes.as_slice(), reads)? {
+            return Ok(false);
+        }
     }
+    Ok(true)
+}
+
+#[test]
+fn a_read_that_fails_leaves_whole_replies(rt: HostRuntime) -> Result<(), Fail> {
+    let settings = built_in(rt.alloc())?;
+    assert!(rt; each_leaves_whole_replies(rt.alloc(), &settings)?);
     Ok(())
 }
 
@@ -236,22 +260,34 @@ fn is_cut(alloc: Global, settings: &Settings, writes: usize, last: Last) -> Resu
     }
 }
 
-#[test]
-fn a_write_that_fails_leaves_a_prefix(rt: HostRuntime) -> Result<(), Fail> {
-    let alloc = rt.alloc();
-    let settings = built_in(alloc)?;
+/// The same for a writer that ends in either way.
+fn is_cut_either_way(alloc: Global, settings: &Settings, writes: usize) -> Result<bool, Fail> {
+    Ok(
+        is_cut(alloc, settings, writes, Last::Fails)?
+            && is_cut(alloc, settings, writes, Last::TakesNothing)?,
+    )
+}
+
+/// The same for each number of writes that doesn't take both replies.
+fn each_is_cut(alloc: Global, settings: &Settings) -> Result<bool, Fail> {
     for writes in 0..(CREATED.len() + KNOWN_LAST.len()).div_ceil(PIECE) {
-        assert!(rt; is_cut(alloc, &settings, writes, Last::Fails)?);
-        assert!(rt; is_cut(alloc, &settings, writes, Last::TakesNothing)?);
+        if !is_cut_either_way(alloc, settings, writes)? {
+            return Ok(false);
+        }
     }
-    Ok(())
+    Ok(true)
 }
 
 #[test]
-fn a_reply_goes_out_in_one_write(rt: HostRuntime) -> Result<(), Fail> {
-    let alloc = rt.alloc();
-    let settings = built_in(alloc)?;
-    let mut broker = new_broker(alloc, &settings, 1)?;
+fn a_write_that_fails_leaves_a_prefix(rt: HostRuntime) -> Result<(), Fail> {
+    let settings = built_in(rt.alloc())?;
+    assert!(rt; each_is_cut(rt.alloc(), &settings)?);
+    Ok(())
+}
+
+/// Whether a writer that fails after one write takes the catalog's reply.
+fn goes_out_in_one_write(alloc: Global, settings: &Settings) -> Result<bool, Fail> {
+    let mut broker = new_broker(alloc, settings, 1)?;
     let reader = Reader {
         bytes: GET_CATALOG,
         piece: usize::MAX,
@@ -261,7 +297,13 @@ fn a_reply_goes_out_in_one_write(rt: HostRuntime) -> Result<(), Fail> {
         writes_before_last: 1,
         ..willing(alloc)
     };
-    assert!(rt; ends(alloc, &mut broker, (reader, writer), Ok(()), CATALOG_TEXT)?);
+    ends(alloc, &mut broker, (reader, writer), Ok(()), CATALOG_TEXT)
+}
+
+#[test]
+fn a_reply_goes_out_in_one_write(rt: HostRuntime) -> Result<(), Fail> {
+    let settings = built_in(rt.alloc())?;
+    assert!(rt; goes_out_in_one_write(rt.alloc(), &settings)?);
     Ok(())
 }
 
@@ -292,19 +334,24 @@ fn is_not_found_and_too_large(text: &[u8]) -> bool {
     }
 }
 
-#[test]
-fn smaller_buffers_keep_to_their_limits(rt: HostRuntime) -> Result<(), Fail> {
-    let alloc = rt.alloc();
-    let settings = built_in(alloc)?;
-    let mut broker = new_broker(alloc, &settings, 2)?;
+const AT_A_LIMIT_AND_OVER_ONE: &[u8] =
+    b"PUT /v1/service_instances/i HTTP/1.1\r\nHost: b\r\nA: b\r\n\r\nPUT / HTTP/1.1\r\nHost: b\r\nContent-Length: 4\r\n\r\nabcd";
+
+/// Whether a broker with a buffer for two field lines and a body of three bytes says so.
+fn keeps_to_its_limits(alloc: Global, settings: &Settings) -> Result<bool, Fail> {
+    let mut broker = new_broker(alloc, settings, 2)?;
     let limits = Limits {
         head: 60,
         fields: 2,
         body: 3,
     };
-    let bytes =
-        b"PUT /v1/service_instances/i HTTP/1.1\r\nHost: b\r\nA: b\r\n\r\nPUT / HTTP/1.1\r\nHost: b\r\nContent-Length: 4\r\n\r\nabcd";
-    let text = output_within(alloc, &mut broker, &limits, bytes)?;
-    assert!(rt; is_not_found_and_too_large(text.as_slice()));
+    let text = output_within(alloc, &mut broker, &limits, AT_A_LIMIT_AND_OVER_ONE)?;
+    Ok(is_not_found_and_too_large(text.as_slice()))
+}
+
+#[test]
+fn smaller_buffers_keep_to_their_limits(rt: HostRuntime) -> Result<(), Fail> {
+    let settings = built_in(rt.alloc())?;
+    assert!(rt; keeps_to_its_limits(rt.alloc(), &settings)?);
     Ok(())
 }

@@ -10,7 +10,7 @@ use osb_orders::Change;
 use osb_records::Records;
 use osb_replies::Status;
 use osb_restart::{committed_and_restarted, handled_and_restarted, restarted};
-use sqlite::{Alter, FileStore, Files};
+use sqlite::{FileStore, Files};
 use sqlite_disk::{Crash, Memory};
 use std::alloc::Global;
 use std::test::Fail;
@@ -55,7 +55,10 @@ fn acknowledged_over<D: Crash + Drop>(
 }
 
 /// How many orders the instance has.
-fn orders_in<S: Alter + Drop>(alloc: Global, mut records: Records<S>) -> Result<usize, Fail> {
+fn orders_in<D: Crash + Drop>(
+    alloc: Global,
+    mut records: Records<FileStore<D>>,
+) -> Result<usize, Fail> {
     let life = records.life(alloc, "i")?;
     Ok(life.len())
 }

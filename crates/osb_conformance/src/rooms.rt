@@ -4,6 +4,7 @@ use crate::catalogs::built_in;
 use crate::serving::new_broker;
 use crate::whole::{CREATED_LAST, KNOWN_LAST, NO_HEAD, PUT_I};
 use osb_broker::{Broker, Room};
+use osb_catalog::Settings;
 use osb_frames::{Kept, Limits, Sink, Step, next};
 use osb_replies::Status;
 use sqlite::MemStore;
@@ -50,19 +51,18 @@ const CONNECTIONS: &[&[u8]] = &[PUT_I, b"", PUT_I, b"\r\n"];
 const TEXTS: &[&[u8]] = &[CREATED_LAST, b"", KNOWN_LAST, NO_HEAD];
 
 /// Whether what these connections leave is there for one that comes after.
-fn leaves_what_was_made(alloc: Global, broker: &mut Broker<'_, MemStore>) -> Result<bool, Fail> {
+fn leaves_what_was_made(alloc: Global, settings: &Settings) -> Result<bool, Fail> {
+    let mut broker = new_broker(alloc, settings, 1)?;
     Ok(
-        writes(alloc, broker, CONNECTIONS, TEXTS)?
-            && writes(alloc, broker, &[PUT_I], &[KNOWN_LAST])?,
+        writes(alloc, &mut broker, CONNECTIONS, TEXTS)?
+            && writes(alloc, &mut broker, &[PUT_I], &[KNOWN_LAST])?,
     )
 }
 
 #[test]
 fn one_connection_after_another(rt: HostRuntime) -> Result<(), Fail> {
-    let alloc = rt.alloc();
-    let settings = built_in(alloc)?;
-    let mut broker = new_broker(alloc, &settings, 1)?;
-    assert!(rt; leaves_what_was_made(alloc, &mut broker)?);
+    let settings = built_in(rt.alloc())?;
+    assert!(rt; leaves_what_was_made(rt.alloc(), &settings)?);
     Ok(())
 }
 
@@ -131,15 +131,19 @@ fn waits_for_room(
     )
 }
 
-#[test]
-fn without_room_nothing_is_changed(rt: HostRuntime) -> Result<(), Fail> {
-    let alloc = rt.alloc();
-    let settings = built_in(alloc)?;
-    let mut broker = new_broker(alloc, &settings, 1)?;
+/// The same of a new broker.
+fn new_one_waits_for_room(alloc: Global, settings: &Settings) -> Result<bool, Fail> {
+    let mut broker = new_broker(alloc, settings, 1)?;
     let mut room = Narrow {
         inner: Kept::new(Vec::new(alloc)),
         full: true,
     };
-    assert!(rt; waits_for_room(&mut broker, &mut room)?);
+    waits_for_room(&mut broker, &mut room)
+}
+
+#[test]
+fn without_room_nothing_is_changed(rt: HostRuntime) -> Result<(), Fail> {
+    let settings = built_in(rt.alloc())?;
+    assert!(rt; new_one_waits_for_room(rt.alloc(), &settings)?);
     Ok(())
 }
