@@ -1,23 +1,21 @@
 -- The plans in use, read off the rows and the running orders.
-use Rattle.std.proofs.Common.{◌≡◌, ◌≢◌, ℕ, ◌≤◌, suc, Bool, true, false, cond, ◌&&◌, ◌||◌, T, List, [], ◌∷◌, ◌++◌, length, map, filter, take, bytes_eq, is_eq, is_gt, is_lt, Option, Some, None, Ordering, Less, Equal, Greater, refl, sym, ◌∙◌, ap, subst, arith}
-use Rattle.std.specs.Prelude.{filter_map, option_map, unwrap_or, IfSome}
-use Rattle.std.specs.Option.{option_to_list}
-use Rattle.std.specs.List.{AllByRecursion, list_any, flat_map, cons_option}
+use Rattle.std.proofs.Common.{◌≡◌, ℕ, ◌≤◌, suc, Bool, true, false, cond, ◌&&◌, ◌||◌, T, List, [], ◌∷◌, length, map, filter, bytes_eq, is_eq, is_gt, is_lt, Option, Some, None, Ordering, Less, Equal, Greater, refl, sym, ◌∙◌, ap, subst, arith}
+use Rattle.std.specs.Prelude.{filter_map, unwrap_or, IfSome}
+use Rattle.std.specs.List.{AllByRecursion, list_any, flat_map}
 use Rattle.std.specs.List.Sorted.{IsStrictlySortedBy}
 use Rattle.std.specs.Ordering.{eq_by_cmp, ordering_reverse}
 use Rattle.std.specs.Cmp.{tied_itself}
-use Rattle.std.specs.Cmp.Lexicographic.{slice_cmp, nat_list_cmp_total}
+use Rattle.std.specs.Cmp.Lexicographic.{nat_list_cmp_total}
 use Rattle.std.specs.FinMap.{find, is_sorted, get, entries, entries_sorted, get-entries, slice_cmp-IsAntisymmetric, nat_cmp-IsAntisymmetric}
 use Rattle.std.specs.FinMap.Entries.{below_all, same_entries}
-use Rattle.std.specs.BTreeSet.{BTreeSet, contains}
-use Rattle.std.proofs.Math.Bool.{or_assoc, or-false}
+use Rattle.std.specs.BTreeSet.{BTreeSet}
+use Rattle.std.proofs.Math.Bool.{or-false}
 use Rattle.std.proofs.lemmas.List.{take_all}
 use Rattle.std.proofs.lemmas.List.Folds.{list_any-append}
 use Rattle.osb_text.specs.Id.{is_id}
 use Rattle.osb_orders.specs.declared.order.OrderKind.TheVariants.{Update}
 use Rattle.osb_orders.specs.declared.order.OrderState.TheVariants.{Running}
 use Rattle.osb_orders.specs.declared.order.Order.{Order}
-use Rattle.osb_orders.specs.declared.view.Standing.{Standing}
 use Rattle.osb_orders.specs.Lists.{last_from}
 use Rattle.osb_orders.specs.Orders.{is_a, is_now}
 use Rattle.osb_orders.specs.Life.{Life, standing_of}
@@ -29,10 +27,10 @@ use Rattle.osb_standing.specs.Rows.{row_by, row_of}
 use Rattle.osb_standing.specs.Listing.{with_row, instance_rows}
 use Rattle.osb_audit.specs.Orders.{Entry}
 use Rattle.osb_audit.specs.Instances.{InstanceEntry, instance_cmp, is_instance, InstancesStand}
-use Rattle.osb_audit.specs.Plans.{Pair, pair_in, pair_cmp, is_running_update, pairs_of, plans_in_use, pairs_in_row, pairs_in_order, pairs_in_rows, pairs_in_orders, Adds}
+use Rattle.osb_audit.specs.Plans.{Pair, pair_in, pair_cmp, pairs_of, plans_in_use, pairs_in_row, pairs_in_order, pairs_in_rows, pairs_in_orders, Adds}
 use Rattle.osb_audit.proofs.RunLemmas.{by_bytes}
 use Rattle.osb_audit.proofs.LivesLemmas.{key_is}
-use Rattle.osb_audit.proofs.StandLemmas.{shown, first_of, first_shown}
+use Rattle.osb_audit.proofs.StandLemmas.{first_of, first_shown}
 use Rattle.osb_audit.proofs.SetLemmas.{listed_in_order}
 
 abbrev Lived : Type 0
