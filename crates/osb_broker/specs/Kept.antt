@@ -1,5 +1,5 @@
 -- What a broker keeps.
-use Rattle.std.specs.Prelude.{◌≡◌, ◌⊎◌, ℕ, Option, IsTrue}
+use Rattle.std.specs.Prelude.{ℕ, IsTrue}
 use Rattle.osb_broker.specs.declared.broker.Broker.{Broker}
 use Rattle.osb_replies.specs.Body.{body_bytes}
 use Rattle.osb_machine.specs.declared.step.Answer as code
