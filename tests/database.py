@@ -109,12 +109,11 @@ def indexes(path):
 
 
 def integrity(path):
-    """What the integrity check of Python's sqlite3 says, and where it is installed that of the program."""
+    """What the integrity checks of Python's sqlite3 and of the program sqlite3 say."""
     with contextlib.closing(sqlite3.connect(path)) as connection:
         said = [row[0] for row in connection.execute("PRAGMA integrity_check")]
-    if shutil.which("sqlite3"):
-        words = ["sqlite3", path, "PRAGMA integrity_check"]
-        said += subprocess.run(words, capture_output=True, text=True).stdout.splitlines()
+    words = ["sqlite3", path, "PRAGMA integrity_check"]
+    said += subprocess.run(words, capture_output=True, text=True, check=True).stdout.splitlines()
     return set(said)
 
 

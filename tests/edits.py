@@ -23,9 +23,15 @@ are tried in one check. An edit counts as refused where a goal of its own functi
 
     python3 tests/edits.py --unedited [CRATE ..]
 
-checks the functions that edits name as they are, past the same holes: each has to pass."""
+checks the functions that edits name as they are, past the same holes: each has to pass.
+
+Some toolkits keep what they proved. Where the command tells that a crate is kept, and its edits were refused
+before over the same toolkit, script, edits, crate and libraries, they aren't tried again. What was refused is
+kept in osb-broker/edits below $XDG_CACHE_HOME, or below ~/.cache."""
 
 import concurrent.futures
+import hashlib
+import os
 import pathlib
 import re
 import shutil
@@ -35,25 +41,15 @@ import tempfile
 import threading
 
 ROOT = pathlib.Path(__file__).resolve().parent.parent
-KIT = pathlib.Path(subprocess.run(["rt", "doc"], stdout=subprocess.PIPE, text=True, check=True).stdout.strip()).parent
+TOOLS = ROOT / "tools"
+sys.path.append(str(TOOLS))
 
+from crates import LIBRARIES, RT, below, free_memory, lanes, sum_of
 
-def libraries():
-    """The lines of crates.txt: each crate's name, and the libraries that it uses."""
-    lines = (ROOT / "crates.txt").read_text().splitlines()
-    return {name: used.split() for name, _, used in (line.partition(":") for line in lines)}
-
-
-LIBRARIES = libraries()
-
-
-def below(crate):
-    """The repository's crates below one."""
-    found = []
-    for name in LIBRARIES[crate]:
-        if name in LIBRARIES:
-            found += [it for it in [*below(name), name] if it not in found]
-    return found
+KIT = pathlib.Path(subprocess.run([RT, "doc"], stdout=subprocess.PIPE, text=True, check=True).stdout.strip()).parent
+# What the largest check of a crate takes of memory, and the largest check of edits.
+BYTES_OF_CRATE = 6_000_000_000
+BYTES_OF_EDITS = 2_500_000_000
 
 
 def rlib(crate):
@@ -69,7 +65,7 @@ def command(crate, functions, kept):
         words += ["-L", f"dependency={folder}"]
     words += ["--antt-project", str(KIT / "rattle" / "logic" / "antt-project.json")]
     words += ["--logic-built", str(KIT / "logic_built"), "--links", f"{crate}=", "--jobs", "1"]
-    words += ["--incremental", kept, "--empty-contracts", "--allow-holes"]
+    words += ["--incremental", kept, "--allow-holes"]
     for function in functions:
         words += ["--only", function]
     return words
@@ -239,12 +235,68 @@ def try_batch(crate, batch, kept):
     return wrong + [line for part in parts if part for line in try_batch(crate, part, kept)]
 
 
-def try_crate(crate, edits, stands):
-    """The edits of a crate that weren't refused, tried once the libraries below it stand."""
+class Told:
+    """What a command that proves all crates has told so far: which are proved, and which the toolkit kept."""
+
+    def __init__(self):
+        self.crates = {name: threading.Event() for name in LIBRARIES}
+        self.kept, self.ended, self.failed = set(), threading.Event(), False
+
+    def read(self, line):
+        found = re.fullmatch(r"rt: (\w+) (proved|is kept\b.*)\n", line)
+        if found and found.group(1) in self.crates:
+            if found.group(2) != "proved":
+                self.kept.add(found.group(1))
+            self.crates[found.group(1)].set()
+
+    def end(self, failed):
+        self.failed = failed
+        self.ended.set()
+        for event in self.crates.values():
+            event.set()
+
+
+def passed(crate):
+    """The file that is there once a crate's edits were refused: it is named by a sum of all that was read."""
+    found = hashlib.sha256(sum_of(crate).encode())
+    for file in [pathlib.Path(__file__), TOOLS / "crates.py", *sorted((ROOT / "crates" / crate / "edits").glob("*.edit"))]:
+        found.update(repr((file.name, file.read_bytes())).encode())
+    home = os.environ.get("XDG_CACHE_HOME") or pathlib.Path.home() / ".cache"
+    return pathlib.Path(home) / "osb-broker" / "edits" / found.hexdigest()
+
+
+def are_kept(crate, told):
+    """Whether the toolkit kept the crate as it is, and its edits were refused before."""
+    if not passed(crate).is_file():
+        return False
+    told.crates[crate].wait()
+    return crate in told.kept
+
+
+def build_missing(crate, told):
+    """Builds the libraries below that a toolkit which kept them has left out."""
     for name in below(crate):
-        stands[name].wait()
+        if not rlib(name).is_dir():
+            told.ended.wait()
+            if told.failed:
+                return
+            subprocess.run([RT, "lib"], cwd=ROOT / "crates" / name, stdout=subprocess.DEVNULL, check=True)
+
+
+def try_crate(crate, edits, told):
+    """The edits of a crate that weren't refused, tried once the libraries below it are proved."""
+    for name in below(crate):
+        told.crates[name].wait()
+    kept = are_kept(crate, told)
+    if kept or told.failed:
+        print(f"{crate}: {len(edits)} edits, {'refused before' if kept else 'not tried'}", flush=True)
+        return []
+    build_missing(crate, told)
     with tempfile.TemporaryDirectory() as kept:
         wrong = [line for batch in batches(edits) for line in try_batch(crate, batch, kept)]
+    if not wrong:
+        passed(crate).parent.mkdir(parents=True, exist_ok=True)
+        passed(crate).touch()
     print(f"{crate}: {len(edits)} edits, {len(wrong)} faults", flush=True)
     return wrong
 
@@ -258,14 +310,13 @@ def passes_unedited(crate, edits):
     return [f"{crate}: {name} without an edit: {it[:300]}" for name, it in told.items() if not passes(it)]
 
 
-def beside(words, stands):
-    """Runs a command, shows what it prints, and marks each library that it tells to be proved. Gives its status."""
-    with subprocess.Popen(words, stdout=subprocess.PIPE, text=True, errors="replace") as command:
+def beside(words, told, jobs):
+    """Runs a command with so many checks at once, shows what it prints, and hands it on. Gives its status."""
+    environment = {"RT_JOBS": str(jobs), **os.environ}
+    with subprocess.Popen(words, env=environment, stdout=subprocess.PIPE, text=True, errors="replace") as command:
         for line in command.stdout:
             print(line, end="", flush=True)
-            proved = re.fullmatch(r"rt: (\w+) proved\n", line)
-            if proved and proved.group(1) in stands:
-                stands[proved.group(1)].set()
+            told.read(line)
     return command.returncode
 
 
@@ -277,15 +328,15 @@ def edits_of(crates):
 
 def try_all(edits, words):
     """Tries the edits of each crate, beside a command where one is given. Gives what is wrong, and its status."""
-    stands = {name: threading.Event() for name in LIBRARIES}
-    with concurrent.futures.ThreadPoolExecutor(2) as pool:
-        results = [pool.submit(try_crate, crate, found, stands) for crate, found in edits.items()]
-        status = beside(words, stands) if words else 0
-        if status:
-            pool.shutdown(wait=False, cancel_futures=True)
-        for event in stands.values():
-            event.set()
-    return [line for result in results if not result.cancelled() for line in result.result()], status
+    told, status = Told(), 0
+    jobs = lanes(BYTES_OF_CRATE) if words else 0
+    at_once = max(1, min(2, (free_memory() - jobs * BYTES_OF_CRATE) // BYTES_OF_EDITS))
+    with concurrent.futures.ThreadPoolExecutor(at_once) as pool:
+        results = [pool.submit(try_crate, crate, found, told) for crate, found in edits.items()]
+        if words:
+            status = beside(words, told, jobs)
+        told.end(failed=status != 0)
+    return [line for result in results for line in result.result()], status
 
 
 def main():

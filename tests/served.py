@@ -9,7 +9,6 @@ import base64
 import http.client
 import json
 import os
-import shutil
 import subprocess
 import sys
 import tempfile
@@ -93,10 +92,9 @@ class Served(Serving):
 def whole_life(served):
     """The calls of a life of an instance and a binding, with what each gives and should give."""
     later = "?accepts_incomplete=true"
-    put = served.curl if shutil.which("curl") else served.call
     bind = b'{"service_id":"svc","plan_id":"p-async"}'
     yield served.call("GET", "/v2/catalog")[0], 200
-    yield put("PUT", INSTANCE + later, ASYNC), (202, {"operation": "create-1"})
+    yield served.curl("PUT", INSTANCE + later, ASYNC), (202, {"operation": "create-1"})
     yield served.call("GET", INSTANCE + "/last_operation"), (200, {"state": "in progress"})
     yield served.backend(), "i create 1 succeeded"
     yield served.call("GET", INSTANCE + "/last_operation"), (200, {"state": "succeeded"})

@@ -1,0 +1,211 @@
+//! The records beside the plain lives: after each request of a conversation both give one view for
+//! its ask, and have one life.
+
+use crate::rows::{bindings, instances};
+use crate::standing::standing_by;
+use osb_asks::{Ask, AskFault, read_ask};
+use osb_catalog::Settings;
+use osb_frames::{Limits, Step as Front, next};
+use osb_machine::{Step, decide};
+use osb_orders::{Change, PlainLives, View};
+use osb_records::{Records, memory, open_memory};
+use sqlite::MemStore;
+use std::alloc::{AllocError, Global};
+use std::test::Fail;
+use tests_support::catalogs::built_in;
+use tests_support::conversations::ASYNC_BINDING;
+use tests_support::exchange::{Exchange, request};
+use tests_support::serving::after;
+
+/// A view as text.
+fn told(alloc: Global, view: &View) -> Result<String, Fail> {
+    Ok(format!(in alloc; "{view:?}")?)
+}
+
+/// What the records' view for an ask tells.
+fn told_by_records(
+    alloc: Global,
+    records: &mut Records<MemStore>,
+    ask: &Ask,
+) -> Result<String, Fail> {
+    let view = memory::view(records, alloc, ask)?;
+    let text = told(alloc, &view);
+    drop(view);
+    text
+}
+
+/// The same of the plain lives.
+fn told_plainly(alloc: Global, plain: &PlainLives, ask: &Ask) -> Result<String, Fail> {
+    let view = plain.view(alloc, ask)?;
+    let text = told(alloc, &view);
+    drop(view);
+    text
+}
+
+/// What the table has for an ask by a view.
+fn decided<'s>(
+    alloc: Global,
+    settings: &'s Settings,
+    view: View,
+    ask: &Ask,
+) -> Result<Step<'s>, AllocError> {
+    let step = decide(alloc, settings, &view, ask);
+    drop(view);
+    step
+}
+
+fn change_of(step: Step<'_>) -> Change {
+    let Step { answer: _, change } = step;
+    change
+}
+
+/// The change that an ask makes to the plain lives.
+fn change_by(
+    alloc: Global,
+    settings: &Settings,
+    plain: &PlainLives,
+    ask: &Ask,
+) -> Result<Change, AllocError> {
+    let view = plain.view(alloc, ask)?;
+    let step = decided(alloc, settings, view, ask)?;
+    Ok(change_of(step))
+}
+
+/// Makes a change to the plain lives.
+fn make_plainly(
+    alloc: Global,
+    plain: &mut PlainLives,
+    ask: &Ask,
+    change: Change,
+) -> Result<(), AllocError> {
+    match ask.instance() {
+        Some(instance) => plain.apply(alloc, instance.as_str(), change),
+        None => Ok(()),
+    }
+}
+
+/// The ask of the request that stands there.
+fn ask_of(alloc: Global, settings: &Settings, bytes: &[u8]) -> Result<Ask, AskFault> {
+    match next(bytes, true, &Limits::STANDARD) {
+        Front::Whole(request, _) => read_ask(alloc, &request, settings),
+        Front::Stop(_) | Front::Ended | Front::More => Err(AskFault::NoRoute),
+    }
+}
+
+/// Fails where the records have another view for the ask.
+fn have_one_view(
+    alloc: Global,
+    records: &mut Records<MemStore>,
+    plain: &PlainLives,
+    ask: &Ask,
+) -> Result<(), Fail> {
+    let found = told_by_records(alloc, records, ask)?;
+    let expected = told_plainly(alloc, plain, ask)?;
+    if found.as_str() == expected.as_str() {
+        Ok(())
+    } else {
+        Err("another view")?
+    }
+}
+
+/// Fails where the records have another life of the instance.
+fn have_one_life(
+    alloc: Global,
+    records: &mut Records<MemStore>,
+    plain: &PlainLives,
+    instance: &str,
+) -> Result<(), Fail> {
+    let found = memory::life(records, alloc, instance)?;
+    let expected = plain.life(alloc, instance)?;
+    if found.as_slice() == expected.as_slice() {
+        Ok(())
+    } else {
+        Err("another life")?
+    }
+}
+
+/// Makes the change of an ask to the plain lives, and fails where the records are others. What stands
+/// by the view for the ask.
+fn are_beside(
+    alloc: Global,
+    settings: &Settings,
+    records: &mut Records<MemStore>,
+    plain: &mut PlainLives,
+    ask: &Ask,
+) -> Result<String, Fail> {
+    let change = change_by(alloc, settings, plain, ask)?;
+    make_plainly(alloc, plain, ask, change)?;
+    have_one_view(alloc, records, plain, ask)?;
+    if let Some(instance) = ask.instance() {
+        have_one_life(alloc, records, plain, instance.as_str())?;
+    }
+    standing_by(alloc, records, ask)
+}
+
+/// The same for the ask of an exchange. A request without an ask tells nothing.
+pub(crate) fn stay_beside_once(
+    alloc: Global,
+    settings: &Settings,
+    records: &mut Records<MemStore>,
+    plain: &mut PlainLives,
+    exchange: Exchange,
+) -> Result<String, Fail> {
+    let bytes = request(alloc, exchange.0, exchange.1)?;
+    let found = ask_of(alloc, settings, bytes.as_slice());
+    let told = match &found {
+        Ok(ask) => are_beside(alloc, settings, records, plain, ask),
+        Err(_) => Ok(String::new(alloc)),
+    };
+    drop(found);
+    told
+}
+
+/// Fails where records and plain lives part in a conversation over these settings.
+fn stay_beside_over(
+    alloc: Global,
+    settings: &Settings,
+    exchanges: &[Exchange],
+) -> Result<(), Fail> {
+    let mut records = open_memory(alloc)?;
+    let mut plain = PlainLives::new(alloc);
+    for exchange in exchanges {
+        records = after(alloc, settings, records, *exchange)?;
+        let _ = stay_beside_once(alloc, settings, &mut records, &mut plain, *exchange)?;
+    }
+    Ok(())
+}
+
+/// The same over the built-in settings.
+fn stay_beside(alloc: Global, exchanges: &[Exchange]) -> Result<(), Fail> {
+    let settings = built_in(alloc)?;
+    stay_beside_over(alloc, &settings, exchanges)
+}
+
+#[test]
+fn views_of_instances(rt: HostRuntime) -> Result<(), Fail> {
+    let alloc = rt.alloc();
+    stay_beside(alloc, &instances::PARAMETERS_DIFFER)?;
+    stay_beside(alloc, &instances::ASYNC_ASKED)?;
+    stay_beside(alloc, &instances::POLL_AND_REPORT)?;
+    stay_beside(alloc, &instances::FAILED_CREATE)?;
+    stay_beside(alloc, &instances::UPDATE_FAILED)?;
+    stay_beside(alloc, &instances::MAINTENANCE_CONFLICT)?;
+    stay_beside(alloc, &instances::VERSION_OF_ITS_PLAN)?;
+    stay_beside(alloc, &instances::PLAN_CHANGED)?;
+    stay_beside(alloc, &instances::UPDATED_TWICE)?;
+    stay_beside(alloc, &instances::MADE_AGAIN)?;
+    stay_beside(alloc, &instances::FAILED_DELETION)?;
+    stay_beside(alloc, &instances::SENT_AGAIN)?;
+    stay_beside(alloc, &instances::APART)
+}
+
+#[test]
+fn views_of_bindings(rt: HostRuntime) -> Result<(), Fail> {
+    let alloc = rt.alloc();
+    stay_beside(alloc, &ASYNC_BINDING)?;
+    stay_beside(alloc, &bindings::FAILED_BINDING)?;
+    stay_beside(alloc, &bindings::SYNC_BINDING)?;
+    stay_beside(alloc, &bindings::TWO_BINDINGS)?;
+    stay_beside(alloc, &bindings::BOUND_AGAIN)?;
+    stay_beside(alloc, &bindings::PLAN_CHANGED_UNDER_IT)
+}

@@ -1,0 +1,52 @@
+//! Settings that are accepted, and one file for each fault.
+
+use osb_catalog::{BUILT_IN, Settings};
+use std::alloc::Global;
+use std::test::Fail;
+use tests_support::catalogs::{built_in, changed};
+
+#[test]
+fn settings_are_read(rt: HostRuntime) -> Result<(), Fail> {
+    let settings = built_in(rt.alloc())?;
+    assert_eq!(rt; settings.counts(), (1, 2));
+    Ok(())
+}
+
+/// A text of the built-in settings, what stands in its place, and the fault.
+const SETTINGS_FAULTS: [(&str, &str, &str); 7] = [
+    (BUILT_IN, "[]", "1 Text"),
+    (BUILT_IN, "{}", "2 Missing platform"),
+    ("\"id\":\"p-async\"", "\"id\":\"p-sync\"", "3 DoubleId"),
+    (
+        "\"id\":\"p-sync\"",
+        "\"id\":\"p-sync\",\"schemas\":{}",
+        "4 LeftOut schemas",
+    ),
+    ("\"version\":\"1.2.0\"", "\"version\":\"1.2\"", "5 Version"),
+    ("\"bindings_retrievable\":true,", "", "6 Mode"),
+    ("\"user\":\"platform\"", "\"user\":\"a:b\"", "7 Credential"),
+];
+
+/// The fault of a settings file, as text.
+fn fault_of(alloc: Global, file: &str) -> Result<String, Fail> {
+    match Settings::read(alloc, file.as_bytes()) {
+        Ok(_) => Ok(String::new(alloc)),
+        Err(fault) => Ok(format!(in alloc; "{fault}")?),
+    }
+}
+
+/// The fault of the built-in settings with one text in the place of another.
+fn fault_with(alloc: Global, from: &str, to: &str) -> Result<String, Fail> {
+    let file = changed(alloc, from, to)?;
+    fault_of(alloc, file.as_str())
+}
+
+#[test]
+fn settings_faults(rt: HostRuntime) -> Result<(), Fail> {
+    let alloc = rt.alloc();
+    for (from, to, fault) in SETTINGS_FAULTS {
+        let told = fault_with(alloc, from, to)?;
+        assert_eq!(rt; told.as_str(), fault);
+    }
+    Ok(())
+}

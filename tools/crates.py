@@ -1,0 +1,66 @@
+"""The crates of this repository, as `crates.txt` lists them, and what a machine has for proving them."""
+
+import functools
+import hashlib
+import os
+import pathlib
+import subprocess
+
+ROOT = pathlib.Path(__file__).resolve().parent.parent
+RT = os.environ.get("RT", "rt")
+
+
+def libraries():
+    """Each crate's name, and the libraries that it uses."""
+    lines = (line.partition("#")[0] for line in (ROOT / "crates.txt").read_text().splitlines())
+    return {name.strip(): used.split() for name, _, used in (line.partition(":") for line in lines if line.strip())}
+
+
+LIBRARIES = libraries()
+
+
+def below(crate):
+    """The repository's crates below one, lowest first."""
+    found = []
+    for name in LIBRARIES[crate]:
+        if name in LIBRARIES:
+            found += [it for it in [*below(name), name] if it not in found]
+    return found
+
+
+def sources(crate):
+    """The files that a crate's proof is made from."""
+    folder = ROOT / "crates" / crate
+    return [it for part in ("src", "specs", "proofs") for it in sorted((folder / part).rglob("*")) if it.is_file()]
+
+
+@functools.cache
+def toolkit():
+    """What the toolkit calls itself."""
+    return subprocess.run([RT, "version"], stdout=subprocess.PIPE, text=True, check=True).stdout.strip()
+
+
+@functools.cache
+def sum_of(crate):
+    """A sum of all that a crate's proof reads: the toolkit, its line, its files and the crates below it."""
+    found = hashlib.sha256(repr((toolkit(), crate, LIBRARIES[crate])).encode())
+    for file in sources(crate):
+        found.update(repr((str(file.relative_to(ROOT)), file.read_bytes())).encode())
+    for name in LIBRARIES[crate]:
+        found.update(sum_of(name).encode() if name in LIBRARIES else b"")
+    return found.hexdigest()
+
+
+def free_memory():
+    """The bytes of memory that are free, or that the process's group may still take."""
+    lines = pathlib.Path("/proc/meminfo").read_text().splitlines()
+    found = [1024 * int(line.split()[1]) for line in lines if line.startswith("MemAvailable:")]
+    group = pathlib.Path("/sys/fs/cgroup")
+    if (group / "memory.max").is_file() and (limit := (group / "memory.max").read_text().strip()) != "max":
+        found.append(int(limit) - int((group / "memory.current").read_text()))
+    return min(found)
+
+
+def lanes(bytes_each):
+    """How many checks of so many bytes each can run side by side."""
+    return max(1, min(len(os.sched_getaffinity(0)), free_memory() // bytes_each))
