@@ -13,12 +13,26 @@ import subprocess
 import sys
 import time
 
-from crates import LIBRARIES, ROOT, RT, below, lanes, sources, sum_of
+from crates import LIBRARIES, ROOT, RT, below, lanes, sum_of
 
 PROGRAM = "osb_program"
-# What the largest check takes of memory, and what the first build takes on two processors and on four.
+# What the largest check takes of memory.
 BYTES_EACH = 4_500_000_000
-FIRST_BUILD = "MINUTES"
+# About how many minutes a crate takes where nothing of it is kept, on one processor (docs/PROVING.md, 'Times').
+MINUTES = {
+    "osb_text": 2,
+    "osb_catalog": 6,
+    "osb_asks": 5,
+    "osb_orders": 3,
+    "osb_machine": 5,
+    "osb_audit": 2,
+    "osb_records": 18,
+    "osb_file": 3,
+    "osb_broker": 8,
+    "osb_listen": 5,
+    "osb_cli": 5,
+    "osb_program": 6,
+}
 
 
 def out(crate):
@@ -106,32 +120,39 @@ def proved_in(said):
     return f"{count} functions proved" if count else "proved before"
 
 
-class Progress:
-    """What is proved so far, by the lines of the crates' files."""
+def chain(crate, crates):
+    """The minutes of the longest chain of these crates that begins with this one."""
+    above = [it for it in crates if crate in LIBRARIES[it]]
+    return MINUTES.get(crate, 1) + max((chain(it, crates) for it in above), default=0)
 
-    def __init__(self, crates):
-        self.lines = {it: sum(file.read_bytes().count(b"\n") for file in sources(it)) for it in [*crates, PROGRAM]}
-        self.count, self.whole = len(self.lines), sum(self.lines.values())
-        self.done = []
+
+class Progress:
+    """The crates that aren't proved yet, and how many are to be proved in all."""
+
+    def __init__(self, crates, at_once):
+        self.left, self.count, self.at_once = [*crates, PROGRAM], len(crates) + 1, at_once
+
+    def minutes_left(self):
+        """About how long the rest takes: as long as its longest chain, or as all of it shared out."""
+        return max(chain(it, self.left) for it in self.left) if self.at_once > 1 else sum(MINUTES.get(it, 1) for it in self.left)
+
+    def plan(self):
+        whole = len(below(PROGRAM)) + 1
+        say(f"osb-broker: proving {self.count} of {whole} crates and linking the program takes about {self.minutes_left()} minutes")
 
     def begin(self, crate):
         say(f"{crate}: being proved")
 
     def end(self, crate, proved, seconds):
-        self.done.append(crate)
-        share = 100 * sum(self.lines[it] for it in self.done) // self.whole
-        say(f"{crate}: {proved} in {minutes(seconds)}; {len(self.done)} of {self.count} crates, {share} % of the lines")
-
-    def behind(self, crate):
-        """The lines of the longest chain of crates that begins with this one."""
-        above = [it for it in self.lines if it in LIBRARIES and crate in LIBRARIES[it]]
-        return self.lines[crate] + max((self.behind(it) for it in above), default=0)
+        self.left.remove(crate)
+        rest = f"about {self.minutes_left()} minutes are left" if self.left else "none is left"
+        say(f"{crate}: {proved} in {minutes(seconds)}; {self.count - len(self.left)} of {self.count} crates, {rest}")
 
 
 def prove_all(crates, progress):
     """Proves crates, each once those below it are proved. Gives the status of the first that isn't proved."""
-    left, running, proved = sorted(crates, key=progress.behind, reverse=True), {}, set()
-    at_once = lanes(BYTES_EACH)
+    left, running, proved = sorted(crates, key=lambda it: -chain(it, [*crates, PROGRAM])), {}, set()
+    at_once = progress.at_once
     with concurrent.futures.ThreadPoolExecutor(at_once) as pool:
         while left or running:
             ready = [it for it in left if not set(below(it)) & set(crates) - proved]
@@ -170,8 +191,8 @@ def main():
     crates = [it for it in below(PROGRAM) if not is_kept(it)]
     status = 0
     if crates or not is_kept(PROGRAM):
-        progress = Progress(crates)
-        say(f"osb-broker: {progress.count} crates are to be proved, and the program linked. {FIRST_BUILD}")
+        progress = Progress(crates, lanes(BYTES_EACH))
+        progress.plan()
         status = prove_all(crates, progress) or link_program(progress)
     if status == 0:
         shutil.copy(made(PROGRAM), ROOT / "osb-broker")

@@ -9,3 +9,13 @@ mod StepLemmas
 mod StoreLemmas
 mod HandleLemmas
 mod LateLemmas
+mod FailureLemmas
+mod RefusalLemmas
+mod RequestLemmas
+mod RepeatLemmas
+mod ApartLemmas
+mod OnceLemmas
+mod PatientLemmas
+mod HistoryLemmas
+mod ActsOnceLemmas
+mod Vectors

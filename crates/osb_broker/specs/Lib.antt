@@ -10,3 +10,11 @@ pub mod Prepared
 pub mod Plans
 pub mod Room
 pub mod Laws
+pub mod Refusals
+pub mod Repeats
+pub mod Resend
+pub mod Apart
+pub mod Once
+pub mod Attempts
+pub mod Histories
+pub mod ActsOnce

@@ -20,6 +20,7 @@ ghost use Rattle.osb_audit.specs.Plans.{plans_in_use};
 ghost use Rattle.osb_records.specs.Commit.{Commits, FinishesLast, Lasts};
 ghost use Rattle.osb_records.specs.Kept.{KeepsLives};
 ghost use Rattle.osb_records.specs.Steps.{LeavesOnly, stored};
+ghost use Rattle.osb_laws.specs.Failures.{is_500};
 ghost use Rattle.osb_machine.specs.Machine.{answer_to};
 ghost use Rattle.osb_machine.specs.Steps.{reaction};
 ghost use Rattle.osb_broker.specs.Machine.{Answered, Handled};
@@ -29,6 +30,7 @@ ghost use Rattle.osb_broker.specs.Prepared.{settled, IsSettleable, LastsSettled,
 
 use crate::answer::{fault_answer, reply_to};
 use crate::fault::NewFault;
+use crate::laws::never_fails;
 use crate::plans::find_plans;
 use crate::prepared::{Pending, Prepared, pending_for};
 use crate::rooms::{Room, make_room};
@@ -126,6 +128,13 @@ impl<'s, S: Alter> Broker<'s, S> {
         ensures kept { Works (store_of S.Store self.now) → KeepsLives (store_of S.Store self.now) (lives_of S.Store self.now) }
     {
         self.records.are_whole();
+    }
+
+    /// The settings that it decides by are sound. It does nothing when it runs.
+    pub(crate) fn is_sound(&self)
+        ensures { AreSound (rules_of self.now) }
+    {
+        look_at(self.settings);
     }
 
     /// The facts that an ask needs.
@@ -286,12 +295,13 @@ impl<'s, S: Alter> Broker<'s, S> {
 
     /// Answers a request, by one step of the machine. `last` says that no further request of its
     /// connection is taken. Where memory is refused the reply is the fixed 500 and the lives
-    /// stay. What leads to no door, lacks the login or the version, has no route, or asks for the
-    /// catalog takes no memory.
+    /// stay; no other reply has the status 500. What leads to no door, lacks the login or the version,
+    /// has no route, or asks for the catalog takes no memory.
     pub fn handle<'a>(&mut self, request: &Request<'a>, last: bool) -> Reply<'a>
     where
         's: 'a,
         ensures handled { Works (store_of S.Store self.new) → Handled (machine (rules_of self.old)) (message request.now) last (lives_of S.Store self.old) (parts result) (lives_of S.Store self.new) }
+        ensures stays { Works (store_of S.Store self.new) → is_500 (parts result).status ≡ true → lives_of S.Store self.new ≡ lives_of S.Store self.old }
         ensures closes { closes (message request.now) ≡ true → (parts result).close ≡ true }
         ensures works { Works (store_of S.Store self.new) → Works (store_of S.Store self.old) }
         ensures crash { Survives (store_of S.Store self.old) (store_of S.Store self.new) (Commits (store_of S.Store self.old) (lives_after (rules_of self.old) (lives_of S.Store self.old) (message request.now))) }
@@ -299,6 +309,7 @@ impl<'s, S: Alter> Broker<'s, S> {
         ensures most { most_of self.new ≡ most_of self.old }
         ensures rules { rules_of self.new ≡ rules_of self.old }
     {
+        never_fails();
         match self.replied(request, last) {
             Ok(reply) => reply,
             Err(_) => REFUSED,
@@ -368,6 +379,7 @@ impl<'s, S: Alter> Broker<'s, S> {
     where
         's: 'a,
         ensures handled { Works (store_of S.Store self.new) → Handled (crowded (rules_of self.old)) (message request.now) last (lives_of S.Store self.old) (parts result) (lives_of S.Store self.new) }
+        ensures stays { Works (store_of S.Store self.new) → is_500 (parts result).status ≡ true → lives_of S.Store self.new ≡ lives_of S.Store self.old }
         ensures works { Works (store_of S.Store self.new) → Works (store_of S.Store self.old) }
         ensures crash { Survives (store_of S.Store self.old) (store_of S.Store self.new) (Commits (store_of S.Store self.old) (lives_after (rules_of self.old) (lives_of S.Store self.old) (message request.now))) }
         ensures durable { Works (store_of S.Store self.old) → HasCleanDisk (store_of S.Store self.new) → parts result ≢ refused → LeavesOnly (store_of S.Store self.new) (lives_after (rules_of self.old) (lives_of S.Store self.old) (message request.now)) }
@@ -377,6 +389,7 @@ impl<'s, S: Alter> Broker<'s, S> {
         ensures most { most_of self.new ≡ most_of self.old }
         ensures rules { rules_of self.new ≡ rules_of self.old }
     {
+        never_fails();
         match self.replied_in(request, last, room, spare) {
             Ok(reply) => reply,
             Err(_) => REFUSED,
@@ -396,6 +409,7 @@ impl<'s, S: Alter> Broker<'s, S> {
     where
         's: 'a,
         ensures handled { Works (store_of S.Store self.new) → Handled (crowded (rules_of self.old)) (message request.now) last (lives_of S.Store self.old) (parts result) (lives_of S.Store self.new) }
+        ensures stays { Works (store_of S.Store self.new) → is_500 (parts result).status ≡ true → lives_of S.Store self.new ≡ lives_of S.Store self.old }
         ensures works { Works (store_of S.Store self.new) → Works (store_of S.Store self.old) }
         ensures crash { Survives (store_of S.Store self.old) (store_of S.Store self.new) (Commits (store_of S.Store self.old) (lives_after (rules_of self.old) (lives_of S.Store self.old) (message request.now))) }
         ensures durable { Works (store_of S.Store self.old) → HasCleanDisk (store_of S.Store self.new) → parts result ≢ refused → LeavesOnly (store_of S.Store self.new) (lives_after (rules_of self.old) (lives_of S.Store self.old) (message request.now)) }

@@ -6,7 +6,17 @@ ghost use Rattle.osb_frames.specs.Cuts.{Message, End, Cuts};
 ghost use Rattle.osb_broker.specs.Machine.{Machine};
 ghost use Rattle.osb_orders.specs.Lives.{Lives};
 ghost use Rattle.osb_broker.specs.Connection.{ConnectionText, Run};
+ghost use Rattle.osb_catalog.specs.Rules.{Rules};
+ghost use Rattle.osb_laws.specs.AskedAgain.{AskedAgainStays};
 ghost use Rattle.osb_broker.specs.Laws.{texts_of};
+ghost use Rattle.osb_broker.specs.Steps.{machine, crowded};
+ghost use Rattle.osb_broker.specs.Refusals.{NeverFails, FailuresStay, MarksShow, OutputShowsAll, OutputsShowAll};
+ghost use Rattle.osb_broker.specs.Resend.{RepeatsActOnce, LeadsToOne, RunsKeepLives};
+ghost use Rattle.osb_broker.specs.Apart.{InstancesAreApart};
+ghost use Rattle.osb_broker.specs.ActsOnce.{AttemptsActOnce, ConnectionsLeaveOne, PatientClientsActOnce, RequestsActOnce, RequestsActAtMostOnce, StopsAreAttempts};
+
+use osb_asks::laws::{never_memory, worded};
+use osb_laws::{asked_again, never_500};
 
 /// A connection's texts, and the lives after it, are those that the machine gives to the
 /// requests and the end of its cut, with the same marks. So they are determined by the bytes and
@@ -26,3 +36,67 @@ pub fn runs_go_on()
         Run machine limits k s connections marks outputs t → ConnectionText machine limits k t bytes more texts u →
         Run machine limits k s (connections ++ bytes ∷ []) (marks ++ more ∷ []) (outputs ++ texts ∷ []) u }
 {}
+
+/// The broker answers nothing with the status 500 but a request that met a refusal of memory or of
+/// the store, also where any reply may find no room (`crowded`).
+pub fn never_fails()
+    ensures machine { (rules : Rules) → NeverFails (machine rules) }
+    ensures crowded { (rules : Rules) → NeverFails (crowded rules) }
+{
+    never_500();
+    never_memory();
+}
+
+/// A reply with the status 500 leaves the lives. So what was put out on a connection, or on each of a
+/// list, determines which requests met a refusal, the texts, and the lives after them.
+pub fn refusals_show()
+    ensures stays { (rules : Rules) → FailuresStay (machine rules) }
+    ensures crowded_stays { (rules : Rules) → FailuresStay (crowded rules) }
+    ensures marks { (rules : Rules) → MarksShow (machine rules) }
+    ensures crowded_marks { (rules : Rules) → MarksShow (crowded rules) }
+    ensures output { (rules : Rules) → OutputShowsAll (machine rules) }
+    ensures crowded_output { (rules : Rules) → OutputShowsAll (crowded rules) }
+    ensures outputs { (rules : Rules) → OutputsShowAll (machine rules) }
+    ensures crowded_outputs { (rules : Rules) → OutputsShowAll (crowded rules) }
+{
+    never_fails();
+}
+
+/// Connections of one request each leave the lives that the list without direct repeats leads to
+/// where nothing is refused, whatever was refused. There is one such map of lives, and it is well
+/// formed. `again` is what this rests on: an ask whose step was taken changes nothing when it is asked
+/// again at once.
+pub fn resend()
+    ensures once { RepeatsActOnce }
+    ensures one { LeadsToOne }
+    ensures kept { RunsKeepLives }
+    ensures again { AskedAgainStays }
+{
+    asked_again();
+    worded();
+}
+
+/// The connections that ask something of an instance have the texts, and leave the life, that they
+/// have alone.
+pub fn apart()
+    ensures { InstancesAreApart }
+{
+    worded();
+}
+
+/// Clients make attempts, each of which is answered, fails, or is carried out though its answer is
+/// lost, while the machine stops and starts again. The lives at the end are those of the attempts that
+/// acted, without direct repeats. Where a client makes each request about an instance until it is
+/// answered, the instance's life is the one that these requests leave, each made once; and one request
+/// that is made again and again acts at most once, and once where it was answered. `stops` says what
+/// makes a request around which the machine stopped such an attempt.
+pub fn histories()
+    ensures acted { AttemptsActOnce }
+    ensures one { ConnectionsLeaveOne }
+    ensures patient { PatientClientsActOnce }
+    ensures answered { RequestsActOnce }
+    ensures most { RequestsActAtMostOnce }
+    ensures stops { StopsAreAttempts }
+{
+    worded();
+}

@@ -22,5 +22,7 @@ mod serve;
 pub use broker::Broker;
 pub use buffer::Buffer;
 pub use fault::{NewFault, ServeFault};
-pub use laws::{runs_go_on, texts_are_of_the_cut};
+pub use laws::{
+    apart, histories, never_fails, refusals_show, resend, runs_go_on, texts_are_of_the_cut,
+};
 pub use rooms::Room;

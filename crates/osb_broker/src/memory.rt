@@ -1,7 +1,7 @@
 //! The broker over records in memory, where no disk fails and the store stays open: what it says
 //! holds without a premise.
 
-ghost use Rattle.std.specs.Prelude.{◌≡◌, ◌≤◌, ◌+◌, ◌⊎◌, ℕ, List, length, map, vec_items, IfOk, IfErr, OnOk, OnErr, IfSome};
+ghost use Rattle.std.specs.Prelude.{◌≡◌, ◌≤◌, ◌+◌, ◌⊎◌, ℕ, true, List, length, map, vec_items, IfOk, IfErr, OnOk, OnErr, IfSome};
 ghost use Rattle.sqlite.specs.Held.{state};
 ghost use Rattle.sqlite.specs.Steps.{over_memory};
 ghost use Rattle.osb_frames.specs.declared.limits.Limits.{Limits};
@@ -11,8 +11,10 @@ ghost use Rattle.osb_replies.specs.Text.{reply_text};
 ghost use Rattle.osb_catalog.specs.Rules as catalog;
 ghost use Rattle.osb_audit.specs.Plans.{plans_in_use};
 ghost use Rattle.osb_records.specs.Steps.{stored};
+ghost use Rattle.osb_laws.specs.Failures.{is_500};
 ghost use Rattle.osb_broker.specs.Kept.{lives_of, most_of, rules_of};
 ghost use Rattle.osb_broker.specs.Machine.{Handled};
+ghost use Rattle.osb_broker.specs.Once.{ServedOnce};
 ghost use Rattle.osb_broker.specs.Plans.{first_lacking, NamesLacking, OffersInUse, Tells};
 ghost use Rattle.osb_broker.specs.Room.{limits_of};
 ghost use Rattle.osb_broker.specs.Served.{Served, AreStandard, RunServed};
@@ -57,6 +59,7 @@ pub fn handle<'s: 'a, 'a>(
     last: bool,
 ) -> Reply<'a>
     ensures handled { Handled (machine (rules_of broker.old)) (message request.now) last (lives_of over_memory broker.old) (parts result) (lives_of over_memory broker.new) }
+    ensures stays { is_500 (parts result).status ≡ true → lives_of over_memory broker.new ≡ lives_of over_memory broker.old }
     ensures most { most_of broker.new ≡ most_of broker.old }
     ensures rules { rules_of broker.new ≡ rules_of broker.old }
 {
@@ -71,6 +74,7 @@ pub fn answer<'s: 'a, 'a, W: Room>(
     room: &mut W,
 ) -> Reply<'a>
     ensures handled { Handled (crowded (rules_of broker.old)) (message request.now) last (lives_of over_memory broker.old) (parts result) (lives_of over_memory broker.new) }
+    ensures stays { is_500 (parts result).status ≡ true → lives_of over_memory broker.new ≡ lives_of over_memory broker.old }
     ensures room { (parts result ≡ refused) ⊎ (length (reply_text (parts result)) ≤ W.room room.new) }
     ensures taken { W.taken room.new ≡ W.taken room.old }
     ensures most { most_of broker.new ≡ most_of broker.old }
@@ -105,6 +109,9 @@ pub fn serve_all(
     ensures ok { IfOk result (λ outputs.
         (limits : Limits) × AreStandard limits
         × RunServed (crowded (rules_of broker.old)) limits (most_of broker.old) (lives_of over_memory broker.old) (map vec_items connections.now) (map vec_items outputs.items) (lives_of over_memory broker.new)) }
+    ensures once { most_of broker.old ≡ 1 → IfOk result (λ outputs.
+        (limits : Limits) × AreStandard limits
+        × ServedOnce (rules_of broker.old) limits (lives_of over_memory broker.old) (map vec_items connections.now) (map vec_items outputs.items) (lives_of over_memory broker.new)) }
     ensures err { OnErr result (lives_of over_memory broker.new ≡ lives_of over_memory broker.old) }
     ensures most { most_of broker.new ≡ most_of broker.old }
     ensures rules { rules_of broker.new ≡ rules_of broker.old }

@@ -13,6 +13,7 @@ ghost use Rattle.osb_broker.specs.Room.{IsBlank};
 
 use crate::broker::Broker;
 use crate::refuse::refuse;
+use osb_asks::laws::worded;
 use osb_frames::{Kept, Limits, Request, Step, StopKind, next};
 use osb_replies::write_reply;
 use sqlite::Alter;
@@ -43,6 +44,7 @@ fn refuse_into(output: &mut Kept, kind: StopKind)
 
 impl<S: Alter> Broker<'_, S> {
     ghost use Rattle.osb_broker.specs.Kept.{Works, lives_of, most_of, rules_of, store_of};
+    ghost use Rattle.osb_broker.specs.Once.{ServedOnce};
 
     /// Answers a request into an output that has room for a fixed reply. Whether the connection
     /// closes; where it doesn't, there still is that room.
@@ -134,15 +136,24 @@ impl<S: Alter> Broker<'_, S> {
     /// Each output first gets room for a fixed reply, and only there want of memory is an error,
     /// with nothing changed. Later each reply asks for its room before its change is made; where
     /// that is refused it is the fixed 500, whatever the request is, and the connection ends.
+    ///
+    /// Where a connection has one request, a request that is sent again acts once, whatever is refused,
+    /// and what is asked about one instance doesn't touch another (`once`).
     pub fn serve_all(&mut self, connections: &[Vec<u8>]) -> Result<Vec<Vec<u8>>, AllocError>
         ensures ok { Works (store_of S.Store self.new) → IfOk result (λ outputs.
             (limits : Limits) × AreStandard limits
             × RunServed (crowded (rules_of self.old)) limits (most_of self.old) (lives_of S.Store self.old) (map vec_items connections.now) (map vec_items outputs.items) (lives_of S.Store self.new)) }
+        ensures once { Works (store_of S.Store self.new) → most_of self.old ≡ 1 → IfOk result (λ outputs.
+            (limits : Limits) × AreStandard limits
+            × ServedOnce (rules_of self.old) limits (lives_of S.Store self.old) (map vec_items connections.now) (map vec_items outputs.items) (lives_of S.Store self.new)) }
         ensures err { Works (store_of S.Store self.new) → OnErr result (lives_of S.Store self.new ≡ lives_of S.Store self.old) }
         ensures works { Works (store_of S.Store self.new) → Works (store_of S.Store self.old) }
         ensures most { most_of self.new ≡ most_of self.old }
         ensures rules { rules_of self.new ≡ rules_of self.old }
     {
+        worded();
+        self.is_sound();
+        self.are_whole();
         self.serve_each(&Limits::STANDARD, connections)
     }
 }

@@ -4,3 +4,4 @@ pub mod AgainLemmas
 pub mod WordLemmas
 pub mod MapLemmas
 pub mod ListingLemmas
+mod FailureLemmas

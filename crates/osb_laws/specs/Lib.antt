@@ -1,3 +1,4 @@
 pub mod Exclusive
 pub mod AskedAgain
 pub mod Apart
+pub mod Failures

@@ -3,6 +3,7 @@
 
 ghost use Rattle.osb_laws.specs.Exclusive.{StepsAreAllowed, StepsKeepLives, LivesStep, ChangesKeepLives, NoLivesAreWellFormed, ListsOnce};
 ghost use Rattle.osb_laws.specs.AskedAgain.{AskedAgainStays};
+ghost use Rattle.osb_laws.specs.Failures.{NoAnswerIs500};
 ghost use Rattle.osb_laws.specs.Apart.{AnsweredByOneLife, OthersStay, UnnamedStay};
 
 /// From well-formed lives each step makes a change that may be made, so well-formed lives stay well
@@ -32,4 +33,10 @@ pub fn apart()
     ensures answers { AnsweredByOneLife }
     ensures others { OthersStay }
     ensures unnamed { UnnamedStay }
+{}
+
+/// No ask is answered with the status 500: it says that memory or the store was refused, and the
+/// table refuses nothing so.
+pub fn never_500()
+    ensures { NoAnswerIs500 }
 {}

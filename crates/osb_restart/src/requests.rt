@@ -1,15 +1,18 @@
 //! A request, a stop, and the next run.
 
-ghost use Rattle.std.specs.Prelude.{◌≡◌, ◌≢◌, ◌⊎◌, IfSome};
+ghost use Rattle.std.specs.Prelude.{◌≡◌, ◌≢◌, ◌⊎◌, ℕ, List, IfSome};
 ghost use Rattle.sqlite.specs.Files.{file_state, over_files};
+ghost use Rattle.osb_frames.specs.declared.limits.Limits.{Limits};
+ghost use Rattle.osb_frames.specs.Cuts.{IsFront, whole};
 ghost use Rattle.osb_frames.specs.Steps.{message};
 ghost use Rattle.osb_replies.specs.declared.status.Status.TheVariants.{InternalServerError};
 ghost use Rattle.osb_records.specs.Steps.{stored};
+ghost use Rattle.osb_broker.specs.ActsOnce.{IsAttempt};
 ghost use Rattle.osb_broker.specs.Kept.{Works, lives_of, rules_of, store_of};
 ghost use Rattle.osb_broker.specs.Steps.{lives_after};
 
 use crate::restart::restarted;
-use osb_broker::Broker;
+use osb_broker::{Broker, histories};
 use osb_frames::Request;
 use osb_records::Records;
 use osb_replies::Status;
@@ -19,7 +22,8 @@ use std::alloc::Global;
 
 /// A request, a stop and the next run: the status that the request was answered with, and the records
 /// that the next run takes over. Over a disk that stops at some call, the stop is at any moment of
-/// the request. What was answered with anything but 500 is kept.
+/// the request. What was answered with anything but 500 is kept. So bytes with that request in front
+/// are an attempt of a client, and what holds of histories of attempts ([`histories`]) holds of it.
 pub fn handled_and_restarted<D: Crash + Drop>(
     alloc: Global,
     mut broker: Broker<'_, FileStore<D>>,
@@ -31,7 +35,11 @@ pub fn handled_and_restarted<D: Crash + Drop>(
         → ∥ (stored (file_state run.1) ≡ lives_of over_files broker.entry) ⊎ (stored (file_state run.1) ≡ lives_after (rules_of broker.entry) (lives_of over_files broker.entry) (message request.now)) ∥₁) }
     ensures answered { IfSome result (λ run. run.0 ≢ InternalServerError → Works (store_of over_files broker.entry) → Works (file_state run.1)
         → stored (file_state run.1) ≡ lives_after (rules_of broker.entry) (lives_of over_files broker.entry) (message request.now)) }
+    ensures attempt { IfSome result (λ run. Works (store_of over_files broker.entry) → Works (file_state run.1)
+        → (limits : Limits) (bytes : List ℕ) (n : ℕ) → IsFront limits bytes (whole (message request.now) n)
+        → ∥ IsAttempt (rules_of broker.entry) limits (lives_of over_files broker.entry) bytes run.0 (stored (file_state run.1)) ∥₁) }
 {
+    histories();
     broker.are_whole();
     let status = broker.handle(request, last).status;
     let again = restarted(alloc, broker.into_records(), options)?;

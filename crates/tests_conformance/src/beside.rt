@@ -1,7 +1,7 @@
 //! The records beside the plain lives: after each request of a conversation both give one view for
 //! its ask, and have one life.
 
-use crate::rows::{bindings, instances};
+use crate::rows::{again, bindings, instances};
 use crate::standing::standing_by;
 use osb_asks::{Ask, AskFault, read_ask};
 use osb_catalog::Settings;
@@ -195,7 +195,7 @@ fn views_of_instances(rt: HostRuntime) -> Result<(), Fail> {
     stay_beside(alloc, &instances::UPDATED_TWICE)?;
     stay_beside(alloc, &instances::MADE_AGAIN)?;
     stay_beside(alloc, &instances::FAILED_DELETION)?;
-    stay_beside(alloc, &instances::SENT_AGAIN)?;
+    stay_beside(alloc, &again::SENT_AGAIN)?;
     stay_beside(alloc, &instances::APART)
 }
 

@@ -1,5 +1,6 @@
 //! Worked conversations, each by its name.
 
+pub(crate) mod again;
 pub(crate) mod bindings;
 mod framing;
 pub(crate) mod instances;

@@ -2,7 +2,7 @@
 //! has in the end, read off the orders by hand.
 
 use crate::beside::stay_beside_once;
-use crate::rows::{bindings, instances};
+use crate::rows::{again, bindings, instances};
 use osb_asks::Ask;
 use osb_catalog::Settings;
 use osb_orders::{Attributes, Order, PlainLives, View};
@@ -276,7 +276,7 @@ fn requests_sent_again_act_once(rt: HostRuntime) -> Result<(), Fail> {
     let updating = "Updating p-async {} 1.2.0";
     stands(
         rt.alloc(),
-        &instances::SENT_AGAIN,
+        &again::SENT_AGAIN,
         &[making, making, making, made, made, updating, updating],
         &[
             "create-1 succeeded p-async {} 1.2.0",

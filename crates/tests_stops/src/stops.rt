@@ -3,9 +3,8 @@
 
 use osb_broker::Broker;
 use osb_catalog::Settings;
-use osb_orders::Order;
-use osb_orders::OrderKind::{self, Bind, Create, Delete, Unbind};
-use osb_orders::OrderState::{self, Running, Succeeded};
+use osb_orders::OrderKind::{Bind, Create, Delete, Unbind};
+use osb_orders::OrderState::{Running, Succeeded};
 use osb_records::Records;
 use osb_restart::restarted;
 use sqlite::{Alter, Connection, FileStore, Files, Options};
@@ -15,13 +14,9 @@ use std::test::Fail;
 use tests_support::catalogs::built_in;
 use tests_support::conversations::ASYNC_BINDING;
 use tests_support::exchange::Exchange;
+use tests_support::lives::{Life, Step, is_life};
 use tests_support::serving::{after_all, are_replies, broker_over, outputs_to};
 use tests_support::whole::REFUSED;
-
-/// What an order does, and how far it is.
-type Step = (OrderKind, OrderState);
-
-type Life = &'static [Step];
 
 const CREATED: Step = (Create, Succeeded);
 
@@ -156,18 +151,6 @@ fn served<S: Alter + Drop>(
     let mut broker = broker_over(alloc, settings, records, 1)?;
     let answered = count_answered(alloc, &mut broker)?;
     Ok((answered, broker.into_records()))
-}
-
-fn is_life(orders: &[Order], life: Life) -> bool {
-    if orders.len() != life.len() {
-        return false;
-    }
-    for (order, step) in orders.iter().zip(life) {
-        if (order.kind, order.outcome.state) != *step {
-            return false;
-        }
-    }
-    true
 }
 
 /// Fails where the life of `i` is neither of the first two of these.

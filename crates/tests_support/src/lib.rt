@@ -6,6 +6,7 @@ pub mod asks;
 pub mod catalogs;
 pub mod conversations;
 pub mod exchange;
+pub mod lives;
 pub mod replies;
 pub mod serving;
 pub mod whole;

@@ -115,11 +115,11 @@ fn failed_create(rt: HostRuntime) -> Result<(), Fail> {
     goes(rt.alloc(), &FAILED_CREATE)
 }
 
-const CREATION: Exchange = (PUT_LATER, ASYNC, ACCEPTED, CREATE_1);
+pub(crate) const CREATION: Exchange = (PUT_LATER, ASYNC, ACCEPTED, CREATE_1);
 
-const CREATION_ENDS: Exchange = (REPORT_1, SUCCEEDED, OK, "{}");
+pub(crate) const CREATION_ENDS: Exchange = (REPORT_1, SUCCEEDED, OK, "{}");
 
-const UPDATE: Exchange = (PATCH_LATER, UPDATE_TO_1, ACCEPTED, UPDATE_2);
+pub(crate) const UPDATE: Exchange = (PATCH_LATER, UPDATE_TO_1, ACCEPTED, UPDATE_2);
 
 const OTHER_UPDATE: Exchange = (PATCH_LATER, UPDATE_TO_2, UNPROCESSABLE, BUSY);
 
@@ -402,21 +402,6 @@ fn a_plan_that_cannot_be_changed(rt: HostRuntime) -> Result<(), Fail> {
         "\"id\":\"p-sync\",\"plan_updateable\":false,",
     )?;
     goes_over(rt.alloc(), &settings, &FIXED_PLAN)
-}
-
-pub(crate) const SENT_AGAIN: [Exchange; 7] = [
-    CREATION,
-    CREATION,
-    CREATION,
-    CREATION_ENDS,
-    CREATION_ENDS,
-    UPDATE,
-    UPDATE,
-];
-
-#[test]
-fn requests_sent_again_act_once(rt: HostRuntime) -> Result<(), Fail> {
-    goes(rt.alloc(), &SENT_AGAIN)
 }
 
 // One instance that is busy doesn't make another so.

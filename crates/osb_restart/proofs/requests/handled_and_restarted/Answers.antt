@@ -1,9 +1,13 @@
-use Rattle.std.proofs.Common.{inl, inr, ap, arith}
+use Rattle.std.proofs.Common.{◌∙◌, inl, inr, ap, arith, sym}
+use Rattle.std.proofs.lemmas.Bool.{false≢true}
+use Rattle.std.proofs.Math.Logic.{∥∥₁_map}
 use Rattle.sqlite.specs.State.{HasCleanDisk}
 use Rattle.sqlite.specs.Files.{file_state, over_files}
 use Rattle.sqlite.proofs.StateLemmas.{survives_then}
 use Rattle.osb_replies.specs.Text.{ReplyParts}
-use Rattle.osb_broker.specs.Kept.{store_of}
+use Rattle.osb_frames.specs.Steps.{message}
+use Rattle.osb_laws.specs.Failures.{is_500}
+use Rattle.osb_broker.specs.Kept.{lives_of, rules_of, store_of}
 use Rattle.osb_restart.proofs.FoundLemmas.{finds_either, finds_after}
 use Rattle.osb_restart.proofs.requests.handled_and_restarted.Goals as goal
 
@@ -26,3 +30,9 @@ returns-clause-answered g c answered worked works =
     let only = c.handle-status.ensures.durable worked between (λ refused. answered (ap (λ (reply : ReplyParts). reply.status) refused)) in
     finds_after old new _ _ _ _ (λ _ it. it.holds) (c.are_whole.ensures.kept worked) survives after (c.in_ok-again.ensures.found works.clean works.live)
     (λ db may. elim (c.into_records.ensures.crash.crash after db may) [ inl before ↦ only db before | inr none ↦ absurd none ])
+
+pub returns-clause-attempt : goal.returns-clause-attempt
+returns-clause-attempt g c worked works limits bytes n front =
+    ∥∥₁_map (returns-clause-either g c worked works)
+    (λ either. c.histories.ensures.stops (rules_of c.args.broker) limits (lives_of over_files c.args.broker) bytes (message c.args.request.now) n _ _ front either
+    (λ other. returns-clause-answered g c (λ is. absurd (false≢true (sym other ∙ ap is_500 is))) worked works))
