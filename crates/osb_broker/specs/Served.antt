@@ -2,6 +2,7 @@
 use Rattle.std.specs.Prelude.{◌≡◌, ℕ, ◌≤◌, Bool, List, ◌++◌, length, map, take}
 use Rattle.std.specs.List.{concat}
 use Rattle.osb_frames.specs.declared.limits.Limits.{Limits}
+use Rattle.osb_frames.specs.declared.limits.TheConstants.{MOST_HEAD, MOST_FIELDS, MOST_BODY}
 use Rattle.osb_broker.specs.Machine.{Machine}
 use Rattle.osb_broker.specs.Connection.{ConnectionText, Run, After, FirstText}
 
@@ -31,9 +32,9 @@ pub record BrokenOff {S : Type 0} (machine : Machine S) (limits : Limits) (k : �
   pub inside : count ≤ length text
   pub written : new ≡ old ++ (concat texts ++ take count text)
 
--- a head of 8,192 bytes with 64 field lines, and a body of 65,536 bytes
+-- the limits of osb_frames: a head of 8,192 bytes with 128 field lines, and a body of 262,144 bytes
 abbrev pub AreStandard : Limits → Type 0
-AreStandard limits = (limits.head ≡ 8192) × (limits.fields ≡ 64) × (limits.body ≡ 65536)
+AreStandard limits = (limits.head ≡ MOST_HEAD) × (limits.fields ≡ MOST_FIELDS) × (limits.body ≡ MOST_BODY)
 
 -- the outputs of connections are the texts of a run, for some marks
 pub record RunServed {S : Type 0} (machine : Machine S) (limits : Limits) (k : ℕ) (s : S) (connections outputs : List (List ℕ)) (t : S) : Type 0 where

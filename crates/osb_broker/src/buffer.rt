@@ -17,7 +17,7 @@ pub struct Buffer {
 impl Buffer {
     ghost use Rattle.osb_broker.specs.Room.{limits_of};
 
-    /// Room for a head and a body of these limits: 73,728 bytes at [`Limits::STANDARD`].
+    /// Room for a head and a body of these limits: 270,336 bytes at [`Limits::STANDARD`].
     pub fn new(alloc: Global, limits: &Limits) -> Result<Buffer, AllocError>
         ensures { IfOk result (λ buffer. limits_of buffer ≡ limits.now) }
     {

@@ -32,9 +32,9 @@ const NO_FIELD: Field<'static> = Field {
 
 /// The field lines that the spans cover, in the front of an array.
 fn fields_at<'a>(buf: &'a [u8], spans: &[HeaderSpan]) -> [Field<'a>; MOST_FIELDS]
-    requires room { length spans.now ≤ 64 }
+    requires room { length spans.now ≤ MOST_FIELDS }
     requires within { All (IsHeaderWithin (length buf.now)) spans.now }
-    ensures all { length result ≡ 64 }
+    ensures all { length result ≡ MOST_FIELDS }
     ensures filled { map line (take (length spans.now) result) ≡ map (header_bytes buf.now) spans.now }
 {
     let mut fields = [NO_FIELD; MOST_FIELDS];

@@ -23,7 +23,7 @@ pub use counted::Counted;
 pub use field::Field;
 pub use kept::Kept;
 pub use laws::{one_cut, one_front, one_head};
-pub use limits::{Limits, MOST_FIELDS};
+pub use limits::{Limits, MOST_BODY, MOST_FIELDS, MOST_HEAD};
 pub use request::Request;
 pub use send::send_all;
 pub use sink::Sink;

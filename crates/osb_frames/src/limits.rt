@@ -1,9 +1,16 @@
 //! How large a request may be.
 
 ghost use Rattle.std.specs.Prelude.{◌<◌, ◌≤◌};
+ghost use Rattle.osb_frames.specs.declared.limits.TheConstants.{MOST_HEAD, MOST_FIELDS, MOST_BODY};
 
-/// The most field lines that a [`crate::Request`] has room for.
-pub const MOST_FIELDS: usize = 64;
+/// The most bytes of a head.
+pub const MOST_HEAD: usize = 8192;
+
+/// The most field lines of a head, for which a [`crate::Request`] has room.
+pub const MOST_FIELDS: usize = 128;
+
+/// The most bytes of a body.
+pub const MOST_BODY: usize = 262_144;
 
 /// How large a request may be. No limit exceeds that of [`Limits::STANDARD`], and a head may have
 /// a byte at least.
@@ -17,16 +24,16 @@ pub struct Limits {
     /// The bytes of a body.
     pub body: usize,
     pub ghost has_head: { 0 < head },
-    pub ghost head_is_standard: { head ≤ 8192 },
-    pub ghost fields_are_standard: { fields ≤ 64 },
-    pub ghost body_is_standard: { body ≤ 65536 },
+    pub ghost head_is_standard: { head ≤ MOST_HEAD },
+    pub ghost fields_are_standard: { fields ≤ MOST_FIELDS },
+    pub ghost body_is_standard: { body ≤ MOST_BODY },
 }
 
 impl Limits {
-    /// A head of 8,192 bytes with 64 field lines, and a body of 65,536 bytes.
+    /// A head of 8,192 bytes with 128 field lines, and a body of 262,144 bytes.
     pub const STANDARD: Limits = Limits {
-        head: 8192,
+        head: MOST_HEAD,
         fields: MOST_FIELDS,
-        body: 65536,
+        body: MOST_BODY,
     };
 }

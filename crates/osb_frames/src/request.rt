@@ -2,6 +2,7 @@
 
 ghost use Rattle.std.specs.Prelude.{◌≡◌, ◌≤◌, length, map, option_copied};
 ghost use Rattle.osb_frames.specs.Fields.{values_of, first_value};
+ghost use Rattle.osb_frames.specs.declared.limits.TheConstants.{MOST_FIELDS};
 
 use crate::field::{Field, lists_item, same_ignoring_case};
 use crate::limits::MOST_FIELDS;
@@ -19,8 +20,8 @@ pub struct Request<'a> {
     pub body: &'a [u8],
     pub(crate) fields: [Field<'a>; MOST_FIELDS],
     pub(crate) count: usize,
-    ghost has_all: { length fields ≡ 64 },
-    ghost in_range: { count ≤ 64 },
+    ghost has_all: { length fields ≡ MOST_FIELDS },
+    ghost in_range: { count ≤ MOST_FIELDS },
 }
 
 impl<'a> Request<'a> {
