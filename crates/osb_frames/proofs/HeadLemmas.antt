@@ -1,7 +1,7 @@
 -- What the parser says of a window at the front of a buffer, as facts on heads within the limits.
-use Rattle.std.proofs.Common.{◌≡◌, ℕ, ◌≤◌, List, [], ◌++◌, length, take, drop, sym, ap, subst, ◌∙◌, arith, append_assoc}
+use Rattle.std.proofs.Common.{◌≡◌, ℕ, ◌≤◌, List, ◌++◌, length, take, drop, sym, ap, subst, ◌∙◌, arith, append_assoc}
 use Rattle.std.proofs.Math.Seq.{drop-append_seam, take-append_seam}
-use Rattle.std.proofs.lemmas.List.{take-append-drop, take-append-le, length-take, length-map, append-nil, take_all}
+use Rattle.std.proofs.lemmas.List.{take-append-drop, take-append-le, length-take, length-map, take_all}
 use Rattle.httparse.specs.declared.spans.HeaderSpan.{HeaderSpan}
 use Rattle.httparse.specs.Grammar.{RequestHead, print_request, ReadsRequest, HasNoRequest}
 use Rattle.httparse.specs.Spans.{AreFieldsAt, RequestOverflows, RequestExceeds}
@@ -42,9 +42,6 @@ module _ (limits : Limits) (buf : List ℕ) (m : ℕ) where
       let front = sym (take-append-le n (take m buf) more short) ∙ ap (take n) x.reads.1 ∙ take-append_seam (print_request h) rest in
       none h _ (x.reads.0, sym (take-append-drop n (take m buf)) ∙ ap (λ l. l ++ drop n (take m buf)) front))
 
-  -- too many field lines so far, in a window that is the whole buffer
-  pub waits_from_room : (room : ℕ) → room ≡ limits.fields → length buf ≤ m → RequestOverflows room (take m buf) → RequestExceeds room (take m buf) → HasNoHead limits buf × RequestExceeds limits.fields buf
-  waits_from_room room all inside over exceeds = (
-    subst (HasNoHead limits) (append-nil buf) (never_from_room room all over []),
-    rw (all, take_all m buf inside) at exceeds,
-  )
+  -- too many field lines, in a window that is the whole buffer
+  pub exceeds_whole : (room : ℕ) → room ≡ limits.fields → length buf ≤ m → RequestExceeds room (take m buf) → RequestExceeds limits.fields buf
+  exceeds_whole room all inside exceeds = rw (all, take_all m buf inside) at exceeds

@@ -1,11 +1,12 @@
 -- What the head at the front of a buffer is.
 use Rattle.std.specs.Prelude.{◌≡◌, ℕ, ◌<◌, ◌≤◌, List, ◌++◌, length, drop}
-use Rattle.httparse.specs.Grammar.{RequestHead, print_request}
+use Rattle.httparse.specs.Grammar.{RequestHead, print_request, MayBecomeRequest}
+use Rattle.httparse.specs.Spans.{RequestExceeds}
 use Rattle.osb_frames.specs.declared.limits.Limits.{Limits}
 use Rattle.osb_frames.specs.declared.request.Request.{Request}
 use Rattle.osb_frames.specs.declared.head.FoundOf.{FoundOf}
 use Rattle.osb_frames.specs.declared.head.FoundOf.TheVariants as found
-use Rattle.osb_frames.specs.Heads.{HeadAt, HasNoHead, MayBecomeHead, lines_of}
+use Rattle.osb_frames.specs.Heads.{HeadAt, HasNoHead, lines_of}
 use Rattle.osb_frames.specs.Steps.{message}
 
 -- q has the parts of the head h, which has n bytes, at the front of bytes
@@ -20,5 +21,6 @@ pub record HoldsHead (limits : Limits) (bytes : List ℕ) (q : Request) (n : ℕ
 
 abbrev pub IsFound : Limits → List ℕ → FoundOf Request → Type 0
 IsFound limits bytes (found.Head q n) = (h : RequestHead) × HoldsHead limits bytes q n h
-IsFound limits bytes found.Unfinished = HasNoHead limits bytes × (length bytes < limits.head) × MayBecomeHead limits bytes
+IsFound limits bytes found.Unfinished = HasNoHead limits bytes × (length bytes < limits.head) × MayBecomeRequest bytes
+IsFound limits bytes found.Crowded = ((more : List ℕ) → HasNoHead limits (bytes ++ more)) × (length bytes < limits.head) × RequestExceeds limits.fields bytes
 IsFound limits bytes found.Never = (more : List ℕ) → HasNoHead limits (bytes ++ more)

@@ -1,5 +1,5 @@
 -- The head of a request (RFC 9112, 2.1): the request line, the field lines and the empty line.
-use Rattle.std.specs.Prelude.{ℕ, ◌≤◌, ◌⊎◌, List, [], map, length}
+use Rattle.std.specs.Prelude.{◌≡◌, ℕ, ◌≤◌, ◌⊎◌, List, [], map, length}
 use Rattle.httparse.specs.Grammar.{RequestHead, print_request, ReadsRequest, MayBecomeRequest}
 use Rattle.httparse.specs.Spans.{name_and_value, RequestExceeds}
 use Rattle.osb_frames.specs.declared.limits.Limits.{Limits}
@@ -22,6 +22,10 @@ HasNoHead limits bytes = (h : RequestHead) (rest : List ℕ) → ¬ (HeadAt limi
 -- the bytes may begin a head yet, but for its number of field lines
 abbrev pub MayBecomeHead : Limits → List ℕ → Type 0
 MayBecomeHead limits bytes = MayBecomeRequest bytes ⊎ RequestExceeds limits.fields bytes
+
+-- a head stands at the front of the bytes, or they may begin one yet
+abbrev pub IsHopeful : Limits → List ℕ → Type 0
+IsHopeful limits bytes = ((h : RequestHead) × (rest : List ℕ) × HeadAt limits bytes h rest) ⊎ ((bytes ≡ []) ⊎ MayBecomeRequest bytes)
 
 -- the names and the values of the field lines of a head
 abbrev pub lines_of : RequestHead → List Line

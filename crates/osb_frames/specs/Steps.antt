@@ -6,7 +6,7 @@ use Rattle.osb_frames.specs.declared.step.Step.{Step}
 use Rattle.osb_frames.specs.declared.step.Step.TheVariants.{Whole, Stop, Ended, More}
 use Rattle.osb_frames.specs.declared.step.StopKind.{StopKind}
 use Rattle.osb_frames.specs.declared.step.StopKind.TheVariants.{NoHead, Cut}
-use Rattle.osb_frames.specs.Line.{line}
+use Rattle.osb_frames.specs.Line.{line_in}
 use Rattle.osb_frames.specs.Heads.{HasNoHead, MayBecomeHead}
 use Rattle.osb_frames.specs.Cuts.{Message, Front, nothing, fault, whole, IsFront}
 
@@ -16,7 +16,7 @@ message q = record {
   method = q.method.now;
   target = q.target.now;
   minor = q.minor;
-  lines = map line (take q.count q.fields);
+  lines = map (line_in q.head.now) (take q.count q.lines);
   body = q.body.now;
 }
 

@@ -42,6 +42,8 @@ impl<T> Counted<T> {
 impl<T: Read> Source for Counted<T> {
     ghost use Rattle.osb_frames.specs.Counted.{calls_of, inner_of};
 
+    ghost calls = { λ s. calls_of s };
+
     ghost given = { λ s. all_bytes (calls_of s) };
 
     ghost reads = { λ s. length (calls_of s) };
@@ -78,6 +80,9 @@ impl<T: Write> Sink for Counted<T> {
     ghost contents = { λ s. T.contents (inner_of s) };
 
     fn write(&mut self, bytes: &[u8]) -> io::Result<usize> {
+        if bytes.is_empty() {
+            return Ok(0);
+        }
         match self.inner.write(bytes) {
             Ok(n) => {
                 self.calls = self.calls.then(&Some(&bytes[..n]));

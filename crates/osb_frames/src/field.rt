@@ -8,16 +8,6 @@ ghost use Rattle.osb_frames.specs.Fields.{same_ignoring_case, lists_item, is_num
 
 use httparse::is_space_or_tab;
 
-/// A field line of a head (RFC 9112, 5): its name, and its value without the spaces and tabs
-/// around it.
-#[derive(Clone, Copy, Debug)]
-pub struct Field<'a> {
-    /// The name, in the case that it came in.
-    pub name: &'a [u8],
-    /// The value.
-    pub value: &'a [u8],
-}
-
 /// Whether the two are the same but for the case of ASCII letters.
 pub(crate) fn same_ignoring_case(a: &[u8], b: &[u8]) -> bool
     ensures { result ≡ same_ignoring_case a.now b.now }

@@ -2,10 +2,11 @@
 
 ghost use Rattle.std.specs.Prelude.{◌≡◌, ◌≤◌, length, take, map, All};
 ghost use Rattle.httparse.specs.Spans.{IsHeaderWithin, header_bytes};
-ghost use Rattle.osb_frames.specs.Line.{line};
+ghost use Rattle.osb_frames.specs.Line.{line_in};
+ghost use Rattle.osb_frames.specs.declared.limits.TheConstants.{MOST_HEAD};
 
-use crate::field::Field;
 use crate::limits::{Limits, MOST_FIELDS};
+use crate::line_span::{LineSpan, NO_LINE};
 use crate::request::Request;
 use httparse::spans::{EMPTY_HEADER_SPAN, HeaderSpan, parse_request};
 use httparse::{Error, Status};
@@ -16,6 +17,9 @@ pub(crate) enum FoundOf<R> {
     Head(R, usize),
     /// No head yet.
     Unfinished,
+    /// No head, whatever follows, since there are too many field lines. The limit of a head isn't
+    /// reached.
+    Crowded,
     /// No head, whatever follows.
     Never,
 }
@@ -25,26 +29,24 @@ pub(crate) type Found<'a> = FoundOf<Request<'a>>;
 
 ghost use Rattle.osb_frames.specs.Found.{IsFound};
 
-const NO_FIELD: Field<'static> = Field {
-    name: b"",
-    value: b"",
-};
-
-/// The field lines that the spans cover, in the front of an array.
-fn fields_at<'a>(buf: &'a [u8], spans: &[HeaderSpan]) -> [Field<'a>; MOST_FIELDS]
+/// Where the spans of a head's field lines stand, in the front of an array.
+fn lines_at(buf: &[u8], spans: &[HeaderSpan]) -> [LineSpan; MOST_FIELDS]
+    requires short { length buf.now ≤ MOST_HEAD }
     requires room { length spans.now ≤ MOST_FIELDS }
     requires within { All (IsHeaderWithin (length buf.now)) spans.now }
     ensures all { length result ≡ MOST_FIELDS }
-    ensures filled { map line (take (length spans.now) result) ≡ map (header_bytes buf.now) spans.now }
+    ensures filled { map (line_in buf.now) (take (length spans.now) result) ≡ map (header_bytes buf.now) spans.now }
 {
-    let mut fields = [NO_FIELD; MOST_FIELDS];
+    let mut lines = [NO_LINE; MOST_FIELDS];
     for (i, span) in spans.iter().enumerate() {
-        fields[i] = Field {
-            name: span.name.of(buf),
-            value: span.value.of(buf),
+        lines[i] = LineSpan {
+            name_start: span.name.start as u16,
+            name_end: span.name.end as u16,
+            value_start: span.value.start as u16,
+            value_end: span.value.end as u16,
         };
     }
-    fields
+    lines
 }
 
 /// Reads the head at the front of a buffer. No more than the limit of a head is looked at.
@@ -60,7 +62,8 @@ pub(crate) fn head_at<'a>(buf: &'a [u8], limits: &Limits) -> Found<'a>
                 target: head.path.of(window),
                 minor: head.version,
                 body: b"",
-                fields: fields_at(window, &spans[..head.headers]),
+                head: window,
+                lines: lines_at(window, &spans[..head.headers]),
                 count: head.headers,
             },
             head.len,
@@ -72,7 +75,7 @@ pub(crate) fn head_at<'a>(buf: &'a [u8], limits: &Limits) -> Found<'a>
                 Found::Never
             }
         }
-        Err(Error::TooManyHeaders) if buf.len() < limits.head => Found::Unfinished,
+        Err(Error::TooManyHeaders) if buf.len() < limits.head => Found::Crowded,
         Err(_) => Found::Never,
     }
 }

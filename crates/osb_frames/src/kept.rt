@@ -64,6 +64,9 @@ impl Sink for Kept {
     ghost room = { λ s. room_of s };
 
     fn write(&mut self, bytes: &[u8]) -> io::Result<usize> {
+        if bytes.is_empty() {
+            return Ok(0);
+        }
         match self.bytes.extend_from_slice(bytes) {
             Ok(()) => {
                 self.calls = self.calls.then(&Some(bytes));

@@ -4,8 +4,9 @@ ghost use Rattle.std.specs.Prelude.{◌≡◌, ◌≤◌, length, map, option_co
 ghost use Rattle.osb_frames.specs.Fields.{values_of, first_value};
 ghost use Rattle.osb_frames.specs.declared.limits.TheConstants.{MOST_FIELDS};
 
-use crate::field::{Field, lists_item, same_ignoring_case};
+use crate::field::{lists_item, same_ignoring_case};
 use crate::limits::MOST_FIELDS;
+use crate::line_span::{LineSpan, part};
 
 /// A request (RFC 9112, 2.1), as slices of the buffer that it was read from.
 #[derive(Clone, Copy, Debug)]
@@ -18,22 +19,37 @@ pub struct Request<'a> {
     pub minor: u8,
     /// The content, as many bytes as Content-Length says.
     pub body: &'a [u8],
-    pub(crate) fields: [Field<'a>; MOST_FIELDS],
+    /// Bytes that begin with the head.
+    pub(crate) head: &'a [u8],
+    /// Where the field lines stand in them.
+    pub(crate) lines: [LineSpan; MOST_FIELDS],
     pub(crate) count: usize,
-    ghost has_all: { length fields ≡ MOST_FIELDS },
+    ghost has_all: { length lines ≡ MOST_FIELDS },
     ghost in_range: { count ≤ MOST_FIELDS },
 }
 
 impl<'a> Request<'a> {
     ghost use Rattle.osb_frames.specs.Steps.{message};
-    ghost use Rattle.osb_frames.specs.Line.{line};
+    ghost use Rattle.osb_frames.specs.Line.{line_in};
     ghost use Rattle.osb_frames.specs.Cuts.{closes};
 
-    /// The field lines, in the order that they came in.
-    pub fn fields(&self) -> &[Field<'a>]
-        ensures { map line result.now ≡ (message self.now).lines }
+    /// Where the field lines stand, in the order that they came in.
+    fn spans(&self) -> &[LineSpan]
+        ensures { map (line_in self.now.head.now) result.now ≡ (message self.now).lines }
     {
-        &self.fields[..self.count]
+        &self.lines[..self.count]
+    }
+
+    fn name(&self, span: &LineSpan) -> &'a [u8]
+        ensures { result.now ≡ (line_in self.now.head.now span.now).0 }
+    {
+        part(self.head, span.name_start, span.name_end)
+    }
+
+    fn value(&self, span: &LineSpan) -> &'a [u8]
+        ensures { result.now ≡ (line_in self.now.head.now span.now).1 }
+    {
+        part(self.head, span.value_start, span.value_end)
     }
 
     /// The value of the first field line with that name, in any case (RFC 9110, 5.1), without the
@@ -41,9 +57,9 @@ impl<'a> Request<'a> {
     pub fn field(&self, name: &[u8]) -> Option<&'a [u8]>
         ensures { option_copied result ≡ first_value (values_of name.now (message self.now).lines) }
     {
-        for field in self.fields() {
-            if same_ignoring_case(field.name, name) {
-                return Some(field.value);
+        for span in self.spans() {
+            if same_ignoring_case(self.name(span), name) {
+                return Some(self.value(span));
             }
         }
         None
@@ -54,8 +70,8 @@ impl<'a> Request<'a> {
         ensures { result ≡ length (values_of name.now (message self.now).lines) }
     {
         let mut count = 0;
-        for field in self.fields() {
-            if same_ignoring_case(field.name, name) {
+        for span in self.spans() {
+            if same_ignoring_case(self.name(span), name) {
                 count += 1;
             }
         }
@@ -70,8 +86,10 @@ impl<'a> Request<'a> {
         if self.minor == 0 {
             return true;
         }
-        for field in self.fields() {
-            if same_ignoring_case(field.name, b"connection") && lists_item(b"close", field.value) {
+        for span in self.spans() {
+            if same_ignoring_case(self.name(span), b"connection")
+                && lists_item(b"close", self.value(span))
+            {
                 return true;
             }
         }

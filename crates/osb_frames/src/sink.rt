@@ -16,7 +16,7 @@ pub trait Sink {
     /// How many of the writes failed.
     ghost failures: { Self → ℕ };
 
-    /// How many of the writes failed or took nothing.
+    /// How many of the writes failed or took nothing. None of them was of no bytes.
     ghost fruitless: { Self → ℕ };
 
     /// All bytes that it holds, where they are known.
@@ -27,18 +27,18 @@ pub trait Sink {
     ghost room: { Self → ℕ } = { λ _. 0 };
 
     /// Writes once, as `std::io::Write::write`: the number of bytes, from the first on, that were
-    /// taken. A write of no bytes takes nothing.
+    /// taken. A write of no bytes takes nothing and isn't counted.
     fn write(&mut self, bytes: &[u8]) -> io::Result<usize>
         ensures bound { IfOk result (λ n. n ≤ length bytes.now) }
         ensures bytes { MatchResult result
             (λ n. taken self.new ≡ taken self.old ++ take n bytes.now)
             (λ _. taken self.new ≡ taken self.old) }
-        ensures counted { writes self.new ≡ writes self.old + 1 }
+        ensures counted { writes self.new ≡ writes self.old + (if length bytes.now == 0 then 0 else 1) }
         ensures failed { MatchResult result
             (λ _. failures self.new ≡ failures self.old)
             (λ _. failures self.new ≡ failures self.old + 1) }
         ensures took { MatchResult result
-            (λ n. fruitless self.new ≡ (if n == 0 then fruitless self.old + 1 else fruitless self.old))
+            (λ n. fruitless self.new ≡ (if length bytes.now == 0 then fruitless self.old else (if n == 0 then fruitless self.old + 1 else fruitless self.old)))
             (λ _. fruitless self.new ≡ fruitless self.old + 1) }
         ensures roomy { 0 < length bytes.now → length bytes.now ≤ room self.old →
             result ≡ Ok (length bytes.now) }

@@ -1,12 +1,17 @@
 //! A reader of bytes, one read per call.
 
-ghost use Rattle.std.specs.Prelude.{◌≡◌, ◌≤◌, ◌+◌, ◌++◌, ℕ, List, Option, length, take, IfOk, MatchResult};
+ghost use Rattle.std.specs.Prelude.{◌≡◌, ◌≤◌, ◌+◌, ◌++◌, ℕ, List, [], ◌∷◌, Option, Some, None, length, take, IfOk, MatchResult};
 ghost use Rattle.std.specs.Io.KnownBytes.{ReadConsumes};
+ghost use Rattle.osb_frames.specs.Calls.{Call};
 
 use std::io;
 
 /// A reader of bytes whose calls contracts can count. The counts stand in contracts alone.
 pub trait Source {
+    /// The reads that were made of it, the oldest first: the bytes that each gave, or `None` where
+    /// it failed.
+    ghost calls: { Self → List Call };
+
     /// The bytes that it has given.
     ghost given: { Self → List ℕ };
 
@@ -26,6 +31,9 @@ pub trait Source {
         ensures bytes { MatchResult result
             (λ n. given self.new ≡ given self.old ++ take n buf.new)
             (λ _. given self.new ≡ given self.old) }
+        ensures called { MatchResult result
+            (λ n. calls self.new ≡ calls self.old ++ Some (take n buf.new) ∷ [])
+            (λ _. calls self.new ≡ calls self.old ++ None ∷ []) }
         ensures counted { reads self.new ≡ reads self.old + 1 }
         ensures failed { MatchResult result
             (λ _. failures self.new ≡ failures self.old)

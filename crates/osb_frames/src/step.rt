@@ -1,6 +1,6 @@
 //! The next request of a connection.
 
-ghost use Rattle.std.specs.Prelude.{◌≡◌, ℕ, ◌+◌, ◌<◌, ◌≤◌, length, IsTrue, MatchResult};
+ghost use Rattle.std.specs.Prelude.{◌≡◌, ℕ, ◌+◌, ◌<◌, ◌≤◌, length, IsTrue, IsFalse, MatchResult};
 
 use crate::field::number_in;
 use crate::head::{Found, head_at};
@@ -38,6 +38,7 @@ pub enum Step<R> {
 }
 
 ghost use Rattle.osb_frames.specs.Steps.{message, Says, Stays, IfWhole, IfMore, IsWhole, IsFinal, Shows};
+ghost use Rattle.osb_frames.specs.Heads.{IsHopeful};
 ghost use Rattle.osb_frames.specs.Cuts.{fault_of, body_length, Message, Front, fault, whole, IsFront};
 
 /// The length of the body, or the fault of the head.
@@ -72,15 +73,19 @@ fn body_length(request: &Request<'_>, limits: &Limits) -> Result<usize, StopKind
     Ok(length)
 }
 
-fn step_at<'a>(buf: &'a [u8], ended: bool, limits: &Limits) -> Step<Request<'a>>
-    ensures { Says limits.now buf.now ended result }
+/// The step at the front of a buffer. Where it is `patient`, more is asked for of a head that has too
+/// many field lines.
+fn step_at<'a>(buf: &'a [u8], ended: bool, limits: &Limits, patient: bool) -> Step<Request<'a>>
+    ensures says { Says limits.now buf.now ended result }
+    ensures hope { IsFalse patient → IfMore result (IsHopeful limits.now buf.now) }
 {
     if buf.is_empty() {
         return if ended { Step::Ended } else { Step::More };
     }
     match head_at(buf, limits) {
         Found::Unfinished if !ended => Step::More,
-        Found::Unfinished | Found::Never => Step::Stop(StopKind::NoHead),
+        Found::Crowded if patient && !ended => Step::More,
+        Found::Unfinished | Found::Crowded | Found::Never => Step::Stop(StopKind::NoHead),
         Found::Head(mut request, used) => {
             let rest = &buf[used..];
             match body_length(&request, limits) {
@@ -118,5 +123,21 @@ pub fn next<'a>(buf: &'a [u8], ended: bool, limits: &Limits) -> Step<Request<'a>
     ensures stands { IsTrue ended → (front : Front) × IsFront limits.now buf.now front × Shows front result }
     ensures shows { IsTrue ended → (front : Front) → IsFront limits.now buf.now front → Shows front result }
 {
-    step_at(buf, ended, limits)
+    step_at(buf, ended, limits, true)
+}
+
+/// As [`next`], but no more is asked for of a head that has too many field lines: it is told to be no
+/// head as soon as the line too many has come.
+pub fn next_at_once<'a>(buf: &'a [u8], ended: bool, limits: &Limits) -> Step<Request<'a>>
+    ensures says { Says limits.now buf.now ended result }
+    ensures size { IfWhole result (λ request used. (0 < used) × (used ≤ length buf.now)) }
+    ensures room { IfMore result (length buf.now < limits.now.head + limits.now.body) }
+    ensures stays { Stays limits.now buf.now ended result }
+    ensures finds { (q : Message) (n : ℕ) → IsFront limits.now buf.now (whole q n) → IsWhole q n result }
+    ensures stops { (f : StopKind) → IsFinal f → IsFront limits.now buf.now (fault f) → result ≡ Step.Stop f }
+
+    // More bytes are asked for only where they can make a request.
+    ensures hope { IfMore result (IsHopeful limits.now buf.now) }
+{
+    step_at(buf, ended, limits, false)
 }

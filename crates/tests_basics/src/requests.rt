@@ -1,7 +1,7 @@
 //! Heads, bodies and faults at their limits. Each input is looked at whole, byte by byte and in
 //! pieces of 7 bytes, and has to be answered alike.
 
-use osb_frames::{Kept, Limits, Request, Sink, Step, StopKind, next};
+use osb_frames::{Kept, Limits, Request, Sink, Step, StopKind, next, next_at_once};
 use std::alloc::{AllocError, Global};
 use std::test::Fail;
 
@@ -68,9 +68,7 @@ fn a_request_has_its_parts(rt: HostRuntime) {
     assert_eq!(rt; request.target, b"/a?b".as_slice());
     assert_eq!(rt; request.minor, 1);
     assert_eq!(rt; request.body, b"abc".as_slice());
-    let fields = request.fields();
-    assert_eq!(rt; fields.len(), 3);
-    assert_eq!(rt; fields[1].name, b"content-LENGTH".as_slice());
+    assert_eq!(rt; request.field(b"HOST"), Some(b"x".as_slice()));
     assert_eq!(rt; request.field(b"Content-Length"), Some(b"3".as_slice()));
     assert_eq!(rt; request.field(b"HOST-NOT"), Some(b"".as_slice()));
     assert_eq!(rt; request.field(b"cookie"), None);
@@ -143,9 +141,9 @@ fn empty_lines_before_a_head_count(rt: HostRuntime) -> Result<(), Fail> {
 fn field_lines_at_their_limit(rt: HostRuntime) -> Result<(), Fail> {
     let alloc = rt.alloc();
     let front = "GET / HTTP/1.1\r\nHost: b\r\n";
-    let fits = repeated(alloc, front, "X: a\r\n", 63, "\r\n")?;
+    let fits = repeated(alloc, front, "X: a\r\n", 127, "\r\n")?;
     assert!(rt; reads(fits.as_bytes(), fits.len()));
-    let many = repeated(alloc, front, "X: a\r\n", 64, "\r\n")?;
+    let many = repeated(alloc, front, "X: a\r\n", 128, "\r\n")?;
     assert!(rt; stops_with(many.as_bytes(), StopKind::NoHead));
     // Too many lines are told at the limit of a head or at the end, and not before.
     assert!(rt; matches!(next(many.as_bytes(), false, &Limits::STANDARD), Step::More));
@@ -156,6 +154,30 @@ fn field_lines_at_their_limit(rt: HostRuntime) -> Result<(), Fail> {
             Step::Stop(StopKind::NoHead)
         )
     );
+    Ok(())
+}
+
+/// Whether more is asked for of these bytes, by one that waits for a whole head and by one that doesn't.
+fn waits(bytes: &[u8]) -> (bool, bool) {
+    let limits = &Limits::STANDARD;
+    (
+        matches!(next(bytes, false, limits), Step::More),
+        matches!(next_at_once(bytes, false, limits), Step::More),
+    )
+}
+
+/// One line too many ends the hope of a head, as soon as it is there.
+#[test]
+fn too_many_lines_at_once(rt: HostRuntime) -> Result<(), Fail> {
+    let alloc = rt.alloc();
+    let front = "GET / HTTP/1.1\r\nHost: b\r\n";
+    let most = repeated(alloc, front, "X: a\r\n", 127, "")?;
+    assert_eq!(rt; waits(most.as_bytes()), (true, true));
+    let more = repeated(alloc, front, "X: a\r\n", 128, "")?;
+    assert_eq!(rt; waits(more.as_bytes()), (true, false));
+    assert_eq!(rt; waits(b""), (true, true));
+    assert_eq!(rt; waits(b"GET / HT"), (true, true));
+    assert_eq!(rt; waits(b"\x01"), (false, false));
     Ok(())
 }
 
@@ -190,9 +212,9 @@ fn codings(rt: HostRuntime) {
     let host_first = b"PUT / HTTP/1.1\r\nTransfer-Encoding: chunked\r\n\r\n";
     assert!(rt; stops_with(host_first, StopKind::Host));
     let large =
-        b"PUT / HTTP/1.1\r\nHost: b\r\nTransfer-Encoding: chunked\r\nContent-Length: 65537\r\n\r\n";
+        b"PUT / HTTP/1.1\r\nHost: b\r\nTransfer-Encoding: chunked\r\nContent-Length: 262145\r\n\r\n";
     assert!(rt; stops_with(large, StopKind::Coding));
-    let host_first = b"PUT / HTTP/1.1\r\nContent-Length: 65537\r\n\r\n";
+    let host_first = b"PUT / HTTP/1.1\r\nContent-Length: 262145\r\n\r\n";
     assert!(rt; stops_with(host_first, StopKind::Host));
 }
 
@@ -215,7 +237,7 @@ fn faults_of_a_head(rt: HostRuntime) -> Result<(), Fail> {
             StopKind::Coding,
         ),
         ("Host: b\r\nContent-Length: x\r\n", StopKind::Length),
-        ("Host: b\r\nContent-Length: 65537\r\n", StopKind::TooLarge),
+        ("Host: b\r\nContent-Length: 262145\r\n", StopKind::TooLarge),
     ] {
         assert!(rt; stops_at_once(rt.alloc(), lines, kind)?, "{lines}");
     }
@@ -244,13 +266,13 @@ fn lengths(rt: HostRuntime) -> Result<(), Fail> {
     ] {
         assert!(rt; length_is(alloc, bad, StopKind::Length)?, "{bad}");
     }
-    for twice in ["1\r\nContent-Length: 1", "1\r\ncontent-length: 65537"] {
+    for twice in ["1\r\nContent-Length: 1", "1\r\ncontent-length: 262145"] {
         assert!(rt; length_is(alloc, twice, StopKind::Length)?, "{twice}");
     }
-    for large in ["65537", "9999999999999999999"] {
+    for large in ["262145", "9999999999999999999"] {
         assert!(rt; length_is(alloc, large, StopKind::TooLarge)?, "{large}");
     }
-    for cut in ["2", "0000000000000000002", "65536"] {
+    for cut in ["2", "0000000000000000002", "65537", "262144"] {
         assert!(rt; length_is(alloc, cut, StopKind::Cut)?, "{cut}");
     }
     // No byte of a body, and none of the bytes that follow.
@@ -261,14 +283,14 @@ fn lengths(rt: HostRuntime) -> Result<(), Fail> {
 #[test]
 fn bodies_at_their_limit(rt: HostRuntime) -> Result<(), Fail> {
     let alloc = rt.alloc();
-    let front = "PUT / HTTP/1.1\r\nHost: b\r\nContent-Length: 65536\r\n\r\n";
-    let fits = repeated(alloc, front, "b", 65536, "PUT")?;
+    let front = "PUT / HTTP/1.1\r\nHost: b\r\nContent-Length: 262144\r\n\r\n";
+    let fits = repeated(alloc, front, "b", 262_144, "PUT")?;
     let Step::Whole(request, used) = next(fits.as_bytes(), false, &Limits::STANDARD) else {
         panic!(rt; "no request");
     };
-    assert_eq!(rt; used, front.len() + 65536);
-    assert_eq!(rt; request.body.len(), 65536);
-    let cut = repeated(alloc, front, "b", 65535, "")?;
+    assert_eq!(rt; used, front.len() + 262_144);
+    assert_eq!(rt; request.body.len(), 262_144);
+    let cut = repeated(alloc, front, "b", 262_143, "")?;
     assert!(rt; matches!(next(cut.as_bytes(), false, &Limits::STANDARD), Step::More));
     assert!(rt;
         matches!(

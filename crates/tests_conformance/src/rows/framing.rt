@@ -119,15 +119,21 @@ fn head_limits(rt: HostRuntime) -> Result<(), Fail> {
     answers_in_pieces(alloc, 2, two.as_slice(), NO_HEAD)
 }
 
+/// Fails where a request for the catalog with so many further lines is answered otherwise.
+fn with_further(alloc: Global, count: usize, text: &[u8]) -> Result<(), Fail> {
+    let lines = "X: a\r\n".repeat(alloc, count)?;
+    let bytes = catalog_with(alloc, lines.as_str(), "")?;
+    answers_in_pieces(alloc, 1, bytes.as_slice(), text)
+}
+
+/// Three lines are there already, so 125 further ones are as many as a head may have.
 #[test]
 fn field_limits(rt: HostRuntime) -> Result<(), Fail> {
     let alloc = rt.alloc();
-    let lines = "X: a\r\n".repeat(alloc, 61)?;
-    let most = catalog_with(alloc, lines.as_str(), "")?;
-    answers_in_pieces(alloc, 1, most.as_slice(), CATALOG_LAST)?;
-    let lines = "X: a\r\n".repeat(alloc, 62)?;
-    let more = catalog_with(alloc, lines.as_str(), "")?;
-    answers_in_pieces(alloc, 1, more.as_slice(), NO_HEAD)
+    for count in [61, 62, 125] {
+        with_further(alloc, count, CATALOG_LAST)?;
+    }
+    with_further(alloc, 126, NO_HEAD)
 }
 
 /// Fails where a request for the catalog with these lines is answered otherwise.
@@ -138,7 +144,7 @@ fn with_lines(alloc: Global, lines: &str, rest: &str, text: &[u8]) -> Result<(),
 
 /// Lines of a request for the catalog, what follows its head, and the reply.
 const LENGTHS: [(&str, &str, &[u8]); 4] = [
-    ("Content-Length: 65537\r\n", "", TOO_LARGE),
+    ("Content-Length: 262145\r\n", "", TOO_LARGE),
     ("Content-Length: 3\r\n", "ab", CUT),
     (
         "Transfer-Encoding: chunked\r\nContent-Length: x\r\n",
@@ -157,15 +163,21 @@ fn bodies_and_lengths(rt: HostRuntime) -> Result<(), Fail> {
     Ok(())
 }
 
+/// Fails where a request for the catalog with a body of that length is answered otherwise.
+fn with_body(alloc: Global, length: usize, text: &[u8]) -> Result<(), Fail> {
+    let line = format!(in alloc; "Content-Length: {length}\r\n")?;
+    let body = "b".repeat(alloc, length)?;
+    let bytes = catalog_with(alloc, line.as_str(), body.as_str())?;
+    answers_in_pieces(alloc, 1, bytes.as_slice(), text)
+}
+
 #[test]
 fn the_largest_body(rt: HostRuntime) -> Result<(), Fail> {
     let alloc = rt.alloc();
-    let body = "b".repeat(alloc, 65536)?;
-    let sent = catalog_with(alloc, "Content-Length: 65536\r\n", body.as_str())?;
-    answers_in_pieces(alloc, 1, sent.as_slice(), CATALOG_LAST)?;
-    let body = "b".repeat(alloc, 65537)?;
-    let sent = catalog_with(alloc, "Content-Length: 65537\r\n", body.as_str())?;
-    answers_in_pieces(alloc, 1, sent.as_slice(), TOO_LARGE)
+    for length in [65_537, 262_144] {
+        with_body(alloc, length, CATALOG_LAST)?;
+    }
+    with_body(alloc, 262_145, TOO_LARGE)
 }
 
 const OLD_CATALOG: &[u8] =

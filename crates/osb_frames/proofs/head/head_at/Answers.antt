@@ -1,9 +1,9 @@
-use Rattle.std.proofs.Common.{◌≡◌, length, map, take, Err, inr, sym, ap, ◌∙◌, arith}
+use Rattle.std.proofs.Common.{◌≡◌, length, map, take, Err, sym, ap, ◌∙◌, arith}
 use Rattle.httparse.specs.Spans.{header_bytes}
-use Rattle.osb_frames.specs.Line.{line}
+use Rattle.osb_frames.specs.Line.{line_in}
 use Rattle.std.proofs.lemmas.List.{take-append-le, length-take, length-take-le}
 use Rattle.std.proofs.lemmas.Grind.{common_steps}
-use Rattle.osb_frames.proofs.HeadLemmas.{as_many_lines, head_of_window, never_from_room, never_from_full, waits_from_room}
+use Rattle.osb_frames.proofs.HeadLemmas.{as_many_lines, head_of_window, never_from_room, never_from_full, exceeds_whole}
 use Rattle.osb_frames.proofs.head.head_at.Goals as goal
 
 pub returns-in-Ok-Complete : goal.returns-in-Ok-Complete
@@ -28,7 +28,7 @@ returns-in-Ok-Complete c =
         method = c.of.ensures ∙ read.1.method;
         target = c.of-in-Ok-Complete.ensures ∙ read.1.path;
         minor = read.1.version;
-        lines = ap (λ n. map line (take n c.fields_at.result)) used ∙ c.fields_at.ensures.filled ∙ ap (map (header_bytes (take m buf))) front ∙ read.1.fields;
+        lines = ap (λ n. map (line_in (take m buf)) (take n c.lines_at.result)) used ∙ c.lines_at.ensures.filled ∙ ap (map (header_bytes (take m buf))) front ∙ read.1.fields;
         inside = omega (arith, c.min.ensures);
       },
     )
@@ -44,6 +44,9 @@ returns-in-Err c = never_from_room _ _ c.min.result _ (grind (arith, common_step
 pub returns-in-Err-TooManyHeaders : goal.returns-in-Err-TooManyHeaders
 returns-in-Err-TooManyHeaders c =
     let arm = c.in-Err-TooManyHeaders in
-    let waits =
-    waits_from_room _ _ c.min.result _ (grind (arith, common_steps)) (omega (arith, c.min.ensures)) arm.ensures.no_room (arm.ensures.too_many (ap Err arm.field-0-is)) in
-    (waits.0, c.if-buf-limits-2.true, inr waits.1)
+    let limits = c.args.limits.now in
+    let buf = c.args.buf.now in (
+      never_from_room limits buf c.min.result _ (grind (arith, common_steps)) arm.ensures.no_room,
+      c.if-buf-limits-2.true,
+      exceeds_whole limits buf c.min.result _ (grind (arith, common_steps)) (omega (arith, c.min.ensures)) (arm.ensures.too_many (ap Err arm.field-0-is)),
+    )

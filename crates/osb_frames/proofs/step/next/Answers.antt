@@ -8,7 +8,7 @@ returns c =
     let bytes = c.args.buf.now in
     let over = c.args.ended in
     let step = c.step_at.result in
-    let says = c.step_at.ensures in
+    let says = c.step_at.ensures.says in
     record {
       says = says;
       size = whole_inside limits bytes over step says;

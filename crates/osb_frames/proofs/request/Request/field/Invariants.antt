@@ -1,9 +1,9 @@
 use Rattle.std.proofs.Common.{◌≡◌, map, drop, take}
-use Rattle.osb_frames.specs.Line.{line}
+use Rattle.osb_frames.specs.Line.{line_in}
 use Rattle.osb_frames.specs.Fields.{values_of}
 use Rattle.osb_frames.proofs.request.Request.field.Given as goal
 
-abbrev pub invariant-loop-field : goal.invariant-loop-field
-invariant-loop-field l =
-    values_of l.name (map line (drop l.field-index l.field-items))
-    ≡ values_of l.name (map line (take l.self.count l.self.fields))
+abbrev pub invariant-loop-span : goal.invariant-loop-span
+invariant-loop-span l =
+    values_of l.name (map (line_in l.self.head.now) (drop l.span-index l.span-items))
+    ≡ values_of l.name (map (line_in l.self.head.now) (take l.self.count l.self.lines))
