@@ -37,3 +37,4 @@ pub mod TableReads
 pub mod OpenedLemmas
 pub mod PlanLemmas
 pub mod IndexLemmas
+pub mod NoRowLemmas

@@ -122,7 +122,7 @@ abbrev first_row : List InstanceEntry → Option InstanceRow
 first_row [] = None
 first_row (entry ∷ entries) = Some entry.1
 
-one_found : (id : List ℕ) (a b : Option InstanceRow) (instances : List InstanceEntry) → IsRowOf id a instances → IsRowOf id b instances → a ≡ b
+pub one_found : (id : List ℕ) (a b : Option InstanceRow) (instances : List InstanceEntry) → IsRowOf id a instances → IsRowOf id b instances → a ≡ b
 one_found id a b instances p q = sym (back a) ∙ ap first_row (sym p ∙ q) ∙ back b
   where
     back : (found : Option InstanceRow) → first_row (map (λ (row : InstanceRow). (id, row)) (option_to_list found)) ≡ found

@@ -136,6 +136,7 @@ pub(crate) fn take_over<S: Alter>(conn: &mut Connection<S>, alloc: Global) -> Re
     ensures ok { HasCleanDisk (state S.Store conn.new) → IsTrue (state S.Store conn.new).is_open → OnOk result (StandIn (state S.Store conn.old).now (stored (state S.Store conn.new))) }
     ensures err { HasCleanDisk (state S.Store conn.new) → IsTrue (state S.Store conn.new).is_open → OnErr result ((state S.Store conn.new).now ≡ (state S.Store conn.old).now) }
     ensures not_ours { HasCleanDisk (state S.Store conn.new) → result ≡ Err faults.NotOurs → (lives : Lives) → ¬ StandIn (state S.Store conn.old).now lives }
+    ensures open_transaction { IsTrue (state S.Store conn.old).in_transaction → (result ≡ Err faults.Refused) × (conn.new ≡ conn.old) }
     ensures crash { Survives (state S.Store conn.old) (state S.Store conn.new) (HoldsSame (state S.Store conn.old).now) }
 {
     if conn.is_autocommit() {

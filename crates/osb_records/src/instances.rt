@@ -1,6 +1,6 @@
 //! The row that says how an instance stands, inside a transaction.
 
-ghost use Rattle.std.specs.Prelude.{◌≡◌, [], filter, true, false, IsTrue, IfOk, OnOk, Err, Some, option_copied};
+ghost use Rattle.std.specs.Prelude.{◌≡◌, [], filter, true, false, IsTrue, IfOk, OnOk, Err, None, Some, option_copied};
 ghost use Rattle.sqlite.specs.Held.{state};
 ghost use Rattle.sqlite.specs.State.{HasCleanDisk, ExecutesInside, IsUnchanged, KeepsCommit, Survives};
 ghost use Rattle.sqlite.specs.declared.error.Error.TheVariants as fault;
@@ -247,8 +247,30 @@ fn next_row<S: Alter>(
     Ok(instance_row_after(failed, order, old)?)
 }
 
-/// Writes the row that the instance has once the order is written.
-pub(crate) fn write_instance<S: Alter>(
+/// Writes the row that an instance without one gets once its first order is written.
+fn write_first_row<S: Alter>(
+    tx: &mut Transaction<'_, S>,
+    instance: &str,
+    order: &Order,
+) -> Result<(), StoreFault>
+    requires records { ShowsRecords (state S.Store tx.old.conn.now) }
+    requires no_row { HasCleanDisk (state S.Store tx.old.conn.now) → IsTrue (state S.Store tx.old.conn.now).is_open → IsRowOf instance.now None (content (state S.Store tx.old.conn.now)).instances }
+    ensures same_reference { tx.new.conn.ghost_name ≡ tx.old.conn.ghost_name }
+    ensures ok { HasCleanDisk (state S.Store tx.new.conn.now) → OnOk result (Steps (state S.Store tx.old.conn.now) (state S.Store tx.new.conn.now) (with_instances (content (state S.Store tx.new.conn.now)).instances (content (state S.Store tx.old.conn.now)))) }
+    ensures stands { HasCleanDisk (state S.Store tx.new.conn.now) → (change : Change) → IsWritten (life_of (stored (state S.Store tx.old.conn.now)) instance.now) change order.now → InstancesStand (stored (state S.Store tx.old.conn.now)) (content (state S.Store tx.old.conn.now)).instances →
+        OnOk result (InstancesStand (lives_changed change instance.now (stored (state S.Store tx.old.conn.now))) (content (state S.Store tx.new.conn.now)).instances) }
+    ensures kept { HasCleanDisk (state S.Store tx.new.conn.now) → IsTrue (state S.Store tx.old.conn.now).in_transaction → KeepsCommit (state S.Store tx.old.conn.now) (state S.Store tx.new.conn.now) }
+    ensures survives { Survives (state S.Store tx.old.conn.now) (state S.Store tx.new.conn.now) (λ _. ⊥) }
+{
+    let row = instance_row_after(false, order, None)?;
+    let put = put_instance(tx, instance, None, &row);
+    drop(row);
+    put?;
+    Ok(())
+}
+
+/// Writes the row that the instance has once the order is written, from the row before.
+fn write_next_row<S: Alter>(
     tx: &mut Transaction<'_, S>,
     instance: &str,
     order: &Order,
@@ -268,4 +290,28 @@ pub(crate) fn write_instance<S: Alter>(
     drop(row);
     put?;
     Ok(())
+}
+
+/// Writes the row that the instance has once the order is written. One that `is_new` has no row yet,
+/// so none is looked for.
+pub(crate) fn write_instance<S: Alter>(
+    tx: &mut Transaction<'_, S>,
+    instance: &str,
+    order: &Order,
+    is_new: bool,
+) -> Result<(), StoreFault>
+    requires records { ShowsRecords (state S.Store tx.old.conn.now) }
+    requires no_row { HasCleanDisk (state S.Store tx.old.conn.now) → IsTrue (state S.Store tx.old.conn.now).is_open → IsTrue is_new → IsRowOf instance.now None (content (state S.Store tx.old.conn.now)).instances }
+    ensures same_reference { tx.new.conn.ghost_name ≡ tx.old.conn.ghost_name }
+    ensures ok { HasCleanDisk (state S.Store tx.new.conn.now) → OnOk result (Steps (state S.Store tx.old.conn.now) (state S.Store tx.new.conn.now) (with_instances (content (state S.Store tx.new.conn.now)).instances (content (state S.Store tx.old.conn.now)))) }
+    ensures stands { HasCleanDisk (state S.Store tx.new.conn.now) → (change : Change) → IsWritten (life_of (stored (state S.Store tx.old.conn.now)) instance.now) change order.now → InstancesStand (stored (state S.Store tx.old.conn.now)) (content (state S.Store tx.old.conn.now)).instances →
+        OnOk result (InstancesStand (lives_changed change instance.now (stored (state S.Store tx.old.conn.now))) (content (state S.Store tx.new.conn.now)).instances) }
+    ensures kept { HasCleanDisk (state S.Store tx.new.conn.now) → IsTrue (state S.Store tx.old.conn.now).in_transaction → KeepsCommit (state S.Store tx.old.conn.now) (state S.Store tx.new.conn.now) }
+    ensures survives { Survives (state S.Store tx.old.conn.now) (state S.Store tx.new.conn.now) (λ _. ⊥) }
+{
+    if is_new {
+        write_first_row(tx, instance, order)
+    } else {
+        write_next_row(tx, instance, order)
+    }
 }

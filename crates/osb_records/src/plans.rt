@@ -67,6 +67,7 @@ pub(crate) fn read_plans<S: Alter>(
     ensures ok { HasCleanDisk (state S.Store conn.new) → IfOk result (λ plans. plans.items ≡ spec.plans_in_use (stored (state S.Store conn.old))) }
     ensures same { HasCleanDisk (state S.Store conn.new) → IsTrue (state S.Store conn.new).is_open → (state S.Store conn.new).now ≡ (state S.Store conn.old).now }
     ensures was_open { HasCleanDisk (state S.Store conn.new) → IsTrue (state S.Store conn.new).is_open → IsTrue (state S.Store conn.old).is_open }
+    ensures open { HasCleanDisk (state S.Store conn.new) → OnOk result (IsTrue (state S.Store conn.old).is_open) }
     ensures crash { Survives (state S.Store conn.old) (state S.Store conn.new) (λ _. ⊥) }
 {
     let mut tx = conn.transaction();

@@ -1,11 +1,13 @@
 //! The records of all orders, over any store.
 
-ghost use Rattle.std.specs.Prelude.{◌≡◌, IsTrue, IfOk, IfErr, OnOk, OnErr};
+ghost use Rattle.std.specs.Prelude.{◌≡◌, ◌≢◌, false, IsTrue, IfOk, IfErr, OnOk, OnErr};
 ghost use Rattle.std.specs.FinMap.{empty};
 ghost use Rattle.sqlite.specs.Held.{state};
 ghost use Rattle.sqlite.specs.State.{HasCleanDisk, Survives};
 ghost use Rattle.sqlite.specs.Steps.{over_memory};
 ghost use Rattle.sqlite.specs.Tree.{Trees};
+ghost use Rattle.osb_asks.specs.Asks.{is_catalog};
+ghost use Rattle.osb_orders.specs.declared.order.Change.TheVariants.{Nothing};
 ghost use Rattle.osb_orders.specs.Lives.{Lives, life_of};
 ghost use Rattle.osb_orders.specs.Facts.{facts, view_of};
 ghost use Rattle.osb_orders.specs.Listing.{listing};
@@ -66,7 +68,7 @@ impl<S: Alter> Records<S> {
     /// Takes a database over: one that this program made, or one that is empty, in which the tables are
     /// made. Where it has other tables or the rows of no well-formed lives, it isn't ours. With a fault
     /// the connection comes back with its tables as they were. A connection with an open transaction
-    /// is refused.
+    /// is refused, and comes back with it.
     pub fn adopt(
         alloc: Global,
         mut conn: Connection<S>,
@@ -74,6 +76,7 @@ impl<S: Alter> Records<S> {
         ensures ok { IfOk result (λ records. HasCleanDisk (state S.Store records) → IsTrue (state S.Store records).is_open → StandIn (state S.Store conn).now (stored (state S.Store records))) }
         ensures err { IfErr result (λ fault. HasCleanDisk (state S.Store fault.1) → IsTrue (state S.Store fault.1).is_open → (state S.Store fault.1).now ≡ (state S.Store conn).now) }
         ensures not_ours { IfErr result (λ fault. HasCleanDisk (state S.Store fault.1) → fault.0 ≡ faults.NotOurs → (lives : Lives) → ¬ StandIn (state S.Store conn).now lives) }
+        ensures open_transaction { IsTrue (state S.Store conn).in_transaction → result ≡ Err (faults.Refused, conn) }
         ensures crash { IfOk result (λ records. Survives (state S.Store conn) (state S.Store records) (HoldsSame (state S.Store conn).now)) }
         ensures fault_crash { IfErr result (λ fault. Survives (state S.Store conn) (state S.Store fault.1) (HoldsSame (state S.Store conn).now)) }
     {
@@ -107,6 +110,7 @@ impl<S: Alter> Records<S> {
         ensures ok { HasCleanDisk (state S.Store self.new) → IfOk result (λ life. life.items ≡ life_of (stored (state S.Store self.old)) instance.now) }
         ensures same { HasCleanDisk (state S.Store self.new) → IsTrue (state S.Store self.new).is_open → stored (state S.Store self.new) ≡ stored (state S.Store self.old) }
         ensures was_open { HasCleanDisk (state S.Store self.new) → IsTrue (state S.Store self.new).is_open → IsTrue (state S.Store self.old).is_open }
+        ensures open { HasCleanDisk (state S.Store self.new) → OnOk result (IsTrue (state S.Store self.old).is_open) }
         ensures crash { Survives (state S.Store self.old) (state S.Store self.new) (λ _. ⊥) }
     {
         let rows = read_life(&mut self.conn, instance)?;
@@ -124,6 +128,7 @@ impl<S: Alter> Records<S> {
         ensures ok { HasCleanDisk (state S.Store self.new) → IfOk result (λ pairs. pairs.items ≡ listing (stored (state S.Store self.old)) after.now limit) }
         ensures same { HasCleanDisk (state S.Store self.new) → IsTrue (state S.Store self.new).is_open → stored (state S.Store self.new) ≡ stored (state S.Store self.old) }
         ensures was_open { HasCleanDisk (state S.Store self.new) → IsTrue (state S.Store self.new).is_open → IsTrue (state S.Store self.old).is_open }
+        ensures open { HasCleanDisk (state S.Store self.new) → OnOk result (IsTrue (state S.Store self.old).is_open) }
         ensures crash { Survives (state S.Store self.old) (state S.Store self.new) (λ _. ⊥) }
     {
         read_running(&mut self.conn, alloc, after, limit)
@@ -135,6 +140,7 @@ impl<S: Alter> Records<S> {
         ensures ok { HasCleanDisk (state S.Store self.new) → IfOk result (λ plans. plans.items ≡ plans_in_use (stored (state S.Store self.old))) }
         ensures same { HasCleanDisk (state S.Store self.new) → IsTrue (state S.Store self.new).is_open → stored (state S.Store self.new) ≡ stored (state S.Store self.old) }
         ensures was_open { HasCleanDisk (state S.Store self.new) → IsTrue (state S.Store self.new).is_open → IsTrue (state S.Store self.old).is_open }
+        ensures open { HasCleanDisk (state S.Store self.new) → OnOk result (IsTrue (state S.Store self.old).is_open) }
         ensures crash { Survives (state S.Store self.old) (state S.Store self.new) (λ _. ⊥) }
     {
         read_plans(&mut self.conn, alloc)
@@ -145,6 +151,7 @@ impl<S: Alter> Records<S> {
         ensures ok { HasCleanDisk (state S.Store self.new) → IfOk result (λ view. facts view ≡ view_of (stored (state S.Store self.old)) ask.now) }
         ensures same { HasCleanDisk (state S.Store self.new) → IsTrue (state S.Store self.new).is_open → stored (state S.Store self.new) ≡ stored (state S.Store self.old) }
         ensures was_open { HasCleanDisk (state S.Store self.new) → IsTrue (state S.Store self.new).is_open → IsTrue (state S.Store self.old).is_open }
+        ensures open { HasCleanDisk (state S.Store self.new) → is_catalog ask.now ≡ false → OnOk result (IsTrue (state S.Store self.old).is_open) }
         ensures crash { Survives (state S.Store self.old) (state S.Store self.new) (λ _. ⊥) }
     {
         match ask.instance() {
@@ -162,6 +169,7 @@ impl<S: Alter> Records<S> {
         ensures ok { HasCleanDisk (state S.Store self.new) → OnOk result (stored (state S.Store self.new) ≡ lives_changed change.now instance.now (stored (state S.Store self.old))) }
         ensures err { HasCleanDisk (state S.Store self.new) → IsTrue (state S.Store self.new).is_open → OnErr result (stored (state S.Store self.new) ≡ stored (state S.Store self.old)) }
         ensures was_open { HasCleanDisk (state S.Store self.new) → IsTrue (state S.Store self.new).is_open → IsTrue (state S.Store self.old).is_open }
+        ensures open { HasCleanDisk (state S.Store self.new) → change.now ≢ Nothing → OnOk result (IsTrue (state S.Store self.old).is_open) }
         ensures crash { Survives (state S.Store self.old) (state S.Store self.new) (Commits (state S.Store self.old) (lives_changed change.now instance.now (stored (state S.Store self.old)))) }
         ensures durable { HasCleanDisk (state S.Store self.new) → IsTrue (state S.Store self.new).is_open → OnOk result (LeavesOnly (state S.Store self.new) (stored (state S.Store self.new))) }
         ensures lasts { HasCleanDisk (state S.Store self.new) → OnOk result ((db : Trees) → (state S.Store self.new).may_leave db → Lasts (state S.Store self.old) change.now instance.now db) }

@@ -1,12 +1,13 @@
 //! What an ask needs to know, read inside a transaction.
 
-ghost use Rattle.std.specs.Prelude.{◌≡◌, [], filter, Some, None, unwrap_or, IsTrue, IfOk, OnOk, option_copied, option_and_then};
+ghost use Rattle.std.specs.Prelude.{◌≡◌, false, [], filter, Some, None, unwrap_or, IsTrue, IfOk, OnOk, option_copied, option_and_then};
 ghost use Rattle.std.specs.FinMap.{get};
 ghost use Rattle.sqlite.specs.Held.{state};
 ghost use Rattle.sqlite.specs.State.{HasCleanDisk, IsUnchanged, KeepsCommit, Survives};
 ghost use Rattle.osb_orders.specs.Lists.{last_of};
 ghost use Rattle.osb_orders.specs.Orders.{is_of_instance, is_of_binding};
 ghost use Rattle.osb_orders.specs.Lives.{life_of};
+ghost use Rattle.osb_asks.specs.Asks.{is_catalog};
 ghost use Rattle.osb_asks.specs.declared.ask.Ask.TheVariants as asks;
 ghost use Rattle.osb_orders.specs.Facts.{facts, view_of};
 ghost use Rattle.osb_orders.specs.Named.{instance_in, binding_in, subject, named_by, named_in};
@@ -48,15 +49,6 @@ fn read_row<S: Alter>(
     read_instance(tx, instance)
 }
 
-fn last_number(row: Option<&InstanceRow>) -> u32
-    ensures { result ≡ count_in (option_copied row.entry) }
-{
-    match row {
-        Some(row) => row.last_number,
-        None => 0,
-    }
-}
-
 /// The last order of the instance, by its row.
 #[tactic(auto, using(crate::proofs::NamedLemmas::shows_again))]
 fn read_last<S: Alter>(
@@ -67,12 +59,15 @@ fn read_last<S: Alter>(
     requires { ShowsRecords (state S.Store tx.old.conn.now) }
     ensures same_reference { tx.new.conn.ghost_name ≡ tx.old.conn.ghost_name }
     ensures ok { HasCleanDisk (state S.Store tx.new.conn.now) → IfOk result (λ order. option_copied row.entry ≡ row_of (life_of (stored (state S.Store tx.old.conn.now)) instance.now) → order ≡ last_of (life_of (stored (state S.Store tx.old.conn.now)) instance.now)) }
-    ensures same { HasCleanDisk (state S.Store tx.new.conn.now) → OnOk result (IsUnchanged (state S.Store tx.old.conn.now) (state S.Store tx.new.conn.now)) }
+    ensures same { HasCleanDisk (state S.Store tx.new.conn.now) → IsTrue (state S.Store tx.old.conn.now).is_open → OnOk result (IsUnchanged (state S.Store tx.old.conn.now) (state S.Store tx.new.conn.now)) }
     ensures shows { OnOk result (ShowsRecords (state S.Store tx.new.conn.now)) }
     ensures kept { HasCleanDisk (state S.Store tx.new.conn.now) → IsTrue (state S.Store tx.old.conn.now).in_transaction → KeepsCommit (state S.Store tx.old.conn.now) (state S.Store tx.new.conn.now) }
     ensures survives { Survives (state S.Store tx.old.conn.now) (state S.Store tx.new.conn.now) (λ _. ⊥) }
 {
-    order_numbered(tx, instance, last_number(row))
+    match row {
+        Some(row) => order_numbered(tx, instance, row.last_number),
+        None => Ok(None),
+    }
 }
 
 /// The row of the instance and its last order.
@@ -338,6 +333,34 @@ fn read_asked<S: Alter>(
     })
 }
 
+/// What the ask names, of an instance with this row. Where it has none, nothing is read.
+#[tactic(auto, using(crate::proofs::NamedLemmas::shows_again))]
+fn read_asked_of<S: Alter>(
+    tx: &mut Transaction<'_, S>,
+    alloc: Global,
+    instance: &str,
+    ask: &Ask,
+    row: Option<&InstanceRow>,
+) -> Result<Asked, StoreFault>
+    requires { ShowsRecords (state S.Store tx.old.conn.now) }
+    ensures same_reference { tx.new.conn.ghost_name ≡ tx.old.conn.ghost_name }
+    ensures ok { HasCleanDisk (state S.Store tx.new.conn.now) → IfOk result (λ asked. option_copied row.entry ≡ row_of (life_of (stored (state S.Store tx.old.conn.now)) instance.now) → ((asked.binding ≡ option_and_then (λ id. get (bindings_of (life_of (stored (state S.Store tx.old.conn.now)) instance.now)) id) (binding_in ask.now)) × (asked.bound ≡ has_rows (bindings_of (life_of (stored (state S.Store tx.old.conn.now)) instance.now)))) × ((asked.named ≡ named_in ask.now (life_of (stored (state S.Store tx.old.conn.now)) instance.now)) × (asked.subject_last ≡ last_of (subject ask.now (life_of (stored (state S.Store tx.old.conn.now)) instance.now))))) }
+    ensures same { HasCleanDisk (state S.Store tx.new.conn.now) → IsTrue (state S.Store tx.old.conn.now).is_open → OnOk result (IsUnchanged (state S.Store tx.old.conn.now) (state S.Store tx.new.conn.now)) }
+    ensures shows { OnOk result (ShowsRecords (state S.Store tx.new.conn.now)) }
+    ensures kept { HasCleanDisk (state S.Store tx.new.conn.now) → IsTrue (state S.Store tx.old.conn.now).in_transaction → KeepsCommit (state S.Store tx.old.conn.now) (state S.Store tx.new.conn.now) }
+    ensures survives { Survives (state S.Store tx.old.conn.now) (state S.Store tx.new.conn.now) (λ _. ⊥) }
+{
+    match row {
+        Some(_) => read_asked(tx, alloc, instance, ask),
+        None => Ok(Asked {
+            binding: None,
+            bound: false,
+            named: None,
+            subject_last: None,
+        }),
+    }
+}
+
 /// What is read for an ask that names the instance.
 pub(crate) fn read_for<S: Alter>(
     tx: &mut Transaction<'_, S>,
@@ -354,7 +377,7 @@ pub(crate) fn read_for<S: Alter>(
     ensures survives { Survives (state S.Store tx.old.conn.now) (state S.Store tx.new.conn.now) (λ _. ⊥) }
 {
     let (row, last) = read_standing(tx, instance)?;
-    let asked = read_asked(tx, alloc, instance, ask)?;
+    let asked = read_asked_of(tx, alloc, instance, ask, row.as_ref())?;
     Ok(Read {
         row,
         last,
@@ -379,6 +402,7 @@ pub(crate) fn view_of_instance<S: Alter>(
     ensures ok { HasCleanDisk (state S.Store conn.new) → instance_in ask.now ≡ Some instance.now → IfOk result (λ view. facts view ≡ view_of (stored (state S.Store conn.old)) ask.now) }
     ensures same { HasCleanDisk (state S.Store conn.new) → IsTrue (state S.Store conn.new).is_open → (state S.Store conn.new).now ≡ (state S.Store conn.old).now }
     ensures was_open { HasCleanDisk (state S.Store conn.new) → IsTrue (state S.Store conn.new).is_open → IsTrue (state S.Store conn.old).is_open }
+    ensures open { HasCleanDisk (state S.Store conn.new) → OnOk result (IsTrue (state S.Store conn.old).is_open) }
     ensures crash { Survives (state S.Store conn.old) (state S.Store conn.new) (λ _. ⊥) }
 {
     let mut tx = conn.transaction();
@@ -422,6 +446,7 @@ fn view_of_running<S: Alter>(
     ensures ok { HasCleanDisk (state S.Store conn.new) → IfOk result (λ view. facts view ≡ view_of (stored (state S.Store conn.old)) (asks.Orders orders.now)) }
     ensures same { HasCleanDisk (state S.Store conn.new) → IsTrue (state S.Store conn.new).is_open → (state S.Store conn.new).now ≡ (state S.Store conn.old).now }
     ensures was_open { HasCleanDisk (state S.Store conn.new) → IsTrue (state S.Store conn.new).is_open → IsTrue (state S.Store conn.old).is_open }
+    ensures open { HasCleanDisk (state S.Store conn.new) → OnOk result (IsTrue (state S.Store conn.old).is_open) }
     ensures crash { Survives (state S.Store conn.old) (state S.Store conn.new) (λ _. ⊥) }
 {
     let listing = read_running(conn, alloc, listed_after(orders), LISTED)?;
@@ -439,6 +464,7 @@ pub(crate) fn view_without_instance<S: Alter>(
     ensures ok { HasCleanDisk (state S.Store conn.new) → instance_in ask.now ≡ None → IfOk result (λ view. facts view ≡ view_of (stored (state S.Store conn.old)) ask.now) }
     ensures same { HasCleanDisk (state S.Store conn.new) → IsTrue (state S.Store conn.new).is_open → (state S.Store conn.new).now ≡ (state S.Store conn.old).now }
     ensures was_open { HasCleanDisk (state S.Store conn.new) → IsTrue (state S.Store conn.new).is_open → IsTrue (state S.Store conn.old).is_open }
+    ensures open { HasCleanDisk (state S.Store conn.new) → instance_in ask.now ≡ None → is_catalog ask.now ≡ false → OnOk result (IsTrue (state S.Store conn.old).is_open) }
     ensures crash { Survives (state S.Store conn.old) (state S.Store conn.new) (λ _. ⊥) }
 {
     match ask {

@@ -1,6 +1,6 @@
 //! Orders written together with what stands then, inside a transaction.
 
-ghost use Rattle.std.specs.Prelude.{◌≡◌, Some, IsTrue, IfOk, OnOk};
+ghost use Rattle.std.specs.Prelude.{◌≡◌, None, Some, IsTrue, IfOk, OnOk};
 ghost use Rattle.sqlite.specs.Held.{state};
 ghost use Rattle.sqlite.specs.State.{HasCleanDisk, IsUnchanged, KeepsCommit, Survives};
 ghost use Rattle.osb_orders.specs.declared.order.Change.{Change};
@@ -11,6 +11,7 @@ ghost use Rattle.osb_orders.specs.Changed.{lives_changed};
 ghost use Rattle.osb_orders.specs.IsLife.{IsLives};
 ghost use Rattle.osb_orders.specs.Allowed.{IsFinishable};
 ghost use Rattle.osb_standing.specs.Written as written;
+ghost use Rattle.osb_audit.specs.Instances.{IsRowOf};
 ghost use Rattle.osb_records.specs.Stored.{with_lives};
 ghost use Rattle.osb_records.specs.Standing.{IsStanding};
 ghost use Rattle.osb_records.specs.Queries.{ShowsRecords};
@@ -26,14 +27,16 @@ use osb_standing::order_written;
 use sqlite::{Alter, Transaction};
 use std::alloc::Global;
 
-/// Writes the rows of what stands once the order is written.
+/// Writes the rows of what stands once the order is written. An instance that `is_new` has no row yet.
 fn write_standing<S: Alter>(
     tx: &mut Transaction<'_, S>,
     alloc: Global,
     instance: &str,
     order: &Order,
+    is_new: bool,
 ) -> Result<(), StoreFault>
-    requires { ShowsRecords (state S.Store tx.old.conn.now) }
+    requires records { ShowsRecords (state S.Store tx.old.conn.now) }
+    requires no_row { HasCleanDisk (state S.Store tx.old.conn.now) → IsTrue (state S.Store tx.old.conn.now).is_open → IsTrue is_new → IsRowOf instance.now None (content (state S.Store tx.old.conn.now)).instances }
     ensures same_reference { tx.new.conn.ghost_name ≡ tx.old.conn.ghost_name }
     ensures ok { HasCleanDisk (state S.Store tx.new.conn.now) → OnOk result (Steps (state S.Store tx.old.conn.now) (state S.Store tx.new.conn.now) (with_lives (stored (state S.Store tx.old.conn.now)) (content (state S.Store tx.new.conn.now)))) }
     ensures stands { HasCleanDisk (state S.Store tx.new.conn.now) → (change : Change) → written.IsWritten (life_of (stored (state S.Store tx.old.conn.now)) instance.now) change order.now → IsStanding (content (state S.Store tx.old.conn.now)) →
@@ -41,11 +44,11 @@ fn write_standing<S: Alter>(
     ensures kept { HasCleanDisk (state S.Store tx.new.conn.now) → IsTrue (state S.Store tx.old.conn.now).in_transaction → KeepsCommit (state S.Store tx.old.conn.now) (state S.Store tx.new.conn.now) }
     ensures survives { Survives (state S.Store tx.old.conn.now) (state S.Store tx.new.conn.now) (λ _. ⊥) }
 {
-    write_instance(tx, instance, order)?;
+    write_instance(tx, instance, order, is_new)?;
     write_bindings(tx, alloc, instance, order)
 }
 
-/// Writes one order more.
+/// Writes one order more. An instance whose first order it is has no row to look for.
 pub(crate) fn append_order<S: Alter>(
     tx: &mut Transaction<'_, S>,
     alloc: Global,
@@ -60,7 +63,7 @@ pub(crate) fn append_order<S: Alter>(
     ensures kept { HasCleanDisk (state S.Store tx.new.conn.now) → IsTrue (state S.Store tx.old.conn.now).in_transaction → KeepsCommit (state S.Store tx.old.conn.now) (state S.Store tx.new.conn.now) }
     ensures survives { Survives (state S.Store tx.old.conn.now) (state S.Store tx.new.conn.now) (λ _. ⊥) }
 {
-    write_standing(tx, alloc, instance, order)?;
+    write_standing(tx, alloc, instance, order, order.number == 1)?;
     insert_order(tx, instance, order)?;
     Ok(())
 }
@@ -105,7 +108,7 @@ pub(crate) fn end_order<S: Alter>(
     ensures survives { Survives (state S.Store tx.old.conn.now) (state S.Store tx.new.conn.now) (λ _. ⊥) }
 {
     let order = ended_order(tx, instance, number, outcome)?;
-    write_standing(tx, alloc, instance, &order)?;
+    write_standing(tx, alloc, instance, &order, false)?;
     finish_order(tx, instance, number, outcome)?;
     Ok(())
 }

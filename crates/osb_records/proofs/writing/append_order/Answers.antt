@@ -1,6 +1,8 @@
+use Rattle.std.proofs.lemmas.Bool.{eqb-true}
 use Rattle.sqlite.specs.Held.{state}
 use Rattle.osb_orders.specs.declared.order.Change.TheVariants.{Append}
-use Rattle.osb_records.specs.Steps.{stored}
+use Rattle.osb_records.specs.Steps.{content, stored}
+use Rattle.osb_records.proofs.NoRowLemmas.{no_row_before}
 use Rattle.osb_records.proofs.StepLemmas.{clean_before}
 use Rattle.osb_records.proofs.CommitLemmas.{append_written, written_after}
 use Rattle.osb_records.proofs.writing.append_order.Goals as goal
@@ -18,3 +20,11 @@ returns-clause-ok g c clean =
     let lives = (c.requires.records clean_first rows.was_open).lives in
     let written = append_written (stored first) id order lives (c.requires.whole clean_first rows.was_open) in
     written_after first mid new id (Append order) rows (c.in_ok-write_standing.ensures.stands clean_mid (Append order) written (c.requires.standing clean_first rows.was_open)) (c.in_ok-insert_order.ensures.ok clean)
+
+pub write_standing-requires-clause-no_row : goal.write_standing-requires-clause-no_row
+write_standing-requires-clause-no_row g c clean live first =
+    let old = state g.S.Store c.args.tx.now.conn.now in
+    let id = c.args.instance.now in
+    let order = c.args.order.now in
+    let written = append_written (stored old) id order (c.requires.records clean live).lives (c.requires.whole clean live) in
+    no_row_before (stored old) id order (content old).instances written (eqb-true order.number 1 first) (c.requires.standing clean live).instances

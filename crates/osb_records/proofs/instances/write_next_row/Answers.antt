@@ -4,7 +4,7 @@ use Rattle.sqlite.specs.Effect.{Database}
 use Rattle.osb_records.specs.Stored.{instances_in}
 use Rattle.osb_records.proofs.StepLemmas.{clean_before}
 use Rattle.osb_records.proofs.PutLemmas.{written_stands}
-use Rattle.osb_records.proofs.instances.write_instance.Goals as goal
+use Rattle.osb_records.proofs.instances.write_next_row.Goals as goal
 
 pub returns-clause-stands : goal.returns-clause-stands
 returns-clause-stands g c clean change written stood =
