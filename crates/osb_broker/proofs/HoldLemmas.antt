@@ -1,11 +1,12 @@
 -- The steps of the loop over a buffer.
-use Rattle.std.proofs.Common.{◌≡◌, ℕ, zero, zero-add, suc, ◌+◌, ◌-◌, ◌<◌, ◌≤◌, ◌==◌, inl, inr, Bool, true, false, cond, List, [], ◌∷◌, ◌++◌, length, take, drop, Option, Some, None, Ok, Err, IfSome, sym, refl, ap, subst, ◌∙◌, arith}
+use Rattle.std.proofs.Common.{◌≡◌, ℕ, zero, zero-add, suc, ◌+◌, ◌-◌, ◌≤◌, ◌==◌, inl, inr, Bool, true, false, List, [], ◌∷◌, ◌++◌, length, take, drop, Option, Some, None, Ok, Err, IfSome, sym, refl, ap, subst, ◌∙◌, arith}
 use Rattle.std.specs.Io.KnownBytes.{Consumes, IsAtEnd, Keeps}
 use Rattle.std.specs.List.{copy_within}
 use Rattle.std.proofs.lemmas.List.Edits.{take-paste}
-use Rattle.std.proofs.lemmas.List.{drop-take, append_assoc, append-nil, drop-append-le, length-append, length-take, length-drop}
+use Rattle.std.proofs.lemmas.List.{drop-take, append_assoc, append-nil, drop-append-le, length-drop}
 use Rattle.osb_frames.specs.declared.limits.Limits.{Limits}
 use Rattle.osb_frames.specs.declared.step.StopKind.{StopKind}
+use Rattle.osb_frames.specs.Calls.{Call, all_bytes}
 use Rattle.osb_frames.specs.Cuts.{Message, closes, whole, IsFront}
 use Rattle.osb_frames.specs.Steps.{FaultStays}
 use Rattle.osb_replies.specs.declared.write.WriteFault.{WriteFault}
@@ -14,13 +15,14 @@ use Rattle.osb_broker.specs.Machine.{Machine, fault_reply}
 use Rattle.osb_broker.specs.Connection.{After}
 use Rattle.osb_broker.specs.Served.{Served, Reached, BrokenOff}
 use Rattle.osb_broker.specs.Answering.{Answers, WritesText}
-use Rattle.osb_broker.specs.Serving.{Gave, OfConnection, Holding, Past, Left, Looked}
+use Rattle.osb_broker.specs.Serving.{Gave, OfConnection, Holding, Past, Left}
 use Rattle.osb_broker.proofs.RunLemmas.{after_more, concat_more, served_silent, text_of_end, text_of_none, not_marked}
 use Rattle.osb_broker.proofs.LoopLemmas.{AtRequest, closing, breaking, refusing}
+use Rattle.osb_broker.proofs.CallLemmas.{all_more, all_failed}
 
-pub gave_nothing : (given : List ℕ) (known : Option (List ℕ)) → Gave given given known known []
-gave_nothing given None = record { given = sym (append-nil given); consumed = tt }
-gave_nothing given (Some all) = record { given = sym (append-nil given); consumed = refl }
+pub gave_nothing : (made : List Call) (known : Option (List ℕ)) → Gave made made known known []
+gave_nothing made None = record { made = sym (append-nil made); consumed = tt }
+gave_nothing made (Some all) = record { made = sym (append-nil made); consumed = refl }
 
 consumes_more : (a b c : Option (List ℕ)) (xs ys : List ℕ) → Consumes a b xs → Consumes b c ys → Consumes a c (xs ++ ys)
 consumes_more None b c xs ys x y = tt
@@ -34,14 +36,17 @@ consumes_kept (Some all) None c xs x y = absurd x
 consumes_kept (Some all) (Some mid) None xs x y = absurd y
 consumes_kept (Some all) (Some mid) (Some rest) xs x y = x ∙ ap (λ l. xs ++ l) (sym y)
 
-pub gave_more : (a b c : List ℕ) (ka kb kc : Option (List ℕ)) (got piece : List ℕ) → Gave a b ka kb got → c ≡ b ++ piece → Consumes kb kc piece → Gave a c ka kc (got ++ piece)
-gave_more a b c ka kb kc got piece gave e more = record {
-  given = e ∙ ap (λ l. l ++ piece) gave.given ∙ append_assoc a got piece;
-  consumed = consumes_more ka kb kc got piece gave.consumed more;
+pub gave_more : (a b c : List Call) (ka kb kc : Option (List ℕ)) (calls : List Call) (piece : List ℕ) → Gave a b ka kb calls → c ≡ b ++ Some piece ∷ [] → Consumes kb kc piece → Gave a c ka kc (calls ++ Some piece ∷ [])
+gave_more a b c ka kb kc calls piece gave e more = record {
+  made = e ∙ ap (λ l. l ++ Some piece ∷ []) gave.made ∙ append_assoc a calls (Some piece ∷ []);
+  consumed = subst (Consumes ka kc) (sym (all_more calls piece)) (consumes_more ka kb kc (all_bytes calls) piece gave.consumed more);
 }
 
-pub gave_kept : (a b c : List ℕ) (ka kb kc : Option (List ℕ)) (got : List ℕ) → Gave a b ka kb got → c ≡ b → Keeps kb kc → Gave a c ka kc got
-gave_kept a b c ka kb kc got gave e keeps = record { given = e ∙ gave.given; consumed = consumes_kept ka kb kc got gave.consumed keeps }
+pub gave_failed : (a b c : List Call) (ka kb kc : Option (List ℕ)) (calls : List Call) → Gave a b ka kb calls → c ≡ b ++ None ∷ [] → Keeps kb kc → Gave a c ka kc (calls ++ None ∷ [])
+gave_failed a b c ka kb kc calls gave e keeps = record {
+  made = e ∙ ap (λ l. l ++ None ∷ []) gave.made ∙ append_assoc a calls (None ∷ []);
+  consumed = subst (Consumes ka kc) (sym (all_failed calls)) (consumes_kept ka kb kc (all_bytes calls) gave.consumed keeps);
+}
 
 pub holding_start : {S : Type 0} (machine : Machine S) (limits : Limits) (k : ℕ) (s : S) (old : List ℕ) → Holding machine limits k s [] old k old s []
 holding_start machine limits k s old = record { texts = []; is = λ more. (refl, refl, refl); written = sym (append-nil old) }
@@ -161,34 +166,6 @@ left_more limits k got left held q n j at front inside fewer going = record {
   is = λ more. subst (λ l. Past limits (suc at.count) (got ++ more) l) (drop-append-le n held more inside) (past_more limits at.count (got ++ more) (held ++ more) q n (at.is more) (front more) going);
   fewer = let before = at.fewer in omega arith;
 }
-
-pub looked : (limits : Limits) (k : ℕ) (got : List ℕ) (left : ℕ) (buf : List ℕ) (filled room reads_old reads_new : ℕ) → Left limits k got left (take filled buf) → length buf ≡ room → reads_new ≤ reads_old + length got + 1 → Looked limits k got room reads_old reads_new
-looked limits k got left buf filled room reads_old reads_new at len few = record {
-  left = left;
-  held = take filled buf;
-  past = at;
-  small = omega (arith, length-take filled buf);
-  few = few;
-}
-
-pub few_so_far : (a b : ℕ) (over : Bool) → a ≤ b + cond over 1 0 → a ≤ b + 1
-few_so_far a b true h = h
-few_so_far a b false h = omega arith
-
-not_over : (a b : ℕ) (over : Bool) → over ≡ false → a ≤ b + cond over 1 0 → a ≤ b
-not_over a b true e h = cc
-not_over a b false e h = omega arith
-
-pub few_after : (a b c : ℕ) (over : Bool) → c ≡ a + 1 → over ≡ false → a ≤ b + cond over 1 0 → c ≤ b + 1
-few_after a b c over e f h = let g = not_over a b over f h in omega arith
-
-pub one_read : (a b c : ℕ) (got piece : List ℕ) (over : Bool) → c ≡ a + 1 → over ≡ false → a ≤ b + length got + cond over 1 0 → c ≤ b + length (got ++ piece) + 1
-one_read a b c got piece over e f h = let g = not_over a (b + length got) over f h in omega (arith, length-append got piece)
-
-pub one_byte : (a b c : ℕ) (got buf : List ℕ) (filled n : ℕ) (over : Bool) → c ≡ a + 1 → over ≡ false → a ≤ b + length got + cond over 1 0 → 0 < n → filled + n ≤ length buf → c ≤ b + length (got ++ take n (drop filled buf)) + 0
-one_byte a b c got buf filled n over e f h some inside =
-    let g = not_over a (b + length got) over f h in
-    omega (arith, length-append got (take n (drop filled buf)), length-take n (drop filled buf), length-drop filled buf)
 
 -- ---- the front of the room
 

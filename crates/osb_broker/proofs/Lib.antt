@@ -1,6 +1,8 @@
 mod RunLemmas
 mod LoopLemmas
+mod CallLemmas
 mod HoldLemmas
+mod ReadLemmas
 mod RunsLemmas
 mod WholeLemmas
 mod FixedLemmas

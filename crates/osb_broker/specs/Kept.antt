@@ -1,5 +1,5 @@
 -- What a broker keeps.
-use Rattle.std.specs.Prelude.{ℕ, IsTrue}
+use Rattle.std.specs.Prelude.{◌≡◌, ℕ, false, IsTrue}
 use Rattle.osb_broker.specs.declared.broker.Broker.{Broker}
 use Rattle.osb_replies.specs.Body.{body_bytes}
 use Rattle.osb_machine.specs.declared.step.Answer as code
@@ -7,7 +7,7 @@ use Rattle.osb_catalog.specs.Rules as catalog
 use Rattle.osb_broker.specs.Machine.{Answer}
 use Rattle.osb_orders.specs.Lives.{Lives}
 use Rattle.sqlite_trees.specs.declared.store.Store.{Ghosts}
-use Rattle.sqlite.specs.Held.{state}
+use Rattle.sqlite.specs.Held.{Held, state}
 use Rattle.sqlite.specs.State.{State, HasCleanDisk}
 use Rattle.osb_records.specs.Steps.{stored}
 
@@ -15,10 +15,18 @@ use Rattle.osb_records.specs.Steps.{stored}
 abbrev pub store_of : {S : Type 0} → Ghosts S → Broker S → State
 store_of store broker = state store broker.records
 
+-- its records
+abbrev pub records_of : {S : Type 0} → Broker S → Held S
+records_of broker = broker.records
+
 -- the store works: its disk has returned what was written, and it is open
 pub record Works (s : State) : Type 0 where
   pub clean : HasCleanDisk s
   pub live : IsTrue s.is_open
+
+-- a fault of its disk has shut the store
+abbrev pub IsShut : State → Type 0
+IsShut s = s.is_open ≡ false
 
 -- the lives of all instances, as its records store them
 unfoldable pub lives_of : {S : Type 0} → Ghosts S → Broker S → Lives

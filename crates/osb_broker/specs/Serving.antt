@@ -1,14 +1,17 @@
 -- What serving a connection did, of bytes that came in pieces.
-use Rattle.std.specs.Prelude.{◌≡◌, ℕ, zero, suc, ◌<◌, ◌≤◌, ◌+◌, ◌⊎◌, false, List, ◌++◌, length, drop, ⊤, Option, Result, Ok, Err}
-use Rattle.std.specs.List.{concat}
+use Rattle.std.specs.Prelude.{◌≡◌, ℕ, zero, suc, ◌<◌, ◌≤◌, ◌+◌, ◌⊎◌, false, List, [], ◌∷◌, ◌++◌, length, drop, ⊤, Option, Some, None, Result, Ok, Err}
+use Rattle.std.specs.List.{AllByRecursion, concat}
 use Rattle.std.specs.Io.KnownBytes.{Consumes, IsAtEnd}
 use Rattle.osb_frames.specs.declared.limits.Limits.{Limits}
 use Rattle.osb_frames.specs.declared.step.StopKind.{StopKind}
+use Rattle.osb_frames.specs.Calls.{Call, all_bytes, call_bytes, is_fruitless}
+use Rattle.osb_frames.specs.Heads.{IsHopeful}
 use Rattle.osb_frames.specs.Cuts.{Message, closes, fault, whole, IsFront}
 use Rattle.osb_frames.specs.Steps.{IsFinal}
 use Rattle.osb_broker.specs.declared.fault.ServeFault.{ServeFault}
 use Rattle.osb_broker.specs.declared.fault.ServeFault.TheVariants.{Read, Write}
-use Rattle.osb_broker.specs.Machine.{Machine}
+use Rattle.osb_replies.specs.Text.{reply_text}
+use Rattle.osb_broker.specs.Machine.{Machine, fault_reply}
 use Rattle.osb_broker.specs.Connection.{After}
 use Rattle.osb_broker.specs.Served.{Served, Reached, BrokenOff}
 
@@ -18,10 +21,34 @@ HasCause (Ok x) read write = ⊤
 HasCause (Err Read) read write = read
 HasCause (Err Write) read write = write
 
--- what a source gave from one moment to another
-pub record Gave (given_old given_new : List ℕ) (known_old known_new : Option (List ℕ)) (got : List ℕ) : Type 0 where
-  pub given : given_new ≡ given_old ++ got
-  pub consumed : Consumes known_old known_new got
+-- the last that was written is the reply to a framing fault
+abbrev pub EndsAtFault : List ℕ → Type 0
+EndsAtFault sent = (kind : StopKind) × (before : List ℕ) × (sent ≡ before ++ reply_text (fault_reply kind))
+
+-- a write failed or took nothing exactly where serving ends so
+abbrev pub WritesOf : Result (Unit {0}) ServeFault → ℕ → ℕ → Type 0
+WritesOf (Err Write) old new = old < new
+WritesOf _ old new = new ≡ old
+
+-- which reads were made of a source from one moment to another, and what they gave
+pub record Gave (made_old made_new : List Call) (known_old known_new : Option (List ℕ)) (calls : List Call) : Type 0 where
+  pub made : made_new ≡ made_old ++ calls
+  pub consumed : Consumes known_old known_new (all_bytes calls)
+
+-- each read gave bytes
+abbrev pub AreFruitful : List Call → Type 0
+AreFruitful calls = AllByRecursion (λ call. is_fruitless call ≡ false) calls
+
+-- each read gave bytes but the last, which was this one
+pub record EndsWith (last : Call) (calls : List Call) : Type 0 where
+  pub before : List Call
+  pub is : calls ≡ before ++ last ∷ []
+  pub fruitful : AreFruitful before
+
+-- the reads of a connection: one that fails is the last, and serving ends so; one that finds the end is the last
+abbrev pub ReadsOf : Result (Unit {0}) ServeFault → List Call → Type 0
+ReadsOf (Err Read) calls = EndsWith None calls
+ReadsOf _ calls = AreFruitful calls ⊎ EndsWith (Some []) calls
 
 -- P of the bytes of a connection that began with got: of all that may follow, or of got where it is all there was
 abbrev pub OfConnection : (List ℕ → Type 0) → List ℕ → Option (List ℕ) → Type 0
@@ -33,10 +60,11 @@ pub record Holding {S : Type 0} (machine : Machine S) (limits : Limits) (k : ℕ
   pub is : (more : List ℕ) → After machine limits k s (got ++ more) texts left u (held ++ more)
   pub written : now ≡ old ++ concat texts
 
--- no whole request waits, and no fault that no further bytes mend
+-- no whole request waits, and no fault that no further bytes mend; bytes that follow may make a request
 pub record NothingWaits (limits : Limits) (held : List ℕ) : Type 0 where
   pub request : (q : Message) (n : ℕ) → ¬ (IsFront limits held (whole q n))
   pub stop : (f : StopKind) → IsFinal f → ¬ (IsFront limits held (fault f))
+  pub hope : IsHopeful limits held
 
 -- a read failed: exactly the texts of the requests that came whole were written
 pub record ReadBroken {S : Type 0} (machine : Machine S) (limits : Limits) (k : ℕ) (s : S) (got old new : List ℕ) (t : S) : Type 0 where
@@ -58,14 +86,30 @@ pub record Left (limits : Limits) (k : ℕ) (got : List ℕ) (left : ℕ) (held 
   pub is : (more : List ℕ) → Past limits count (got ++ more) (held ++ more)
   pub fewer : left + count ≡ k
 
--- what was taken goes no further than the room past the start of the last request that was looked for, held being what
--- follows that start; and there was at most one read for each byte, and one more
-pub record Looked (limits : Limits) (k : ℕ) (got : List ℕ) (room reads_old reads_new : ℕ) : Type 0 where
+-- The read was made where more was needed: of k requests some may still come, nothing waits behind those before, and
+-- there was room for what it gave.
+pub record WasNeeded (limits : Limits) (k room : ℕ) (got : List ℕ) (call : Call) : Type 0 where
   pub left : ℕ
+  pub some : 0 < left
   pub held : List ℕ
   pub past : Left limits k got left held
+  pub waits : NothingWaits limits held
+  pub free : length held < room
+  pub fits : length held + length (call_bytes call) ≤ room
+
+-- so was each read of a connection
+abbrev pub EachWasNeeded : Limits → ℕ → ℕ → List Call → Type 0
+EachWasNeeded limits k room calls =
+    (before after : List Call) (call : Call) → calls ≡ before ++ call ∷ after → WasNeeded limits k room (all_bytes before) call
+
+-- what was taken goes no further than the room past the start of the last request that was looked for, held being what
+-- follows that start; and there was at most one read for each byte, and one more
+pub record IsBounded (limits : Limits) (k room : ℕ) (calls : List Call) : Type 0 where
+  pub left : ℕ
+  pub held : List ℕ
+  pub past : Left limits k (all_bytes calls) left held
   pub small : length held ≤ room
-  pub few : reads_new ≤ reads_old + length got + 1
+  pub few : length calls ≤ length (all_bytes calls) + 1
 
 -- how serving ended
 abbrev pub Outcome : {S : Type 0} → Result (Unit {0}) ServeFault → Machine S → Limits → ℕ → S → List ℕ → Option (List ℕ) → List ℕ → List ℕ → S → Type 0

@@ -1,9 +1,9 @@
 -- The broker's machine: it answers by the table of answers, from the lives of all instances.
-use Rattle.std.specs.Prelude.{true, not, Result, Ok, Err}
+use Rattle.std.specs.Prelude.{Bool, true, false, not, Result, Ok, Err}
 use Rattle.osb_catalog.specs.Rules.{Rules}
 use Rattle.osb_asks.specs.declared.ask.Ask.{Ask}
 use Rattle.osb_asks.specs.declared.ask_fault.AskFault.{AskFault}
-use Rattle.osb_asks.specs.Asks.{ask_of, is_early}
+use Rattle.osb_asks.specs.Asks.{ask_of, is_catalog, is_early}
 use Rattle.osb_orders.specs.Lives.{Lives}
 use Rattle.osb_machine.specs.Reaction.{Reaction}
 use Rattle.osb_machine.specs.Machine.{answer_to, after_step}
@@ -31,6 +31,11 @@ machine rules = record {
   step = λ lives q. step_for rules lives (ask_of rules q);
   takes_memory = λ q. not (is_early (ask_of rules q));
 }
+
+-- what can't be answered without the lives: an ask other than the catalog's
+abbrev pub needs_lives : Result Ask AskFault → Bool
+needs_lives (Ok ask) = not (is_catalog ask)
+needs_lives (Err fault) = false
 
 -- the lives after a request that is answered
 abbrev pub lives_after : Rules → Lives → Message → Lives

@@ -1,6 +1,6 @@
 //! The broker.
 
-ghost use Rattle.std.specs.Prelude.{◌≡◌, ◌≢◌, ◌≤◌, ◌+◌, ◌⊎◌, length, true, false, IfOk, IfErr, OnOk, OnErr, None, Ok};
+ghost use Rattle.std.specs.Prelude.{◌≡◌, ◌≢◌, ◌≤◌, ◌+◌, ◌⊎◌, length, true, false, IsTrue, IfOk, IfErr, OnOk, OnErr, None, Ok};
 ghost use Rattle.sqlite.specs.Held.{state};
 ghost use Rattle.sqlite.specs.Tree.{Trees};
 ghost use Rattle.sqlite.specs.State.{HasCleanDisk, Survives};
@@ -10,7 +10,7 @@ ghost use Rattle.osb_replies.specs.Parts.{parts, refused};
 ghost use Rattle.osb_replies.specs.Text.{reply_text};
 ghost use Rattle.osb_catalog.specs.Rules as catalog;
 ghost use Rattle.osb_catalog.specs.Sound.{AreSound};
-ghost use Rattle.osb_asks.specs.Asks.{ask_of, is_early};
+ghost use Rattle.osb_asks.specs.Asks.{ask_of, is_catalog, is_early};
 ghost use Rattle.osb_asks.specs.Worded.{IsWorded};
 ghost use Rattle.osb_orders.specs.Lives.{Lives, life_of};
 ghost use Rattle.osb_orders.specs.Facts.{facts, view_of};
@@ -25,7 +25,7 @@ ghost use Rattle.osb_machine.specs.Machine.{answer_to};
 ghost use Rattle.osb_machine.specs.Steps.{reaction};
 ghost use Rattle.osb_broker.specs.Machine.{Answered, Handled};
 ghost use Rattle.osb_broker.specs.Plans.{first_lacking, NamesLacking, OffersInUse, Tells};
-ghost use Rattle.osb_broker.specs.Steps.{step_of, step_for, lives_after, machine, crowded};
+ghost use Rattle.osb_broker.specs.Steps.{step_of, step_for, lives_after, machine, crowded, needs_lives};
 ghost use Rattle.osb_broker.specs.Prepared.{settled, IsSettleable, LastsSettled, Prepares};
 
 use crate::answer::{fault_answer, reply_to};
@@ -74,7 +74,7 @@ fn decide_by<'s>(
 }
 
 impl<'s, S: Alter> Broker<'s, S> {
-    ghost use Rattle.osb_broker.specs.Kept.{Works, lives_of, most_of, rules_of, store_of, answer_parts};
+    ghost use Rattle.osb_broker.specs.Kept.{IsShut, Works, lives_of, most_of, records_of, rules_of, store_of, answer_parts};
 
     /// A broker over these settings and records, which takes up to `per_connection` requests of a
     /// connection. Where the catalog lacks a plan that is in use, or the records can't be read, the
@@ -96,6 +96,7 @@ impl<'s, S: Alter> Broker<'s, S> {
         ensures in_use { IfErr result (λ fault. HasCleanDisk (state S.Store fault.1) → Tells fault.0 (first_lacking (catalog.rules_of settings.now) (plans_in_use (stored (state S.Store records))))) }
         ensures lacks { IfErr result (λ fault. NamesLacking (catalog.rules_of settings.now) fault.0) }
         ensures err { IfErr result (λ fault. Works (state S.Store fault.1) → stored (state S.Store fault.1) ≡ stored (state S.Store records)) }
+        ensures fault_works { IfErr result (λ fault. Works (state S.Store fault.1) → Works (state S.Store records)) }
         ensures crash { IfOk result (λ broker. Survives (state S.Store records) (store_of S.Store broker) (λ _. ⊥)) }
         ensures fault_crash { IfErr result (λ fault. Survives (state S.Store records) (state S.Store fault.1) (λ _. ⊥)) }
     {
@@ -113,6 +114,7 @@ impl<'s, S: Alter> Broker<'s, S> {
     /// The records, as the last reply left them. It takes no memory.
     #[tactic(auto, unfolding(crate::specs::Kept::lives_of))]
     pub fn into_records(self) -> Records<S>
+        ensures same { result ≡ records_of self.entry }
         ensures lives { stored (state S.Store result) ≡ lives_of S.Store self.entry }
         ensures works { Works (state S.Store result) → Works (store_of S.Store self.entry) }
         ensures crash { Survives (store_of S.Store self.entry) (state S.Store result) (λ _. ⊥) }
@@ -141,6 +143,7 @@ impl<'s, S: Alter> Broker<'s, S> {
     #[tactic(auto, unfolding(crate::specs::Kept::lives_of))]
     fn view(&mut self, ask: &Ask) -> Result<View, AllocError>
         ensures ok { HasCleanDisk (store_of S.Store self.new) → IfOk result (λ view. facts view ≡ view_of (lives_of S.Store self.old) ask.now) }
+        ensures open { HasCleanDisk (store_of S.Store self.new) → is_catalog ask.now ≡ false → OnOk result (IsTrue (store_of S.Store self.old).is_open) }
         ensures same { Works (store_of S.Store self.new) → lives_of S.Store self.new ≡ lives_of S.Store self.old }
         ensures works { Works (store_of S.Store self.new) → Works (store_of S.Store self.old) }
         ensures crash { Survives (store_of S.Store self.old) (store_of S.Store self.new) (λ _. ⊥) }
@@ -156,6 +159,7 @@ impl<'s, S: Alter> Broker<'s, S> {
     /// What the table has for an ask.
     fn decided(&mut self, ask: &Ask) -> Result<Step<'s>, AllocError>
         ensures ok { HasCleanDisk (store_of S.Store self.new) → IfOk result (λ step. reaction step ≡ answer_to (rules_of self.old) (lives_of S.Store self.old) ask.now) }
+        ensures open { HasCleanDisk (store_of S.Store self.new) → is_catalog ask.now ≡ false → OnOk result (IsTrue (store_of S.Store self.old).is_open) }
         ensures same { Works (store_of S.Store self.new) → lives_of S.Store self.new ≡ lives_of S.Store self.old }
         ensures works { Works (store_of S.Store self.new) → Works (store_of S.Store self.old) }
         ensures crash { Survives (store_of S.Store self.old) (store_of S.Store self.new) (λ _. ⊥) }
@@ -170,6 +174,7 @@ impl<'s, S: Alter> Broker<'s, S> {
     fn step(&mut self, ask: &Ask) -> Result<Prepared<'s>, AllocError>
         requires { IsWorded ask.now }
         ensures ok { Works (store_of S.Store self.old) → HasCleanDisk (store_of S.Store self.new) → IfOk result (λ prepared. Prepares (lives_of S.Store self.old) prepared (step_of (rules_of self.old) (lives_of S.Store self.old) ask.now)) }
+        ensures open { HasCleanDisk (store_of S.Store self.new) → is_catalog ask.now ≡ false → OnOk result (IsTrue (store_of S.Store self.old).is_open) }
         ensures same { Works (store_of S.Store self.new) → lives_of S.Store self.new ≡ lives_of S.Store self.old }
         ensures works { Works (store_of S.Store self.new) → Works (store_of S.Store self.old) }
         ensures crash { Survives (store_of S.Store self.old) (store_of S.Store self.new) (λ _. ⊥) }
@@ -189,6 +194,9 @@ impl<'s, S: Alter> Broker<'s, S> {
         ensures ok { Works (store_of S.Store self.old) → HasCleanDisk (store_of S.Store self.new) → IfOk result (λ prepared. Prepares (lives_of S.Store self.old) prepared (step_of (rules_of self.old) (lives_of S.Store self.old) ask.now)) }
         ensures quiet { IfOk result (λ prepared. is_early (Ok ask.now) ≡ true → prepared.pending ≡ None) }
         ensures late { OnErr result (is_early (Ok ask.now) ≡ false) }
+        ensures open { HasCleanDisk (store_of S.Store self.new) → is_catalog ask.now ≡ false → OnOk result (IsTrue (store_of S.Store self.old).is_open) }
+        ensures plain { is_catalog ask.now ≡ true → IfOk result (λ prepared. (lives : Lives) → Prepares lives prepared (step_of (rules_of self.old) lives ask.now)) }
+        ensures untouched { is_catalog ask.now ≡ true → records_of self.new ≡ records_of self.old }
         ensures same { Works (store_of S.Store self.new) → lives_of S.Store self.new ≡ lives_of S.Store self.old }
         ensures works { Works (store_of S.Store self.new) → Works (store_of S.Store self.old) }
         ensures crash { Survives (store_of S.Store self.old) (store_of S.Store self.new) (λ _. ⊥) }
@@ -221,6 +229,10 @@ impl<'s, S: Alter> Broker<'s, S> {
         ensures quiet { IfOk result (λ prepared.
             is_early (ask_of (rules_of self.old) (message request.now)) ≡ true → prepared.pending ≡ None) }
         ensures late { OnErr result (is_early (ask_of (rules_of self.old) (message request.now)) ≡ false) }
+        ensures open { HasCleanDisk (store_of S.Store self.new) → needs_lives (ask_of (rules_of self.old) (message request.now)) ≡ true → OnOk result (IsTrue (store_of S.Store self.old).is_open) }
+        ensures plain { needs_lives (ask_of (rules_of self.old) (message request.now)) ≡ false → IfOk result (λ prepared. (lives : Lives) → Prepares lives prepared (step_for (rules_of self.old) lives (ask_of (rules_of self.old) (message request.now)))) }
+        ensures untouched { needs_lives (ask_of (rules_of self.old) (message request.now)) ≡ false → records_of self.new ≡ records_of self.old }
+        ensures silent { needs_lives (ask_of (rules_of self.old) (message request.now)) ≡ false → IfOk result (λ prepared. prepared.pending ≡ None) }
         ensures kept { Works (store_of S.Store self.old) → KeepsLives (store_of S.Store self.old) (lives_of S.Store self.old) }
         ensures same { Works (store_of S.Store self.new) → lives_of S.Store self.new ≡ lives_of S.Store self.old }
         ensures works { Works (store_of S.Store self.new) → Works (store_of S.Store self.old) }
@@ -261,6 +273,7 @@ impl<'s, S: Alter> Broker<'s, S> {
         ensures ok { HasCleanDisk (store_of S.Store self.new) → OnOk result (lives_of S.Store self.new ≡ settled pending.now (lives_of S.Store self.old)) }
         ensures err { Works (store_of S.Store self.new) → OnErr result (lives_of S.Store self.new ≡ lives_of S.Store self.old) }
         ensures some { OnErr result (pending.now ≢ None) }
+        ensures untouched { pending.now ≡ None → records_of self.new ≡ records_of self.old }
         ensures works { Works (store_of S.Store self.new) → Works (store_of S.Store self.old) }
         ensures crash { Survives (store_of S.Store self.old) (store_of S.Store self.new) (Commits (store_of S.Store self.old) (settled pending.now (lives_of S.Store self.old))) }
         ensures lasts { HasCleanDisk (store_of S.Store self.new) → OnOk result ((db : Trees) → (store_of S.Store self.new).may_leave db → LastsSettled (store_of S.Store self.old) (lives_of S.Store self.old) pending.now db) }
@@ -280,6 +293,9 @@ impl<'s, S: Alter> Broker<'s, S> {
         ensures ok { Works (store_of S.Store self.new) → IfOk result (λ reply. Answered (machine (rules_of self.old)) (message request.now) last false (lives_of S.Store self.old) (parts reply) (lives_of S.Store self.new)) }
         ensures closes { IfOk result (λ reply. closes (message request.now) ≡ true → (parts reply).close ≡ true) }
         ensures late { OnErr result (is_early (ask_of (rules_of self.old) (message request.now)) ≡ false) }
+        ensures open { HasCleanDisk (store_of S.Store self.new) → needs_lives (ask_of (rules_of self.old) (message request.now)) ≡ true → OnOk result (IsTrue (store_of S.Store self.old).is_open) }
+        ensures plain { needs_lives (ask_of (rules_of self.old) (message request.now)) ≡ false → IfOk result (λ reply. (lives : Lives) → Answered (machine (rules_of self.old)) (message request.now) last false lives (parts reply) lives) }
+        ensures untouched { needs_lives (ask_of (rules_of self.old) (message request.now)) ≡ false → records_of self.new ≡ records_of self.old }
         ensures err { Works (store_of S.Store self.new) → OnErr result (lives_of S.Store self.new ≡ lives_of S.Store self.old) }
         ensures works { Works (store_of S.Store self.new) → Works (store_of S.Store self.old) }
         ensures crash { Survives (store_of S.Store self.old) (store_of S.Store self.new) (Commits (store_of S.Store self.old) (lives_after (rules_of self.old) (lives_of S.Store self.old) (message request.now))) }
@@ -303,6 +319,9 @@ impl<'s, S: Alter> Broker<'s, S> {
         ensures handled { Works (store_of S.Store self.new) → Handled (machine (rules_of self.old)) (message request.now) last (lives_of S.Store self.old) (parts result) (lives_of S.Store self.new) }
         ensures stays { Works (store_of S.Store self.new) → is_500 (parts result).status ≡ true → lives_of S.Store self.new ≡ lives_of S.Store self.old }
         ensures closes { closes (message request.now) ≡ true → (parts result).close ≡ true }
+        ensures plain { needs_lives (ask_of (rules_of self.old) (message request.now)) ≡ false → (lives : Lives) → Handled (machine (rules_of self.old)) (message request.now) last lives (parts result) lives }
+        ensures shut { HasCleanDisk (store_of S.Store self.new) → IsShut (store_of S.Store self.old) → needs_lives (ask_of (rules_of self.old) (message request.now)) ≡ true → parts result ≡ refused }
+        ensures untouched { needs_lives (ask_of (rules_of self.old) (message request.now)) ≡ false → records_of self.new ≡ records_of self.old }
         ensures works { Works (store_of S.Store self.new) → Works (store_of S.Store self.old) }
         ensures crash { Survives (store_of S.Store self.old) (store_of S.Store self.new) (Commits (store_of S.Store self.old) (lives_after (rules_of self.old) (lives_of S.Store self.old) (message request.now))) }
         ensures durable { Works (store_of S.Store self.old) → HasCleanDisk (store_of S.Store self.new) → parts result ≢ refused → LeavesOnly (store_of S.Store self.new) (lives_after (rules_of self.old) (lives_of S.Store self.old) (message request.now)) }
@@ -333,6 +352,7 @@ impl<'s, S: Alter> Broker<'s, S> {
         ensures room { OnOk result (length (reply_text (parts reply.now)) + spare ≤ W.room room.new) }
         ensures spare { OnErr result (spare ≤ W.room room.old → spare ≤ W.room room.new) }
         ensures taken { W.taken room.new ≡ W.taken room.old }
+        ensures untouched { pending.now ≡ None → records_of self.new ≡ records_of self.old }
         ensures most { most_of self.new ≡ most_of self.old }
         ensures rules { rules_of self.new ≡ rules_of self.old }
     {
@@ -359,6 +379,9 @@ impl<'s, S: Alter> Broker<'s, S> {
         ensures room { IfOk result (λ reply. length (reply_text (parts reply)) + spare ≤ W.room room.new) }
         ensures spare { OnErr result (spare ≤ W.room room.old → spare ≤ W.room room.new) }
         ensures taken { W.taken room.new ≡ W.taken room.old }
+        ensures open { HasCleanDisk (store_of S.Store self.new) → needs_lives (ask_of (rules_of self.old) (message request.now)) ≡ true → OnOk result (IsTrue (store_of S.Store self.old).is_open) }
+        ensures plain { needs_lives (ask_of (rules_of self.old) (message request.now)) ≡ false → IfOk result (λ reply. (lives : Lives) → Answered (machine (rules_of self.old)) (message request.now) last false lives (parts reply) lives) }
+        ensures untouched { needs_lives (ask_of (rules_of self.old) (message request.now)) ≡ false → records_of self.new ≡ records_of self.old }
         ensures most { most_of self.new ≡ most_of self.old }
         ensures rules { rules_of self.new ≡ rules_of self.old }
     {
@@ -380,6 +403,9 @@ impl<'s, S: Alter> Broker<'s, S> {
         's: 'a,
         ensures handled { Works (store_of S.Store self.new) → Handled (crowded (rules_of self.old)) (message request.now) last (lives_of S.Store self.old) (parts result) (lives_of S.Store self.new) }
         ensures stays { Works (store_of S.Store self.new) → is_500 (parts result).status ≡ true → lives_of S.Store self.new ≡ lives_of S.Store self.old }
+        ensures plain { needs_lives (ask_of (rules_of self.old) (message request.now)) ≡ false → (lives : Lives) → Handled (crowded (rules_of self.old)) (message request.now) last lives (parts result) lives }
+        ensures untouched { needs_lives (ask_of (rules_of self.old) (message request.now)) ≡ false → records_of self.new ≡ records_of self.old }
+        ensures shut { HasCleanDisk (store_of S.Store self.new) → IsShut (store_of S.Store self.old) → needs_lives (ask_of (rules_of self.old) (message request.now)) ≡ true → parts result ≡ refused }
         ensures works { Works (store_of S.Store self.new) → Works (store_of S.Store self.old) }
         ensures crash { Survives (store_of S.Store self.old) (store_of S.Store self.new) (Commits (store_of S.Store self.old) (lives_after (rules_of self.old) (lives_of S.Store self.old) (message request.now))) }
         ensures durable { Works (store_of S.Store self.old) → HasCleanDisk (store_of S.Store self.new) → parts result ≢ refused → LeavesOnly (store_of S.Store self.new) (lives_after (rules_of self.old) (lives_of S.Store self.old) (message request.now)) }
@@ -410,6 +436,9 @@ impl<'s, S: Alter> Broker<'s, S> {
         's: 'a,
         ensures handled { Works (store_of S.Store self.new) → Handled (crowded (rules_of self.old)) (message request.now) last (lives_of S.Store self.old) (parts result) (lives_of S.Store self.new) }
         ensures stays { Works (store_of S.Store self.new) → is_500 (parts result).status ≡ true → lives_of S.Store self.new ≡ lives_of S.Store self.old }
+        ensures plain { needs_lives (ask_of (rules_of self.old) (message request.now)) ≡ false → (lives : Lives) → Handled (crowded (rules_of self.old)) (message request.now) last lives (parts result) lives }
+        ensures untouched { needs_lives (ask_of (rules_of self.old) (message request.now)) ≡ false → records_of self.new ≡ records_of self.old }
+        ensures shut { HasCleanDisk (store_of S.Store self.new) → IsShut (store_of S.Store self.old) → needs_lives (ask_of (rules_of self.old) (message request.now)) ≡ true → parts result ≡ refused }
         ensures works { Works (store_of S.Store self.new) → Works (store_of S.Store self.old) }
         ensures crash { Survives (store_of S.Store self.old) (store_of S.Store self.new) (Commits (store_of S.Store self.old) (lives_after (rules_of self.old) (lives_of S.Store self.old) (message request.now))) }
         ensures durable { Works (store_of S.Store self.old) → HasCleanDisk (store_of S.Store self.new) → parts result ≢ refused → LeavesOnly (store_of S.Store self.new) (lives_after (rules_of self.old) (lives_of S.Store self.old) (message request.now)) }

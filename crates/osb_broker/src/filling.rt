@@ -1,6 +1,6 @@
 //! The front of the room that a connection is read into.
 
-ghost use Rattle.std.specs.Prelude.{◌≡◌, ◌<◌, ◌≤◌, ◌+◌, ◌-◌, ◌++◌, length, take, drop, IfOk, MatchResult};
+ghost use Rattle.std.specs.Prelude.{◌≡◌, ◌<◌, ◌≤◌, ◌+◌, ◌-◌, [], ◌∷◌, ◌++◌, Some, None, length, take, drop, IfOk, MatchResult};
 ghost use Rattle.std.specs.Io.KnownBytes.{Consumes, IsAtEnd, Keeps};
 
 use osb_frames::Source;
@@ -11,9 +11,9 @@ pub(crate) fn fill<R: Source>(source: &mut R, room: &mut [u8], filled: usize) ->
     requires { filled < length room.old }
     ensures kept { take filled room.new ≡ take filled room.old }
     ensures bound { IfOk result (λ n. filled + n ≤ length room.old) }
-    ensures given { MatchResult result
-        (λ n. R.given source.new ≡ R.given source.old ++ take n (drop filled room.new))
-        (λ _. R.given source.new ≡ R.given source.old) }
+    ensures called { MatchResult result
+        (λ n. R.calls source.new ≡ R.calls source.old ++ Some (take n (drop filled room.new)) ∷ [])
+        (λ _. R.calls source.new ≡ R.calls source.old ++ None ∷ []) }
     ensures known { MatchResult result
         (λ n. Consumes (R.rest source.old) (R.rest source.new) (take n (drop filled room.new))
         × (n ≡ 0 → IsAtEnd (R.rest source.new)))
@@ -21,7 +21,6 @@ pub(crate) fn fill<R: Source>(source: &mut R, room: &mut [u8], filled: usize) ->
     ensures failed { MatchResult result
         (λ _. R.failures source.new ≡ R.failures source.old)
         (λ _. R.failures source.new ≡ R.failures source.old + 1) }
-    ensures counted { R.reads source.new ≡ R.reads source.old + 1 }
 {
     source.read(&mut room[filled..])
 }

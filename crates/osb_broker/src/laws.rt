@@ -1,14 +1,17 @@
 //! What the definitions say of every connection.
 
-ghost use Rattle.std.specs.Prelude.{◌≡◌, [], ◌∷◌, ◌++◌, ℕ, List, Bool};
+ghost use Rattle.std.specs.Prelude.{◌≡◌, [], ◌∷◌, ◌++◌, ℕ, List, Bool, Result};
 ghost use Rattle.osb_frames.specs.declared.limits.Limits.{Limits};
+ghost use Rattle.osb_frames.specs.Calls.{Call};
 ghost use Rattle.osb_frames.specs.Cuts.{Message, End, Cuts};
 ghost use Rattle.osb_broker.specs.Machine.{Machine};
 ghost use Rattle.osb_orders.specs.Lives.{Lives};
 ghost use Rattle.osb_broker.specs.Connection.{ConnectionText, Run};
 ghost use Rattle.osb_catalog.specs.Rules.{Rules};
 ghost use Rattle.osb_laws.specs.AskedAgain.{AskedAgainStays};
+ghost use Rattle.osb_broker.specs.declared.fault.ServeFault.{ServeFault};
 ghost use Rattle.osb_broker.specs.Laws.{texts_of};
+ghost use Rattle.osb_broker.specs.Serving.{EachWasNeeded, IsBounded, ReadsOf};
 ghost use Rattle.osb_broker.specs.Steps.{machine, crowded};
 ghost use Rattle.osb_broker.specs.Refusals.{NeverFails, FailuresStay, MarksShow, OutputShowsAll, OutputsShowAll};
 ghost use Rattle.osb_broker.specs.Resend.{RepeatsActOnce, LeadsToOne, RunsKeepLives};
@@ -35,6 +38,14 @@ pub fn runs_go_on()
         (bytes : List ℕ) (more : List Bool) (texts : List (List ℕ)) (u : Lives) →
         Run machine limits k s connections marks outputs t → ConnectionText machine limits k t bytes more texts u →
         Run machine limits k s (connections ++ bytes ∷ []) (marks ++ more ∷ []) (outputs ++ texts ∷ []) u }
+{}
+
+/// What is said of each read of a connection bounds them all: no more is taken than a head and a body
+/// past the start of the last request that was looked for, in at most one read for each byte and one
+/// more.
+pub fn reads_are_bounded()
+    ensures { (limits : Limits) (k room : ℕ) (result : Result (Unit {0}) ServeFault) (calls : List Call) →
+        ReadsOf result calls → EachWasNeeded limits k room calls → IsBounded limits k room calls }
 {}
 
 /// The broker answers nothing with the status 500 but a request that met a refusal of memory or of

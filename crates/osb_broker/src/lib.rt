@@ -23,6 +23,7 @@ pub use broker::Broker;
 pub use buffer::Buffer;
 pub use fault::{NewFault, ServeFault};
 pub use laws::{
-    apart, histories, never_fails, refusals_show, resend, runs_go_on, texts_are_of_the_cut,
+    apart, histories, never_fails, reads_are_bounded, refusals_show, resend, runs_go_on,
+    texts_are_of_the_cut,
 };
 pub use rooms::Room;

@@ -1,25 +1,27 @@
 //! The broker over records in memory, where no disk fails and the store stays open: what it says
 //! holds without a premise.
 
-ghost use Rattle.std.specs.Prelude.{◌≡◌, ◌≤◌, ◌+◌, ◌⊎◌, ℕ, true, List, length, map, vec_items, IfOk, IfErr, OnOk, OnErr, IfSome};
+ghost use Rattle.std.specs.Prelude.{◌≡◌, ◌≤◌, ◌<◌, ◌+◌, ◌⊎◌, ℕ, true, false, List, length, map, vec_items, IfOk, IfErr, OnOk, OnErr, IfSome, IsTrue};
 ghost use Rattle.sqlite.specs.Held.{state};
 ghost use Rattle.sqlite.specs.Steps.{over_memory};
 ghost use Rattle.osb_frames.specs.declared.limits.Limits.{Limits};
+ghost use Rattle.osb_frames.specs.Calls.{Call, all_bytes};
 ghost use Rattle.osb_frames.specs.Steps.{message};
 ghost use Rattle.osb_replies.specs.Parts.{parts, refused};
 ghost use Rattle.osb_replies.specs.Text.{reply_text};
 ghost use Rattle.osb_catalog.specs.Rules as catalog;
+ghost use Rattle.osb_asks.specs.Asks.{ask_of};
 ghost use Rattle.osb_audit.specs.Plans.{plans_in_use};
 ghost use Rattle.osb_records.specs.Steps.{stored};
 ghost use Rattle.osb_laws.specs.Failures.{is_500};
-ghost use Rattle.osb_broker.specs.Kept.{lives_of, most_of, rules_of};
+ghost use Rattle.osb_broker.specs.Kept.{lives_of, most_of, records_of, rules_of};
 ghost use Rattle.osb_broker.specs.Machine.{Handled};
 ghost use Rattle.osb_broker.specs.Once.{ServedOnce};
 ghost use Rattle.osb_broker.specs.Plans.{first_lacking, NamesLacking, OffersInUse, Tells};
-ghost use Rattle.osb_broker.specs.Room.{limits_of};
+ghost use Rattle.osb_broker.specs.Room.{limits_of, met_fault};
 ghost use Rattle.osb_broker.specs.Served.{Served, AreStandard, RunServed};
-ghost use Rattle.osb_broker.specs.Serving.{Gave, Outcome};
-ghost use Rattle.osb_broker.specs.Steps.{machine, crowded};
+ghost use Rattle.osb_broker.specs.Serving.{HasCause, EachWasNeeded, EndsAtFault, Gave, Outcome, ReadsOf, WritesOf};
+ghost use Rattle.osb_broker.specs.Steps.{machine, crowded, needs_lives};
 
 use crate::broker::Broker;
 use crate::buffer::Buffer;
@@ -60,6 +62,7 @@ pub fn handle<'s: 'a, 'a>(
 ) -> Reply<'a>
     ensures handled { Handled (machine (rules_of broker.old)) (message request.now) last (lives_of over_memory broker.old) (parts result) (lives_of over_memory broker.new) }
     ensures stays { is_500 (parts result).status ≡ true → lives_of over_memory broker.new ≡ lives_of over_memory broker.old }
+    ensures untouched { needs_lives (ask_of (rules_of broker.old) (message request.now)) ≡ false → records_of broker.new ≡ records_of broker.old }
     ensures most { most_of broker.new ≡ most_of broker.old }
     ensures rules { rules_of broker.new ≡ rules_of broker.old }
 {
@@ -75,6 +78,7 @@ pub fn answer<'s: 'a, 'a, W: Room>(
 ) -> Reply<'a>
     ensures handled { Handled (crowded (rules_of broker.old)) (message request.now) last (lives_of over_memory broker.old) (parts result) (lives_of over_memory broker.new) }
     ensures stays { is_500 (parts result).status ≡ true → lives_of over_memory broker.new ≡ lives_of over_memory broker.old }
+    ensures untouched { needs_lives (ask_of (rules_of broker.old) (message request.now)) ≡ false → records_of broker.new ≡ records_of broker.old }
     ensures room { (parts result ≡ refused) ⊎ (length (reply_text (parts result)) ≤ W.room room.new) }
     ensures taken { W.taken room.new ≡ W.taken room.old }
     ensures most { most_of broker.new ≡ most_of broker.old }
@@ -93,10 +97,15 @@ pub fn serve<R: Source, W: Sink>(
     ensures most { most_of broker.new ≡ most_of broker.old }
     ensures rules { rules_of broker.new ≡ rules_of broker.old }
     ensures limits { limits_of buffer.new ≡ limits_of buffer.old }
+    ensures met_fault { OnOk result (IsTrue (met_fault buffer.new) → EndsAtFault (W.taken sink.new)) }
     ensures ok { OnOk result (IfSome (R.rest source.old) (λ all.
         Served (machine (rules_of broker.old)) (limits_of buffer.old) (most_of broker.old) (lives_of over_memory broker.old) all (W.taken sink.old) (W.taken sink.new) (lives_of over_memory broker.new))) }
-    ensures outcome { (got : List ℕ) × Gave (R.given source.old) (R.given source.new) (R.rest source.old) (R.rest source.new) got
-        × Outcome result (machine (rules_of broker.old)) (limits_of buffer.old) (most_of broker.old) (lives_of over_memory broker.old) got (R.rest source.new) (W.taken sink.old) (W.taken sink.new) (lives_of over_memory broker.new) }
+    ensures cause { HasCause result (R.failures source.old < R.failures source.new) (W.fruitless sink.old < W.fruitless sink.new) }
+    ensures wrote { WritesOf result (W.fruitless sink.old) (W.fruitless sink.new) }
+    ensures outcome { (calls : List Call) × Gave (R.calls source.old) (R.calls source.new) (R.rest source.old) (R.rest source.new) calls
+        × ReadsOf result calls
+        × EachWasNeeded (limits_of buffer.old) (most_of broker.old) ((limits_of buffer.old).head + (limits_of buffer.old).body) calls
+        × Outcome result (machine (rules_of broker.old)) (limits_of buffer.old) (most_of broker.old) (lives_of over_memory broker.old) (all_bytes calls) (R.rest source.new) (W.taken sink.old) (W.taken sink.new) (lives_of over_memory broker.new) }
 {
     broker.serve(buffer, source, sink)
 }

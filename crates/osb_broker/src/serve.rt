@@ -1,25 +1,26 @@
 //! One connection after another, each read in pieces.
 
-ghost use Rattle.std.specs.Prelude.{◌≡◌, ◌<◌, ◌≤◌, ◌+◌, ℕ, List, length, false, IfOk, OnOk, OnErr, IfSome};
+ghost use Rattle.std.specs.Prelude.{◌≡◌, ◌<◌, ◌≤◌, ◌+◌, ℕ, List, length, false, IfOk, OnOk, OnErr, IfSome, IsFalse, IsTrue};
+ghost use Rattle.osb_frames.specs.Calls.{Call, all_bytes};
 ghost use Rattle.osb_frames.specs.Cuts.{closes};
 ghost use Rattle.osb_frames.specs.Steps.{message};
 ghost use Rattle.osb_broker.specs.Steps.{machine};
 ghost use Rattle.osb_broker.specs.Answering.{Answers};
 ghost use Rattle.osb_broker.specs.Served.{Served};
-ghost use Rattle.osb_broker.specs.Serving.{HasCause, Gave, Looked, Outcome};
+ghost use Rattle.osb_broker.specs.Serving.{HasCause, EachWasNeeded, EndsAtFault, Gave, Outcome, ReadsOf, WritesOf};
 
 use crate::broker::Broker;
 use crate::buffer::Buffer;
 use crate::fault::ServeFault;
 use crate::filling::{fill, shift};
 use crate::refuse::refuse;
-use osb_frames::{Limits, Request, Sink, Source, Step, next};
+use osb_frames::{Limits, Request, Sink, Source, Step, next_at_once};
 use osb_replies::{WriteFault, write_reply};
 use sqlite::Alter;
 
 impl<S: Alter> Broker<'_, S> {
     ghost use Rattle.osb_broker.specs.Kept.{Works, lives_of, most_of, rules_of, store_of};
-    ghost use Rattle.osb_broker.specs.Room.{limits_of};
+    ghost use Rattle.osb_broker.specs.Room.{limits_of, met_fault};
 
     /// Handles a request and writes its reply. Whether the connection closes.
     fn reply_to<W: Sink>(
@@ -43,28 +44,32 @@ impl<S: Alter> Broker<'_, S> {
         Ok(close)
     }
 
-    /// Serves a connection in a room for a head and a body.
+    /// Serves a connection in a room for a head and a body, and says whether it ended at a framing fault.
     fn serve_in<R: Source, W: Sink>(
         &mut self,
         room: &mut [u8],
         limits: &Limits,
+        met_fault: &mut bool,
         source: &mut R,
         sink: &mut W,
     ) -> Result<(), ServeFault>
         requires { limits.now.head + limits.now.body ≤ length room.old }
+        ensures met_fault { IsFalse met_fault.old → OnOk result (IsTrue met_fault.new → EndsAtFault (W.taken sink.new)) }
         ensures most { most_of self.new ≡ most_of self.old }
         ensures rules { rules_of self.new ≡ rules_of self.old }
         ensures cause { HasCause result (R.failures source.old < R.failures source.new) (W.fruitless sink.old < W.fruitless sink.new) }
         ensures works { Works (store_of S.Store self.new) → Works (store_of S.Store self.old) }
-        ensures outcome { (got : List ℕ) × Gave (R.given source.old) (R.given source.new) (R.rest source.old) (R.rest source.new) got
-            × Looked limits.now (most_of self.old) got (length room.old) (R.reads source.old) (R.reads source.new)
-            × (Works (store_of S.Store self.new) → Outcome result (machine (rules_of self.old)) limits.now (most_of self.old) (lives_of S.Store self.old) got (R.rest source.new) (W.taken sink.old) (W.taken sink.new) (lives_of S.Store self.new)) }
+        ensures wrote { WritesOf result (W.fruitless sink.old) (W.fruitless sink.new) }
+        ensures outcome { (calls : List Call) × Gave (R.calls source.old) (R.calls source.new) (R.rest source.old) (R.rest source.new) calls
+            × ReadsOf result calls
+            × EachWasNeeded limits.now (most_of self.old) (length room.old) calls
+            × (Works (store_of S.Store self.new) → Outcome result (machine (rules_of self.old)) limits.now (most_of self.old) (lives_of S.Store self.old) (all_bytes calls) (R.rest source.new) (W.taken sink.old) (W.taken sink.new) (lives_of S.Store self.new)) }
     {
         let mut filled = 0;
         let mut ended = false;
         let mut left = self.per_connection;
         while left > 0 {
-            match next(&room[..filled], ended, limits) {
+            match next_at_once(&room[..filled], ended, limits) {
                 Step::Whole(request, used) => {
                     left -= 1;
                     match self.reply_to(&request, left == 0, sink) {
@@ -76,6 +81,7 @@ impl<S: Alter> Broker<'_, S> {
                     filled -= used;
                 }
                 Step::Stop(kind) => {
+                    *met_fault = true;
                     return match refuse(sink, kind) {
                         Ok(()) => Ok(()),
                         Err(_) => Err(ServeFault::Write),
@@ -112,6 +118,7 @@ impl<S: Alter> Broker<'_, S> {
         ensures most { most_of self.new ≡ most_of self.old }
         ensures rules { rules_of self.new ≡ rules_of self.old }
         ensures limits { limits_of buffer.new ≡ limits_of buffer.old }
+        ensures met_fault { OnOk result (IsTrue (met_fault buffer.new) → EndsAtFault (W.taken sink.new)) }
 
         // What is written is the texts of the connection, whatever pieces it came in.
         ensures ok { Works (store_of S.Store self.new) → OnOk result (IfSome (R.rest source.old) (λ all.
@@ -120,11 +127,24 @@ impl<S: Alter> Broker<'_, S> {
 
         // A fault has its cause in this call, and leaves a prefix.
         ensures cause { HasCause result (R.failures source.old < R.failures source.new) (W.fruitless sink.old < W.fruitless sink.new) }
-        ensures outcome { (got : List ℕ) × Gave (R.given source.old) (R.given source.new) (R.rest source.old) (R.rest source.new) got
-            × Looked (limits_of buffer.old) (most_of self.old) got ((limits_of buffer.old).head + (limits_of buffer.old).body) (R.reads source.old) (R.reads source.new)
-            × (Works (store_of S.Store self.new) → Outcome result (machine (rules_of self.old)) (limits_of buffer.old) (most_of self.old) (lives_of S.Store self.old) got (R.rest source.new) (W.taken sink.old) (W.taken sink.new) (lives_of S.Store self.new)) }
+        ensures wrote { WritesOf result (W.fruitless sink.old) (W.fruitless sink.new) }
+
+        // A read that fails or finds the end is the last one, and each was made where more was needed.
+        ensures outcome { (calls : List Call) × Gave (R.calls source.old) (R.calls source.new) (R.rest source.old) (R.rest source.new) calls
+            × ReadsOf result calls
+            × EachWasNeeded (limits_of buffer.old) (most_of self.old) ((limits_of buffer.old).head + (limits_of buffer.old).body) calls
+            × (Works (store_of S.Store self.new) → Outcome result (machine (rules_of self.old)) (limits_of buffer.old) (most_of self.old) (lives_of S.Store self.old) (all_bytes calls) (R.rest source.new) (W.taken sink.old) (W.taken sink.new) (lives_of S.Store self.new)) }
     {
         let limits = buffer.limits;
-        self.serve_in(buffer.room.as_mut_slice(), &limits, source, sink)
+        let mut met_fault = false;
+        let served = self.serve_in(
+            buffer.room.as_mut_slice(),
+            &limits,
+            &mut met_fault,
+            source,
+            sink,
+        );
+        buffer.met_fault = met_fault;
+        served
     }
 }

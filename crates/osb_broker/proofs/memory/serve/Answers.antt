@@ -7,4 +7,4 @@ returns-clause-ok g c = c.serve.ensures.ok (memory_works c.serve.new.self)
 pub returns-clause-outcome : goal.returns-clause-outcome
 returns-clause-outcome g c =
     let told = c.serve.ensures.outcome in
-    (told.0, told.1, told.3 (memory_works c.serve.new.self))
+    (told.0, told.1, told.2, told.3, told.4 (memory_works c.serve.new.self))

@@ -24,3 +24,9 @@ returns-in-Err-clause-handled g c works = (true, (refl, refl, c.in-Err.ensures.e
 
 pub returns-in-Err-clause-room : goal.returns-in-Err-clause-room
 returns-in-Err-clause-room g c = inl refl
+
+pub returns-in-Ok-clause-plain : goal.returns-in-Ok-clause-plain
+returns-in-Ok-clause-plain g c plain lives = (false, c.in-Ok.ensures.plain plain lives)
+
+pub returns-in-Err-clause-plain : goal.returns-in-Err-clause-plain
+returns-in-Err-clause-plain g c plain lives = (true, (refl, refl, refl))

@@ -12,3 +12,6 @@ pub returns-in-Ok-clause-stays : goal.returns-in-Ok-clause-stays
 returns-in-Ok-clause-stays g c works is =
     failures_stay (machine (rules_of c.args.self.now)) (c.never_fails.ensures.machine (rules_of c.args.self.now)) (message c.args.request.now) c.args.last (lives_of g.S.Store c.args.self.now) _ (lives_of g.S.Store c.replied.new.self)
     (false, c.in-Ok.ensures.ok works) is
+
+pub returns-in-Err-clause-plain : goal.returns-in-Err-clause-plain
+returns-in-Err-clause-plain g c plain lives = (true, (ap not c.in-Err.ensures.late, refl, refl))

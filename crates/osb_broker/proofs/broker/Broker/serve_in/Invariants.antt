@@ -1,8 +1,10 @@
-use Rattle.std.proofs.Common.{◌≡◌, ◌≤◌, ◌+◌, ◌-◌, ◌*◌, List, ℕ, true, cond, length, take}
+use Rattle.std.proofs.Common.{◌≡◌, ◌≤◌, ◌+◌, ◌-◌, ◌*◌, List, true, cond, length, take}
 use Rattle.std.specs.Io.KnownBytes.{IsAtEnd}
+use Rattle.osb_frames.specs.Calls.{Call, all_bytes}
 use Rattle.osb_broker.specs.Steps.{machine}
 use Rattle.osb_broker.specs.Kept.{Works, lives_of, most_of, rules_of, store_of}
-use Rattle.osb_broker.specs.Serving.{Gave, Holding, Left}
+use Rattle.osb_broker.specs.Serving.{EachWasNeeded, Gave, Holding, Left}
+use Rattle.osb_broker.proofs.ReadLemmas.{SoFar}
 use Rattle.osb_broker.proofs.broker.Broker.serve_in.Given as goal
 
 abbrev pub decreases-loop-left : goal.decreases-loop-left
@@ -18,10 +20,12 @@ invariant-loop-left g l =
       kept : sink.fruitless l.sink ≡ sink.fruitless l.fn.sink;
       failed : source.failures l.source ≡ source.failures l.fn.source;
       inside : l.filled ≤ length l.room;
+      met : l.met_fault ≡ l.fn.met_fault;
       over : l.ended ≡ true → IsAtEnd (source.rest l.source);
       works : Works (store_of g.S.Store l.self) → Works (store_of g.S.Store l.fn.self);
-      holding : (got : List ℕ) × Gave (source.given l.fn.source) (source.given l.source) (source.rest l.fn.source) (source.rest l.source) got
-          × Left l.limits (most_of l.fn.self) got l.left (take l.filled l.room)
-          × (Works (store_of g.S.Store l.self) → Holding (machine (rules_of l.fn.self)) l.limits (most_of l.fn.self) (lives_of g.S.Store l.fn.self) got (sink.taken l.fn.sink) l.left (sink.taken l.sink) (lives_of g.S.Store l.self) (take l.filled l.room))
-          × (source.reads l.source ≤ source.reads l.fn.source + length got + cond l.ended 1 0);
+      holding : (calls : List Call) × Gave (source.calls l.fn.source) (source.calls l.source) (source.rest l.fn.source) (source.rest l.source) calls
+          × Left l.limits (most_of l.fn.self) (all_bytes calls) l.left (take l.filled l.room)
+          × (Works (store_of g.S.Store l.self) → Holding (machine (rules_of l.fn.self)) l.limits (most_of l.fn.self) (lives_of g.S.Store l.fn.self) (all_bytes calls) (sink.taken l.fn.sink) l.left (sink.taken l.sink) (lives_of g.S.Store l.self) (take l.filled l.room))
+          × SoFar l.ended calls
+          × EachWasNeeded l.limits (most_of l.fn.self) (length l.fn.room) calls;
     }
