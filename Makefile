@@ -27,6 +27,7 @@ test:
 	cp crates/osb_program/out/osb_program osb-broker
 	python3 tests/program.py ./osb-broker
 	python3 tests/served.py ./osb-broker
+	python3 tests/clients.py ./osb-broker
 	python3 tests/database.py ./osb-broker
 	python3 tests/killed.py ./osb-broker
 	python3 tests/refused.py ./osb-broker

@@ -113,6 +113,35 @@ ASYNC_BINDING = [
     ("DELETE", I + LEAVE, "", 202, operation("delete-4")),
 ]
 
+LARGE = '{"text":"' + "x" * 199_989 + '"}'
+
+
+def with_parameters(body, parameters):
+    return f'{body[:-1]},"parameters":{parameters}}}'
+
+
+LARGE_SYNC = with_parameters(SYNC, LARGE)
+LARGE_ASYNC = with_parameters(ASYNC, LARGE)
+FETCHED_LARGE = f'{{"parameters":{LARGE},"plan_id":"p-async","service_id":"svc"}}'
+
+LARGE_PARAMETERS = [
+    ("PUT", I + LATER, LARGE_ASYNC, 202, operation("create-1")),
+    ("PUT", I + LATER, LARGE_ASYNC, 202, operation("create-1")),
+    (
+        "GET",
+        "/backend/v1/orders",
+        "",
+        200,
+        '{"orders":[{"instance_id":"i","kind":"create","maintenance_version":"1.2.0",'
+        f'"organization_guid":"o","parameters":{LARGE},"plan_id":"p-async","seq":1,'
+        '"service_id":"svc","space_guid":"s"}]}',
+    ),
+    ("PUT", REPORT + "1", SUCCEEDED, 200, "{}"),
+    ("GET", I, "", 200, FETCHED_LARGE),
+    ("PUT", I + LATER, LARGE_ASYNC, 200, "{}"),
+    ("PUT", I + LATER, ASYNC, 409, "{}"),
+]
+
 SYNC_BINDING = [
     ("PUT", I, SYNC, 201, "{}"),
     ("PUT", B, SYNC_BIND, 201, MEMORY_1),
@@ -130,4 +159,5 @@ CONVERSATIONS = {
     "update_failed": UPDATE_FAILED,
     "async_binding": ASYNC_BINDING,
     "sync_binding": SYNC_BINDING,
+    "large_parameters": LARGE_PARAMETERS,
 }

@@ -9,18 +9,21 @@ import json
 import os
 import shutil
 import sqlite3
+import stat
 import subprocess
 import sys
 import tempfile
 
 from conversations import ASYNC, B, BIND, I, LATER, LEAVE, REPORT, SUCCEEDED, SYNC, SYNC_LEAVE
-from conversations import operation, reply, request
+from conversations import FETCHED_LARGE, LARGE_PARAMETERS, operation, reply, request
+from refused import REFUSED as NO_ROOM
 from serving import SETTINGS, Serving, new_database, tell
 
 R = I[:-1] + "r"
 G = I[:-1] + "g"
 CREDENTIALS = '{"state":"succeeded","credentials":{"k":"v"}}'
 IN_PROGRESS = '{"state":"in progress"}'
+FETCHED = '{"parameters":{},"plan_id":"p-sync","service_id":"svc"}'
 
 # An instance with a binding, one whose creation runs, and one that is gone.
 BEGUN = [
@@ -126,11 +129,11 @@ def copied(path, folder):
     return copy
 
 
-def starts(program, database, settings=SETTINGS, listen="127.0.0.1:0"):
+def starts(program, database, settings=SETTINGS, listen="127.0.0.1:0", cwd=None):
     """How the program ends that can't serve over this database."""
     words = ["--settings", settings, "--database", database, "--listen", listen]
     try:
-        ended = subprocess.run([program, "serve", *words], capture_output=True, timeout=10)
+        ended = subprocess.run([program, "serve", *words], capture_output=True, timeout=10, cwd=cwd)
         return ended.returncode, ended.stdout, ended.stderr
     except subprocess.TimeoutExpired:
         return "it serves"
@@ -321,7 +324,8 @@ def try_others(program, folder):
     yield "a folder", starts(program, folder), REFUSED
     yield "a folder that isn't there", starts(program, os.path.join(folder, "no", "file")), REFUSED
     yield "no name", starts(program, ""), REFUSED
-    yield "in memory", starts(program, ":memory:"), REFUSED
+    yield "in memory", starts(program, ":memory:", cwd=folder), REFUSED
+    yield "no file for it", os.path.exists(os.path.join(folder, ":memory:")), False
     for content in [b"no database\n", b"SQLite format 3\x00" + bytes(5000)]:
         path = new_database(folder)
         with open(path, "wb") as file:
@@ -333,6 +337,148 @@ def try_others(program, folder):
     open(path, "wb").close()
     with Serving(program, path) as serving:
         yield from goes(serving, BEGUN)
+
+
+def modes(path):
+    return [stat.S_IMODE(os.stat(path + ending).st_mode) for ending in ("", "-wal")]
+
+
+def try_modes(program, folder):
+    """A new file and its log are for their owner alone. One that is there keeps its mode, and its log has it."""
+    path = new_database(folder)
+    made = ("PUT", I, SYNC, 201, "{}")
+    with Serving(program, path, preexec_fn=lambda: os.umask(0o022)) as serving:
+        yield "the modes of a new file", modes(path), [0o600, 0o600]
+        yield from goes(serving, [made])
+    yield "the modes behind a change", modes(path), [0o600, 0o600]
+    path = new_database(folder)
+    open(path, "wb").close()
+    os.chmod(path, 0o640)
+    with Serving(program, path, preexec_fn=lambda: os.umask(0)) as serving:
+        yield from goes(serving, [made])
+        yield "the modes of a file that was there", modes(path), [0o640, 0o640]
+
+
+def replaced(path):
+    shutil.copy(path, path + ".copy")
+    os.replace(path + ".copy", path)
+
+
+def renamed_folder(path):
+    folder = os.path.dirname(path)
+    os.rename(folder, folder + ".old")
+
+
+# What is done to the file while the program runs.
+TAKEN_AWAY = {
+    "removed": os.remove,
+    "replaced by a copy": replaced,
+    "renamed": lambda path: os.rename(path, path + ".old"),
+    "in a folder that is renamed": renamed_folder,
+}
+
+
+def unanswered(serving, sent):
+    """What is read of a connection that may be ended in any way."""
+    try:
+        return serving.sends(sent)
+    except ConnectionError:
+        return b""
+
+
+def how_it_ended(serving):
+    """The status and the lines on standard error of a program that ends by itself."""
+    try:
+        status, _, errors = serving.ended(10)
+        return status, errors
+    except subprocess.TimeoutExpired:
+        return "it serves"
+
+
+def try_taken_away(program, folder):
+    """The program ends before it answers over a file that isn't at its name any more."""
+    again = ("PUT", I, SYNC, 200, "{}")
+    for name, take in TAKEN_AWAY.items():
+        path = new_database(folder)
+        with Serving(program, path) as serving:
+            yield from goes(serving, [("PUT", I, SYNC, 201, "{}")])
+            # It is the same file, whatever its times and its mode are.
+            os.utime(path, (0, 0))
+            os.chmod(path, 0o640)
+            os.rename(path, path + ".aside")
+            os.rename(path + ".aside", path)
+            yield from goes(serving, [again])
+            take(path)
+            yield f"{name}: a reply", unanswered(serving, request(*again[:3])), b""
+            yield name, how_it_ended(serving), (1, b"database: 1 Refused\n")
+
+
+def try_large(program, folder):
+    """Parameters of 200,000 bytes are found again at the next start."""
+    path = new_database(folder)
+    with Serving(program, path) as serving:
+        yield from goes(serving, LARGE_PARAMETERS[:2])
+    with Serving(program, path) as serving:
+        yield from goes(serving, LARGE_PARAMETERS[2:])
+    with Serving(program, path) as serving:
+        yield from goes(serving, [("GET", I, "", 200, FETCHED_LARGE)])
+    yield "its integrity", integrity(copied(path, folder)), {"ok"}
+
+
+@contextlib.contextmanager
+def small_disk(folder):
+    """A folder that is a file system of 4 MB, and why there is none."""
+    place = tempfile.mkdtemp(dir=folder)
+    words = ["mount", "-t", "tmpfs", "-o", "size=4m", "none", place]
+    mounted = subprocess.run(words, capture_output=True, text=True)
+    try:
+        yield place, mounted.stderr.strip()
+    finally:
+        if not mounted.returncode:
+            subprocess.run(["umount", "--lazy", place], check=True)
+
+
+def fill(path):
+    """Writes a file until the disk is full."""
+    with open(path, "wb", buffering=0) as file:
+        with contextlib.suppress(OSError):
+            while file.write(bytes(4096)):
+                pass
+
+
+def make_many(serving):
+    """Makes instances until one isn't made: their names, the request for that one, and its reply."""
+    made = []
+    while True:
+        name = f"{I}{len(made)}"
+        sent = request("PUT", name, SYNC)
+        found = serving.sends(sent)
+        if found != reply(201, "{}") or len(made) == 1000:
+            return made, sent, found
+        made.append(name)
+
+
+def try_full_disk(program, folder):
+    """Changes are answered 500 while the disk is full, and are made once there is room."""
+    with small_disk(folder) as (disk, lacking):
+        if lacking:
+            print(f"database: a full disk is passed over, since no file system can be mounted: {lacking}")
+            return
+        path = os.path.join(disk, "broker.db")
+        with Serving(program, path) as serving:
+            yield from goes(serving, [("PUT", I, SYNC, 201, "{}")])
+            fill(os.path.join(disk, "filling"))
+            made, sent, found = make_many(serving)
+            known = [("GET", name, "", 200, FETCHED) for name in [I, *made]] + [("PUT", I, SYNC, 200, "{}")]
+            yield "a change on a full disk", found, NO_ROOM
+            for _ in range(3):
+                yield "the change again", serving.sends(sent), NO_ROOM
+                yield from goes(serving, known)
+            os.remove(os.path.join(disk, "filling"))
+            yield "the change with room", serving.sends(sent), reply(201, "{}")
+        with Serving(program, path) as serving:
+            yield from goes(serving, known)
+            yield "the change after a start", serving.sends(sent), reply(200, "{}")
 
 
 def settings_with(folder, plans):
@@ -399,6 +545,10 @@ def tries(program):
         yield from try_others(program, folder)
         yield from try_plans(program, folder)
         yield from try_order(program, folder)
+        yield from try_large(program, folder)
+        yield from try_modes(program, folder)
+        yield from try_taken_away(program, folder)
+        yield from try_full_disk(program, folder)
 
 
 if __name__ == "__main__":

@@ -180,6 +180,22 @@ def reply(status, body, close):
     return head.encode() + body
 
 
+def head_of(lines):
+    """A request for the catalog with so many field lines."""
+    more = b"".join(b"A%d: b\r\n" % number for number in range(lines - 3))
+    return GET_CATALOG[:-2] + more + b"\r\n"
+
+
+def try_limits(tries):
+    """The most field lines and the largest body, and one more of each."""
+    tries.expect("128 lines", tries.run([], head_of(128)), 0, CATALOG_REPLY, b"")
+    tries.expect("129 lines", tries.run([], head_of(129)), 0, NO_HEAD_REPLY, b"")
+    too_large = reply("413 Payload Too Large", b'{"description":"The body is too large."}', True)
+    for length, expected in [(262_144, CATALOG_REPLY), (262_145, too_large)]:
+        ended = tries.run([], platform("GET", "/v2/catalog", b"b" * length))
+        tries.expect(f"a body of {length} bytes", ended, 0, expected, b"")
+
+
 SYNC = b'{"service_id":"svc","plan_id":"p-sync","organization_guid":"o","space_guid":"s"}'
 
 
@@ -380,6 +396,18 @@ def try_words(tries):
         tries.tell(f"words {words}", [] if told else [repr(ended)])
 
 
+def try_version(tries):
+    for word in ["--version", "-V"]:
+        tries.expect(f"version {word}", tries.run([word]), 0, b"osb-broker 0.1.0\n", b"")
+
+
+def try_words_of_bytes(tries):
+    """Words that are no UTF-8 are wrong words, wherever they stand."""
+    line = b"osb-broker: the words are not all UTF-8\n"
+    for words in [[b"\xff"], [b"check", b"\xff"], [b"serve", b"--settings", b"a\xc3"], [b"replay", b"\xed\xa0\x80"]]:
+        tries.expect(f"words {words}", tries.run(words), 2, b"", line)
+
+
 def try_check(tries, folder):
     def check(name, content, status, output, errors):
         path = os.path.join(folder, "settings.json")
@@ -419,6 +447,7 @@ def main():
     tries = Tries(sys.argv[1])
     with tempfile.TemporaryDirectory() as folder:
         try_replay(tries)
+        try_limits(tries)
         try_several_requests(tries)
         try_resent_requests(tries)
         try_example(tries)
@@ -428,6 +457,8 @@ def main():
         try_closed_output(tries)
         try_files(tries, folder)
         try_words(tries)
+        try_version(tries)
+        try_words_of_bytes(tries)
         try_check(tries, folder)
     print(f"program: {tries.passed} passed, {tries.failed} failed")
     return 1 if tries.failed or not tries.passed else 0

@@ -14,7 +14,8 @@ import subprocess
 import sys
 import tempfile
 
-from conversations import CONVERSATIONS, I, PUT_TWICE, REPORT, SUCCEEDED, reply, request
+from conversations import CONVERSATIONS, FETCHED_LARGE, I, LARGE_SYNC, PUT_TWICE, REPORT, SUCCEEDED
+from conversations import reply, request
 from serving import ROOT, Serving, new_database
 
 REFUSED = (
@@ -50,6 +51,9 @@ ONE_ORDER = [
     ("PUT", REPORT + "2", SUCCEEDED, 404, "{}"),
 ]
 
+LARGE_PUT = ("PUT", I, LARGE_SYNC, 201, "{}")
+LARGE_ORDER = [*ONE_ORDER, ("GET", I, "", 200, FETCHED_LARGE.replace("p-async", "p-sync"))]
+
 
 class Wrong(Exception):
     """A reply that is neither what it should be nor the 500."""
@@ -71,16 +75,16 @@ def go(served, conversation):
         exchange(served, asked)
 
 
-def commit_refused(serve):
-    """Refuses the growths of one request, each over a database of its own. How many there were, and
+def commit_refused(serve, asked, left):
+    """Refuses the growths of a first request, each over a database of its own. How many there were, and
     how many 500."""
     growth, failed, refused = 0, 0, True
     while refused:
         growth += 1
         with serve() as served:
-            kept, refused = exchange(served, PUT_TWICE[0], growth)
+            kept, refused = exchange(served, asked, growth)
             failed += not kept
-            go(served, ONE_ORDER if kept else [*EMPTY_LIFE, PUT_TWICE[0], *ONE_ORDER])
+            go(served, left if kept else [*EMPTY_LIFE, asked, *left])
     return growth - 1, failed
 
 
@@ -115,7 +119,10 @@ def main():
         def serve():
             return Served(program, library, folder)
 
-        tries = {"commit_refused": lambda: commit_refused(serve)}
+        tries = {
+            "commit_refused": lambda: commit_refused(serve, PUT_TWICE[0], ONE_ORDER),
+            "large_commit_refused": lambda: commit_refused(serve, LARGE_PUT, LARGE_ORDER),
+        }
         for name, conversation in CONVERSATIONS.items():
             tries[name] = lambda conversation=conversation: each_refused(serve, conversation)
         for name, trial in tries.items():

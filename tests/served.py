@@ -217,7 +217,7 @@ def try_sockets(program, folder):
     served = Served(program, folder, 3, "--per-connection", "2")
     yield "put twice", served.sends(PUT_TWICE), TWO_REPLIES
     # More was sent than is read, and the reply still comes.
-    large = b"PUT / HTTP/1.1\r\nHost: b\r\nContent-Length: 200000\r\n\r\n" + b"b" * 200_000
+    large = b"PUT / HTTP/1.1\r\nHost: b\r\nContent-Length: 300000\r\n\r\n" + b"b" * 300_000
     yield "a large body", served.sends(large), NO_BODY_REPLY
     # No order is gone with a connection.
     yield "put again", served.call("PUT", INSTANCE, SYNC)[0], 200
@@ -237,6 +237,11 @@ def try_words(program, folder):
         yield "an address", ended(*files, "--listen", address), (1, b"", line)
     for number in ["0", "1000001", "x"]:
         yield "connections", ended(*files, *listen, "--connections", number)[0], 2
+    for seconds in ["0", "86401", "-1", "1.5", "x", ""]:
+        yield f"a time limit of {seconds}", ended(*files, *listen, "--time-limit", seconds)[0], 2
+    for seconds in ["1", "86400"]:
+        limited = ended(*files, "--listen", "nowhere", "--time-limit", seconds)
+        yield f"a time limit of {seconds}", limited, (1, b"", b"osb-broker: cannot listen on nowhere\n")
     yield "no database", ended("--settings", SETTINGS, *listen)[0], 2
     yield "no settings", ended("--database", new_database(folder), *listen)[0], 2
     missing = ended("--settings", "no/such/file", *files[2:], *listen)

@@ -13,8 +13,8 @@ use clap::error::ErrorKind;
 use osb_frames::{Sink, Source, send_all};
 use std::alloc::Global;
 
-/// The text of clap's answer to words that aren't those of a command: an error, or the help that
-/// was asked for.
+/// The text of clap's answer to words that aren't those of a command: an error, or the help or the
+/// version that was asked for.
 fn answer_words<W: Sink>(
     alloc: Global,
     error: &Error,
@@ -116,7 +116,7 @@ fn serve_status_of<E: Sink>(done: Result<(), Unserved<'_>>, errors: &mut E) -> u
 }
 
 /// Does what the words after the program's name ask for, and gives the status that the process
-/// ends with: 0 where all went well or help was asked for, 1 where a file, memory or standard
+/// ends with: 0 where all went well or help or the version was asked for, 1 where a file, memory or standard
 /// output failed, 2 where the words aren't those of `check` or `replay`, 3 where settings aren't
 /// accepted. A status other than 0 has a line on `errors`; a failed write there is passed over.
 pub fn run<R: Source, W: Sink, E: Sink>(
@@ -136,9 +136,9 @@ pub fn run<R: Source, W: Sink, E: Sink>(
 /// the other, and answers them from one broker, which keeps its orders in a database file. A fault
 /// of a connection is a line on `errors`, and the next connection is taken.
 ///
-/// The status is that of [`run`]: also 1 where the database can't be used, the address can't be
-/// listened at or a connection can't be taken, 2 where the words name another command, and 4 where
-/// the catalog lacks a plan that the database has in use.
+/// The status is that of [`run`]: also 1 where the database can't be used or its file is taken away,
+/// the address can't be listened at or a connection can't be taken, 2 where the words name another
+/// command, and 4 where the catalog lacks a plan that the database has in use.
 pub fn serve_command<W: Sink, E: Sink>(
     rt: &HostRuntime,
     words: &[String],

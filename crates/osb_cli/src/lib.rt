@@ -1,5 +1,5 @@
 //! The command line of osb-broker, as a library: [`run`] and [`serve_command`] do what the words ask
-//! for and give the status that the process ends with.
+//! for and give the status that the process ends with, as [`words_unread`] does where they can't be read.
 #![tactic(auto)]
 
 mod check;
@@ -10,6 +10,8 @@ mod listen;
 mod per_connection;
 mod replay;
 mod settings;
+mod unread;
 mod words;
 
 pub use commands::{run, serve_command};
+pub use unread::words_unread;

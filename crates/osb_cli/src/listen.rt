@@ -5,12 +5,14 @@ use crate::settings::read_settings;
 use crate::words::Listen;
 use osb_frames::Sink;
 use osb_listen::{ListenFault, serve_file};
+use osb_records::StoreFault;
 
 /// The fault of the command, where connections were to be taken at this address.
 fn unserved(fault: ListenFault, address: &str) -> Unserved<'_> {
     match fault {
         ListenFault::PlanInUse(service, plan) => Unserved::PlanInUse(service, plan),
         ListenFault::Database(fault) => Unserved::Fault(Fault::Database(fault)),
+        ListenFault::FileTaken => Unserved::Fault(Fault::Database(StoreFault::Refused)),
         ListenFault::Memory => Unserved::Fault(Fault::OutOfMemory),
         ListenFault::CannotListen => Unserved::Fault(Fault::CannotListen(address)),
         ListenFault::CannotWrite => Unserved::Fault(Fault::CannotWrite),

@@ -4,6 +4,7 @@ use crate::per_connection::PerConnection;
 use clap::{Arg, ArgAction, ArgMatches, Command, Error, value_parser};
 use osb_listen::Place;
 use std::alloc::{AllocError, Global};
+use std::time::Duration;
 
 /// Where connections are taken, and how.
 #[derive(Clone, Copy, Debug)]
@@ -35,15 +36,18 @@ pub(crate) enum Order<'a> {
     Serve(Listen<'a>),
 }
 
+/// The version that `--version` prints.
+const VERSION: &str = "0.1.0";
+
 const ABOUT: &str = "The broker end of the Open Service Broker API 2.17";
 
 const STATUS: &str = "With no command it does `replay`.
 
 Status:
-  0  all went well, or help was asked for
+  0  all went well, or help or the version was asked for
   1  a file can't be read or is too large, the database is refused or isn't
-     one of this broker, memory is refused, standard output doesn't take
-     what is written, or connections can't be taken
+     one of this broker, its file is taken away, memory is refused, standard
+     output doesn't take what is written, or connections can't be taken
   2  the words are not those of a command
   3  the settings are not accepted
   4  the settings lack a plan that the database has in use
@@ -67,14 +71,19 @@ const SERVE: &str = "Serve connections at an address";
 
 const SERVE_MORE: &str =
     "Prints `listening on ADDR`, and then takes one connection after the other. A
-connection that fails is a line on standard error, `connection: read` or
-`connection: write`, and the next one is taken. The broker keeps its orders
-in the database: a change is there before its request is answered, and stays
-there however the program ends. A file that isn't there is made. What has not
-been copied into it yet stands in a second file, its name with `-wal` behind.";
+connection that fails, or isn't done in time, is a line on standard error,
+`connection: read` or `connection: write`, and the next one is taken. The
+broker keeps its orders in the database: a change is there before its request
+is answered, and stays there however the program ends. A file that isn't there
+is made, for its owner alone. What has not been copied into it yet stands in a
+second file, its name with `-wal` behind. Once the file is taken away, no
+connection is answered, and the program ends.";
 
 /// The most connections that one run takes.
 const MOST_CONNECTIONS: u32 = 1_000_000;
+
+/// How many seconds a connection may take where nothing is asked for.
+const TIME_LIMIT: u32 = 10;
 
 /// `--per-connection` and its number.
 fn per_connection_word<'a>(alloc: Global) -> Arg<'a> {
@@ -124,6 +133,24 @@ fn replay_command<'a>(alloc: Global) -> Result<Command<'a>, Error> {
     )
 }
 
+/// `--connections` of `serve` and its number.
+fn connections_word<'a>(alloc: Global) -> Arg<'a> {
+    Arg::new(alloc, "connections")
+        .long("connections")
+        .value_name("N")
+        .help("How many connections are served, 1 to 1000000; without it 1000000")
+        .value_parser(value_parser!(u32).range(1..=1_000_000))
+}
+
+/// `--time-limit` and its number.
+fn time_limit_word<'a>(alloc: Global) -> Arg<'a> {
+    Arg::new(alloc, "time-limit")
+        .long("time-limit")
+        .value_name("SECONDS")
+        .help("How long a connection may take, 1 to 86400 seconds; without it 10")
+        .value_parser(value_parser!(u32).range(1..=86_400))
+}
+
 /// `serve` and its words.
 fn serve_command<'a>(alloc: Global) -> Result<Command<'a>, Error> {
     let settings = Arg::new(alloc, "settings")
@@ -141,29 +168,26 @@ fn serve_command<'a>(alloc: Global) -> Result<Command<'a>, Error> {
         .value_name("ADDR")
         .help("An IP address and a port, as 127.0.0.1:8080")
         .required(true);
-    let connections = Arg::new(alloc, "connections")
-        .long("connections")
-        .value_name("N")
-        .help("How many connections are served, 1 to 1000000; without it 1000000")
-        .value_parser(value_parser!(u32).range(1..=1_000_000));
     Ok(
         Command::new(alloc, "serve")
             .about(SERVE)
             .after_help(SERVE_MORE)
             .override_usage(
-                "osb-broker serve --settings FILE --database FILE --listen ADDR [--per-connection N] [--connections N]",
+                "osb-broker serve --settings FILE --database FILE --listen ADDR [--per-connection N] [--connections N] [--time-limit SECONDS]",
             )
             .arg(settings)?
             .arg(database)?
             .arg(listen)?
             .arg(per_connection_word(alloc))?
-            .arg(connections)?,
+            .arg(connections_word(alloc))?
+            .arg(time_limit_word(alloc))?,
     )
 }
 
 fn command<'a>(alloc: Global) -> Result<Command<'a>, Error> {
     Ok(
         Command::new(alloc, "osb-broker")
+            .version(VERSION)
             .about(ABOUT)
             .after_help(STATUS)
             .disable_help_subcommand(true)
@@ -179,6 +203,11 @@ fn per_connection_of(found: &ArgMatches<'_>) -> PerConnection {
         Some(number) => PerConnection::of(number).unwrap_or(PerConnection::ONE),
         None => PerConnection::ONE,
     }
+}
+
+fn time_limit_of(found: &ArgMatches<'_>) -> Duration {
+    let seconds = found.get_one::<u32>("time-limit").unwrap_or(TIME_LIMIT);
+    Duration::from_secs(u64::from(seconds))
 }
 
 /// The files that the words after `replay` name.
@@ -209,6 +238,7 @@ fn serve_order<'a>(found: &ArgMatches<'a>) -> Order<'a> {
             connections: found
                 .get_one::<u32>("connections")
                 .unwrap_or(MOST_CONNECTIONS),
+            time_limit: time_limit_of(found),
         },
         per_connection: per_connection_of(found),
     })

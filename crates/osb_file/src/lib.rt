@@ -1,6 +1,8 @@
 //! The records in a database file.
 #![tactic(auto)]
 
+mod database_file;
 mod file;
 
+pub use database_file::DatabaseFile;
 pub use file::open_file;

@@ -1,2 +1,3 @@
 mod PartLemmas
 mod AfterLemmas
+mod FaultLemmas

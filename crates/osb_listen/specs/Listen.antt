@@ -7,7 +7,7 @@ use Rattle.osb_records.specs.declared.fault.StoreFault.TheVariants.{Refused}
 use Rattle.osb_broker.specs.declared.fault.NewFault.{NewFault}
 use Rattle.osb_broker.specs.declared.fault.NewFault.TheVariants as new
 use Rattle.osb_listen.specs.declared.fault.ListenFault.{ListenFault}
-use Rattle.osb_listen.specs.declared.fault.ListenFault.TheVariants.{Database, PlanInUse, Memory, CannotListen, CannotWrite, CannotAccept}
+use Rattle.osb_listen.specs.declared.fault.ListenFault.TheVariants.{Database, PlanInUse, Memory, CannotListen, CannotWrite, CannotAccept, FileTaken}
 use Rattle.osb_listen.specs.Connections.{IsWrittenInPart}
 
 -- why nothing is served where there is no broker
@@ -23,6 +23,7 @@ IsOfDatabase rules Memory = ⊥
 IsOfDatabase rules CannotListen = ⊥
 IsOfDatabase rules CannotWrite = ⊥
 IsOfDatabase rules CannotAccept = ⊥
+IsOfDatabase rules FileTaken = ⊥
 
 -- the faults that come once there is a broker
 abbrev pub IsOfAddress : ListenFault → Type 0
@@ -32,6 +33,17 @@ IsOfAddress Memory = ⊤
 IsOfAddress CannotListen = ⊤
 IsOfAddress CannotWrite = ⊤
 IsOfAddress CannotAccept = ⊤
+IsOfAddress FileTaken = ⊤
+
+-- the faults that come while connections are taken
+abbrev pub IsOfServing : ListenFault → Type 0
+IsOfServing (Database fault) = ⊥
+IsOfServing (PlanInUse service plan) = ⊥
+IsOfServing Memory = ⊥
+IsOfServing CannotListen = ⊥
+IsOfServing CannotWrite = ⊥
+IsOfServing CannotAccept = ⊤
+IsOfServing FileTaken = ⊤
 
 -- a pair that is named as in use is one that the catalog lacks
 abbrev pub NamesLacking : Rules → ListenFault → Type 0
@@ -41,6 +53,7 @@ NamesLacking rules Memory = ⊤
 NamesLacking rules CannotListen = ⊤
 NamesLacking rules CannotWrite = ⊤
 NamesLacking rules CannotAccept = ⊤
+NamesLacking rules FileTaken = ⊤
 
 -- an IP address and a port
 abbrev pub IsAddress : List ℕ → Type 0
@@ -58,3 +71,4 @@ Told Memory line old new = new ≡ old
 Told CannotListen line old new = new ≡ old
 Told CannotWrite line old new = IsWrittenInPart line old new
 Told CannotAccept line old new = new ≡ old ++ line
+Told FileTaken line old new = new ≡ old ++ line

@@ -1,6 +1,9 @@
 //! TCP connections, one after the other, answered from one broker over a database file.
 #![tactic(auto)]
 
+mod accepting;
+mod deadline;
+mod ending;
 mod fault;
 mod file;
 mod listen;
@@ -8,5 +11,5 @@ mod stream;
 
 pub use fault::ListenFault;
 pub use file::serve_file;
-pub use listen::{Place, serve_listener};
+pub use listen::{Entrance, Place, serve_listener};
 pub use stream::serve_stream;

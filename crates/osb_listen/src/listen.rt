@@ -1,23 +1,26 @@
 //! An address, and the connections that are taken at it.
 
-ghost use Rattle.std.specs.Prelude.{◌≡◌, ◌≢◌, ◌<◌, ◌++◌, IfOk, IfErr, OnOk, OnErr, IsOkUnless};
+ghost use Rattle.std.specs.Prelude.{◌≡◌, ◌<◌, ◌++◌, IfOk, IfErr, OnOk, OnErr, IsOkUnless};
 ghost use Rattle.osb_frames.specs.declared.limits.Limits.{Limits};
 ghost use Rattle.osb_broker.specs.Kept.{Works, lives_of, most_of, rules_of, store_of};
 ghost use Rattle.osb_broker.specs.Room.{limits_of};
 ghost use Rattle.osb_broker.specs.Served.{AreStandard};
-ghost use Rattle.osb_listen.specs.declared.fault.ListenFault.TheVariants.{CannotAccept, CannotListen, CannotWrite};
+ghost use Rattle.osb_listen.specs.declared.fault.ListenFault.TheVariants.{CannotListen, CannotWrite};
 ghost use Rattle.osb_listen.specs.Connections.{After, AfterFewer, AfterOne, IsWrittenInPart};
-ghost use Rattle.osb_listen.specs.Listen.{listening_line, IsAddress, IsOfAddress, Told};
+ghost use Rattle.osb_listen.specs.Listen.{listening_line, IsAddress, IsOfAddress, IsOfServing, Told};
 
+use crate::accepting::accept;
 use crate::fault::ListenFault;
 use crate::stream::serve_stream;
 use osb_broker::{Broker, Buffer};
+use osb_file::DatabaseFile;
 use osb_frames::{Limits, Sink, send_all};
 use sqlite::Alter;
 use std::alloc::{AllocError, Global};
-use std::net::{SocketAddr, TcpListener};
+use std::net::{SocketAddr, TcpListener, TcpStream};
+use std::time::Duration;
 
-/// Where orders are kept and connections are taken, and how many of these.
+/// Where orders are kept and connections are taken, how many of these, and for how long each.
 #[derive(Clone, Copy, Debug)]
 pub struct Place<'a> {
     /// The name of the database file.
@@ -26,17 +29,46 @@ pub struct Place<'a> {
     pub address: &'a str,
     /// How many connections are taken.
     pub connections: u32,
+    /// How long a connection may take, from when it is taken to its last reply.
+    pub time_limit: Duration,
 }
 
-/// Takes the next connection of a listener and serves it.
+/// A listener, and what holds of each connection that it takes.
+#[derive(Clone, Copy)]
+pub struct Entrance<'a> {
+    /// Where connections are taken.
+    pub listener: &'a TcpListener,
+    /// The file of the broker's database. Once it is taken away no connection is answered.
+    pub file: &'a DatabaseFile<'a>,
+    /// How long a connection may take, from when it is taken to its last reply.
+    pub time_limit: Duration,
+}
+
+impl Entrance<'_> {
+    /// Takes the next connection, as long as the database file is there.
+    fn take(&self, rt: &HostRuntime) -> Result<TcpStream, ListenFault>
+        ensures { IfErr result IsOfServing }
+    {
+        let Some(stream) = accept(rt, self.listener) else {
+            return Err(ListenFault::CannotAccept);
+        };
+        if !self.file.is_there(rt) {
+            return Err(ListenFault::FileTaken);
+        }
+        Ok(stream)
+    }
+}
+
+/// Takes the next connection and serves it.
 fn serve_next<S: Alter, E: Sink>(
+    rt: &HostRuntime,
     broker: &mut Broker<'_, S>,
     buffer: &mut Buffer,
-    listener: &TcpListener,
+    entrance: &Entrance<'_>,
     errors: &mut E,
 ) -> Result<(), ListenFault>
     ensures ok { Works (store_of S.Store broker.new) → OnOk result (AfterOne (rules_of broker.old) (limits_of buffer.old) (most_of broker.old) (lives_of S.Store broker.old) (lives_of S.Store broker.new) (E.taken errors.old) (E.taken errors.new)) }
-    ensures fault { IsOkUnless result CannotAccept }
+    ensures fault { IfErr result IsOfServing }
     ensures same { OnErr result (lives_of S.Store broker.new ≡ lives_of S.Store broker.old) }
     ensures quiet { OnErr result (E.taken errors.new ≡ E.taken errors.old) }
     ensures works { Works (store_of S.Store broker.new) → Works (store_of S.Store broker.old) }
@@ -44,25 +76,27 @@ fn serve_next<S: Alter, E: Sink>(
     ensures rules { rules_of broker.new ≡ rules_of broker.old }
     ensures limits { limits_of buffer.new ≡ limits_of buffer.old }
 {
-    match listener.accept() {
-        Ok((stream, _)) => {
-            serve_stream(broker, buffer, &stream, errors);
-            Ok(())
-        }
-        Err(_) => Err(ListenFault::CannotAccept),
-    }
+    let stream = entrance.take(rt)?;
+    serve_stream(rt, broker, buffer, &stream, entrance.time_limit, errors);
+    Ok(())
 }
 
-/// Serves so many connections of a listener, one after the other.
+/// Serves so many connections of a listener, one after the other. What is said of lives is said where
+/// the store works still.
+///
+/// It ends before that with `CannotAccept` where 100 tries in a row to take a connection failed, and
+/// with `FileTaken` where the database file isn't there any more as one is taken, which then isn't
+/// answered.
 pub fn serve_listener<S: Alter, E: Sink>(
+    rt: &HostRuntime,
     broker: &mut Broker<'_, S>,
     buffer: &mut Buffer,
-    listener: &TcpListener,
+    entrance: &Entrance<'_>,
     connections: u32,
     errors: &mut E,
 ) -> Result<(), ListenFault>
     ensures ok { Works (store_of S.Store broker.new) → OnOk result (After (rules_of broker.old) (limits_of buffer.old) (most_of broker.old) connections (lives_of S.Store broker.old) (lives_of S.Store broker.new) (E.taken errors.old) (E.taken errors.new)) }
-    ensures fault { IsOkUnless result CannotAccept }
+    ensures fault { IfErr result IsOfServing }
     ensures err { Works (store_of S.Store broker.new) → OnErr result (AfterFewer (rules_of broker.old) (limits_of buffer.old) (most_of broker.old) connections (lives_of S.Store broker.old) (lives_of S.Store broker.new) (E.taken errors.old) (E.taken errors.new)) }
     ensures works { Works (store_of S.Store broker.new) → Works (store_of S.Store broker.old) }
     ensures most { most_of broker.new ≡ most_of broker.old }
@@ -70,7 +104,7 @@ pub fn serve_listener<S: Alter, E: Sink>(
     ensures limits { limits_of buffer.new ≡ limits_of buffer.old }
 {
     for _ in 0..connections {
-        serve_next(broker, buffer, listener, errors)?;
+        serve_next(rt, broker, buffer, entrance, errors)?;
     }
     Ok(())
 }
@@ -128,18 +162,19 @@ fn standard_buffer(alloc: Global) -> Result<Buffer, AllocError>
 pub(crate) fn serve_at<S: Alter, W: Sink, E: Sink>(
     rt: &HostRuntime,
     broker: &mut Broker<'_, S>,
+    file: &DatabaseFile<'_>,
     place: &Place<'_>,
     output: &mut W,
     errors: &mut E,
 ) -> Result<(), ListenFault>
     ensures ok { Works (store_of S.Store broker.new) → OnOk result ((limits : Limits) × AreStandard limits
         × After (rules_of broker.old) limits (most_of broker.old) place.now.connections (lives_of S.Store broker.old) (lives_of S.Store broker.new) (E.taken errors.old) (E.taken errors.new)) }
-    ensures accepted { Works (store_of S.Store broker.new) → IfErr result (λ fault. fault ≡ CannotAccept → (limits : Limits) × AreStandard limits
+    ensures accepted { Works (store_of S.Store broker.new) → IfErr result (λ fault. IsOfServing fault → (limits : Limits) × AreStandard limits
         × AfterFewer (rules_of broker.old) limits (most_of broker.old) place.now.connections (lives_of S.Store broker.old) (lives_of S.Store broker.new) (E.taken errors.old) (E.taken errors.new)) }
 
     // Before connections are taken nothing is changed and nothing is told on `errors`.
-    ensures same { IfErr result (λ fault. fault ≢ CannotAccept → lives_of S.Store broker.new ≡ lives_of S.Store broker.old) }
-    ensures quiet { IfErr result (λ fault. fault ≢ CannotAccept → E.taken errors.new ≡ E.taken errors.old) }
+    ensures same { IfErr result (λ fault. ¬ IsOfServing fault → lives_of S.Store broker.new ≡ lives_of S.Store broker.old) }
+    ensures quiet { IfErr result (λ fault. ¬ IsOfServing fault → E.taken errors.new ≡ E.taken errors.old) }
 
     ensures address { OnOk result (IsAddress place.now.address.now) }
     ensures fault { IfErr result IsOfAddress }
@@ -151,5 +186,17 @@ pub(crate) fn serve_at<S: Alter, W: Sink, E: Sink>(
     let mut buffer = standard_buffer(rt.alloc())?;
     let listener = listen_at(rt, place.address)?;
     tell_listening(place.address, output)?;
-    serve_listener(broker, &mut buffer, &listener, place.connections, errors)
+    let entrance = Entrance {
+        listener: &listener,
+        file,
+        time_limit: place.time_limit,
+    };
+    serve_listener(
+        rt,
+        broker,
+        &mut buffer,
+        &entrance,
+        place.connections,
+        errors,
+    )
 }

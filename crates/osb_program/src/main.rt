@@ -1,15 +1,23 @@
 //! The program `osb-broker`.
 #![tactic(auto)]
 
-use osb_cli::{run, serve_command};
+use osb_cli::{run, serve_command, words_unread};
 use osb_frames::Counted;
 use std::io;
 use std::process::ExitCode;
 
-fn main(rt: HostRuntime) -> io::Result<ExitCode> {
-    let words: Vec<String> = std::env::args(&rt)?.skip(1).collect(rt.alloc())?;
+/// The words after the program's name.
+fn read_words(rt: &HostRuntime) -> io::Result<Vec<String>> {
+    Ok(std::env::args(rt)?.skip(1).collect(rt.alloc())?)
+}
+
+fn main(rt: HostRuntime) -> ExitCode {
     let mut output = Counted::new(rt.stdout());
     let mut errors = Counted::new(rt.stderr());
+    let words = match read_words(&rt) {
+        Ok(words) => words,
+        Err(error) => return ExitCode::from(words_unread(&error, &mut errors)),
+    };
     let serves = words.first().is_some_and(|word| word.as_str() == "serve");
     let status = if serves {
         serve_command(&rt, words.as_slice(), &mut output, &mut errors)
@@ -17,5 +25,5 @@ fn main(rt: HostRuntime) -> io::Result<ExitCode> {
         let mut input = Counted::new(rt.stdin());
         run(&rt, words.as_slice(), &mut input, &mut output, &mut errors)
     };
-    Ok(ExitCode::from(status))
+    ExitCode::from(status)
 }

@@ -1,14 +1,15 @@
 //! Connections over a socket, with the client and the program in one thread.
 
 use osb_broker::{Broker, Buffer};
+use osb_file::DatabaseFile;
 use osb_frames::{Counted, Limits};
-use osb_listen::{ListenFault, serve_listener, serve_stream};
+use osb_listen::{Entrance, ListenFault, serve_listener, serve_stream};
 use sqlite::MemStore;
-use std::alloc::Global;
 use std::io::{self, Read, Write};
 use std::net::{Shutdown, TcpListener, TcpStream};
 use std::test::Fail;
 use std::time::Duration;
+use std::{env, fs};
 use tests_support::catalogs::built_in;
 use tests_support::serving::new_broker;
 
@@ -30,27 +31,29 @@ fn connected(rt: &HostRuntime, bytes: &[u8]) -> io::Result<(TcpStream, TcpStream
 
 /// What is written on standard error for a connection that the broker serves.
 fn told_by(
-    alloc: Global,
+    rt: &HostRuntime,
     broker: &mut Broker<'_, MemStore>,
     stream: &TcpStream,
+    milliseconds: u64,
 ) -> Result<Vec<u8>, Fail> {
-    let mut buffer = Buffer::new(alloc, &Limits::STANDARD)?;
-    let mut errors = Counted::new(Vec::new(alloc));
-    serve_stream(broker, &mut buffer, stream, &mut errors);
+    let limit = Duration::from_millis(milliseconds);
+    let mut buffer = Buffer::new(rt.alloc(), &Limits::STANDARD)?;
+    let mut errors = Counted::new(Vec::new(rt.alloc()));
+    serve_stream(rt, broker, &mut buffer, stream, limit, &mut errors);
     Ok(errors.into_inner())
 }
 
 /// The same by a new broker, which takes two requests of a connection.
-fn told(alloc: Global, stream: &TcpStream) -> Result<Vec<u8>, Fail> {
-    let settings = built_in(alloc)?;
-    let mut broker = new_broker(alloc, &settings, 2)?;
-    told_by(alloc, &mut broker, stream)
+fn told(rt: &HostRuntime, stream: &TcpStream, milliseconds: u64) -> Result<Vec<u8>, Fail> {
+    let settings = built_in(rt.alloc())?;
+    let mut broker = new_broker(rt.alloc(), &settings, 2)?;
+    told_by(rt, &mut broker, stream, milliseconds)
 }
 
 #[test]
 fn a_client_reads_its_replies(rt: HostRuntime) -> Result<(), Fail> {
     let (client, stream) = connected(&rt, PUT_TWICE)?;
-    let errors = told(rt.alloc(), &stream)?;
+    let errors = told(&rt, &stream, 10_000)?;
     drop(stream);
     let mut text = Vec::new(rt.alloc());
     (&mut &client).read_to_end(&mut text)?;
@@ -61,10 +64,9 @@ fn a_client_reads_its_replies(rt: HostRuntime) -> Result<(), Fail> {
 
 #[test]
 fn a_read_that_fails_is_told(rt: HostRuntime) -> Result<(), Fail> {
-    // The client stays silent, and the stream waits for it no longer than this.
+    // The client stays silent until its time is over.
     let (_client, stream) = connected(&rt, b"GET")?;
-    stream.set_read_timeout(Some(Duration::from_millis(10)))?;
-    let errors = told(rt.alloc(), &stream)?;
+    let errors = told(&rt, &stream, 10)?;
     assert_eq!(rt; errors.as_slice(), b"connection: read\n".as_slice());
     Ok(())
 }
@@ -73,28 +75,36 @@ fn a_read_that_fails_is_told(rt: HostRuntime) -> Result<(), Fail> {
 fn a_write_that_fails_is_told(rt: HostRuntime) -> Result<(), Fail> {
     let (_client, stream) = connected(&rt, PUT_TWICE)?;
     stream.shutdown(Shutdown::Write)?;
-    let errors = told(rt.alloc(), &stream)?;
+    let errors = told(&rt, &stream, 10_000)?;
     assert_eq!(rt; errors.as_slice(), b"connection: write\n".as_slice());
     Ok(())
 }
 
-/// Whether the broker finds that no connection can be accepted.
-fn accepts_none_with(
-    alloc: Global,
+/// How a broker ends that is to serve one connection.
+fn ended_with(
+    rt: &HostRuntime,
     broker: &mut Broker<'_, MemStore>,
-    listener: &TcpListener,
-) -> Result<bool, Fail> {
-    let mut buffer = Buffer::new(alloc, &Limits::STANDARD)?;
-    let mut errors = Counted::new(Vec::new(alloc));
-    let result = serve_listener(broker, &mut buffer, listener, 1, &mut errors);
-    Ok(result == Err(ListenFault::CannotAccept))
+    entrance: &Entrance<'_>,
+) -> Result<Result<(), ListenFault>, Fail> {
+    let mut buffer = Buffer::new(rt.alloc(), &Limits::STANDARD)?;
+    let mut errors = Counted::new(Vec::new(rt.alloc()));
+    Ok(serve_listener(rt, broker, &mut buffer, entrance, 1, &mut errors))
 }
 
-/// The same of a new broker.
-fn accepts_none(alloc: Global, listener: &TcpListener) -> Result<bool, Fail> {
-    let settings = built_in(alloc)?;
-    let mut broker = new_broker(alloc, &settings, 1)?;
-    accepts_none_with(alloc, &mut broker, listener)
+/// The same of a new broker, at this listener and over this file.
+fn ended(
+    rt: &HostRuntime,
+    listener: &TcpListener,
+    file: &DatabaseFile<'_>,
+) -> Result<Result<(), ListenFault>, Fail> {
+    let settings = built_in(rt.alloc())?;
+    let mut broker = new_broker(rt.alloc(), &settings, 1)?;
+    let entrance = Entrance {
+        listener,
+        file,
+        time_limit: Duration::from_secs(10),
+    };
+    ended_with(rt, &mut broker, &entrance)
 }
 
 #[test]
@@ -102,6 +112,30 @@ fn no_connection_can_be_accepted(rt: HostRuntime) -> Result<(), Fail> {
     // A listener that doesn't wait has nobody to accept.
     let listener = TcpListener::bind(&rt, "127.0.0.1:0")?;
     listener.set_nonblocking(true)?;
-    assert!(rt; accepts_none(rt.alloc(), &listener)?);
+    let file = DatabaseFile::at(&rt, ".")?;
+    let ended = ended(&rt, &listener, &file)?;
+    assert!(rt; ended == Err(ListenFault::CannotAccept));
+    Ok(())
+}
+
+/// How a broker ends whose file is removed before its first connection, and what that is sent.
+fn ended_without_file(rt: &HostRuntime, path: &str) -> Result<(bool, Vec<u8>), Fail> {
+    let listener = TcpListener::bind(rt, "127.0.0.1:0")?;
+    let client = TcpStream::connect(rt, listener.local_addr()?)?;
+    let file = DatabaseFile::at(rt, path)?;
+    fs::remove_file(rt, path)?;
+    let is_taken = ended(rt, &listener, &file)? == Err(ListenFault::FileTaken);
+    let mut text = Vec::new(rt.alloc());
+    (&mut &client).read_to_end(&mut text)?;
+    Ok((is_taken, text))
+}
+
+#[test]
+fn a_file_that_is_taken_away_ends_the_broker(rt: HostRuntime) -> Result<(), Fail> {
+    let folder = env::temp_dir(&rt)?;
+    let path = format!(in rt.alloc(); "{}/osb_listen_gone.db", folder.display())?;
+    let (is_taken, text) = ended_without_file(&rt, path.as_str())?;
+    assert!(rt; is_taken);
+    assert!(rt; text.is_empty());
     Ok(())
 }

@@ -1,10 +1,11 @@
 //! A database file, made and opened again.
 
 use crate::adopting::{ORDER, READY, count_orders, run};
-use osb_file::open_file;
+use osb_file::{DatabaseFile, open_file};
 use osb_records::{Records, StoreFault};
 use sqlite::{Alter, Unknown};
 use std::alloc::Global;
+use std::os::unix::fs::MetadataExt;
 use std::test::Fail;
 use std::{env, fs};
 
@@ -22,16 +23,56 @@ fn count_and_run<S: Alter + Drop>(
 
 /// The same over a file.
 fn open_and_run(rt: &HostRuntime, path: &str, statements: &[&str]) -> Result<usize, StoreFault> {
-    count_and_run(rt.alloc(), open_file(rt, path, Unknown)?, statements)
+    let file = DatabaseFile::at(rt, path)?;
+    count_and_run(rt.alloc(), open_file(rt, &file, Unknown)?, statements)
+}
+
+/// The path of a file in the folder for such, where none stands.
+fn unused(rt: &HostRuntime, name: &str) -> Result<String, Fail> {
+    let folder = env::temp_dir(rt)?;
+    let path = format!(in rt.alloc(); "{}/{name}", folder.display())?;
+    let _ = fs::remove_file(rt, path.as_str());
+    Ok(path)
 }
 
 #[test]
 fn a_file_is_made_and_opened_again(rt: HostRuntime) -> Result<(), Fail> {
-    let folder = env::temp_dir(&rt)?;
-    let path = format!(in rt.alloc(); "{}/osb_file_test.db", folder.display())?;
-    let _ = fs::remove_file(&rt, path.as_str());
+    let path = unused(&rt, "osb_file_test.db")?;
     assert_eq!(rt; open_and_run(&rt, path.as_str(), &[ORDER, READY])?, 0);
     assert_eq!(rt; open_and_run(&rt, path.as_str(), &[])?, 1);
+    Ok(())
+}
+
+/// Who may read and write a file that is made at a path.
+fn mode_at(rt: &HostRuntime, path: &str) -> Result<u32, Fail> {
+    let _ = DatabaseFile::at(rt, path)?;
+    Ok(fs::metadata(rt, path)?.mode() & 0o777)
+}
+
+#[test]
+fn a_new_file_is_for_its_owner_alone(rt: HostRuntime) -> Result<(), Fail> {
+    let path = unused(&rt, "osb_file_mode.db")?;
+    assert_eq!(rt; mode_at(&rt, path.as_str())?, 0o600);
+    Ok(())
+}
+
+/// Whether a file is there before it is removed, once it was, and once another one stands there.
+fn is_there_in_turn(rt: &HostRuntime, path: &str, other: &str) -> Result<[bool; 3], Fail> {
+    let file = DatabaseFile::at(rt, path)?;
+    let _ = DatabaseFile::at(rt, other)?;
+    let before = file.is_there(rt);
+    fs::remove_file(rt, path)?;
+    let removed = file.is_there(rt);
+    fs::rename(rt, other, path)?;
+    Ok([before, removed, file.is_there(rt)])
+}
+
+#[test]
+fn a_file_that_is_taken_away_is_not_there(rt: HostRuntime) -> Result<(), Fail> {
+    let path = unused(&rt, "osb_file_gone.db")?;
+    let other = unused(&rt, "osb_file_other.db")?;
+    let there = is_there_in_turn(&rt, path.as_str(), other.as_str())?;
+    assert_eq!(rt; there, [true, false, false]);
     Ok(())
 }
 

@@ -1,0 +1,282 @@
+#!/usr/bin/env python3
+"""Tries what clients get that send too much, too slowly or nothing, and how long the next one waits.
+
+usage: tests/clients.py PROGRAM
+
+Each kind of client comes forty times. One that is owed a reply has it whole, and the next client is
+served within half a second of that reply or, where none is owed, of the time of a connection. The
+kinds are tried side by side, over programs of their own, since most of it is waiting.
+"""
+
+import os
+import resource
+import sys
+import tempfile
+import threading
+import time
+from concurrent.futures import ThreadPoolExecutor
+from dataclasses import dataclass
+from statistics import median
+from typing import Callable, Optional
+
+from conversations import I, LARGE_SYNC, reply, request
+from program import CATALOG_REPLY, GET_CATALOG, NO_HEAD_REPLY, head_of
+from served import NO_BODY_REPLY
+from serving import Serving, new_database, tell
+
+TRIES = 40
+PROGRAMS = 4
+SOON = 0.5
+# Where nothing is waited for.
+AT_ONCE = 0.08
+TIME_LIMIT = 1
+PAUSE = 0.05
+
+READ_LINE = b"connection: read\n"
+WRITE_LINE = b"connection: write\n"
+
+LARGE = b"PUT / HTTP/1.1\r\nHost: b\r\nContent-Length: 900000\r\n\r\n"
+
+
+def heard(client):
+    """What a client reads, and whether the connection then ended without a reset."""
+    read = b""
+    try:
+        while piece := client.recv(65536):
+            read += piece
+    except ConnectionError:
+        return read, "reset"
+    return read, "closed"
+
+
+def goes_on(client, piece, pause=PAUSE):
+    """Goes on sending a piece from time to time, beside what is tried, until it can't or for two seconds."""
+
+    def send():
+        try:
+            for _ in range(int(2 / max(pause, 0.001))):
+                client.sendall(piece)
+                time.sleep(pause)
+        except OSError:
+            pass
+
+    threading.Thread(target=send, daemon=True).start()
+
+
+def asks_once(client):
+    client.sendall(GET_CATALOG)
+    return heard(client)
+
+
+def pipelines(client):
+    client.sendall(GET_CATALOG * 200)
+    return heard(client)
+
+
+def pipelines_much(client):
+    """More than the broker reads at once."""
+    client.sendall(GET_CATALOG * 3000)
+    return heard(client)
+
+
+def large_at_once(client):
+    client.sendall(LARGE + b"b" * 900_000)
+    return heard(client)
+
+
+def large_slowly(client):
+    client.sendall(LARGE)
+    for _ in range(10):
+        client.sendall(b"b" * 30_000)
+        time.sleep(0.01)
+    return heard(client)
+
+
+def goes_on_after_a_reply(client):
+    found = asks_once(client)
+    goes_on(client, b"b")
+    return found
+
+
+def goes_on_after_a_fault(client):
+    client.sendall(LARGE)
+    goes_on(client, b"b")
+    return heard(client)
+
+
+def floods_after_a_fault(client):
+    client.sendall(LARGE)
+    goes_on(client, b"b" * 65_536, 0)
+    return heard(client)[0], "closed"
+
+
+def asks_in_pieces(client):
+    for place in range(0, len(GET_CATALOG), 10):
+        client.sendall(GET_CATALOG[place : place + 10])
+        time.sleep(0.6 * TIME_LIMIT * 10 / len(GET_CATALOG))
+    return heard(client)
+
+
+def says_nothing(client):
+    return None
+
+
+def drips_a_request(client):
+    goes_on(client, b"A")
+
+
+def too_many_lines(client):
+    client.sendall(head_of(129))
+    return heard(client)
+
+
+@dataclass
+class Kind:
+    """What a client does, and the reply that it is owed, if one is."""
+
+    acts: Callable
+    owed: Optional[bytes] = None
+    # Whether the client is read from after its reply.
+    lingers: bool = False
+
+    def most(self):
+        """How long the next client may wait."""
+        return SOON if self.owed else TIME_LIMIT + SOON
+
+
+KINDS = {
+    "never closes": Kind(asks_once, CATALOG_REPLY),
+    "pipelines": Kind(pipelines, CATALOG_REPLY),
+    "pipelines more than is read": Kind(pipelines_much, CATALOG_REPLY, lingers=True),
+    "sends too large a body at once": Kind(large_at_once, NO_BODY_REPLY, lingers=True),
+    "sends too large a body slowly": Kind(large_slowly, NO_BODY_REPLY, lingers=True),
+    "goes on after its reply": Kind(goes_on_after_a_reply, CATALOG_REPLY),
+    "goes on after a fault": Kind(goes_on_after_a_fault, NO_BODY_REPLY, lingers=True),
+    "floods after a fault": Kind(floods_after_a_fault, NO_BODY_REPLY, lingers=True),
+    "asks in pieces, within its time": Kind(asks_in_pieces, CATALOG_REPLY),
+    "sends too many lines and waits": Kind(too_many_lines, NO_HEAD_REPLY, lingers=True),
+    "says nothing": Kind(says_nothing),
+    "drips a request": Kind(drips_a_request),
+}
+
+
+def one_try(serving, kind):
+    """What the client heard, what the next one read, and how long that one waited."""
+    begun = time.monotonic()
+    with serving.connection() as client:
+        try:
+            found = kind.acts(client)
+        except ConnectionError:
+            found = heard(client)[0], "reset"
+        if kind.owed:
+            begun = time.monotonic()
+        read = serving.sends(GET_CATALOG)
+        return found, read, time.monotonic() - begun
+
+
+def some_tries(program, folder, name, count):
+    """So many tries of one kind over one program."""
+    kind = KINDS[name]
+    waits = []
+    expected = (kind.owed, "closed") if kind.owed else None
+    with Serving(program, new_database(folder), "--time-limit", str(TIME_LIMIT)) as serving:
+        for _ in range(count):
+            reply, read, waited = one_try(serving, kind)
+            waits.append(waited)
+            yield f"one that {name}", reply, expected
+            yield f"the next behind one that {name}", read, CATALOG_REPLY
+        serving.process.kill()
+        lines = b"" if kind.owed else READ_LINE * count
+        yield f"the lines of one that {name}", serving.ended()[2], lines
+    yield f"the longest wait behind one that {name}", max(*waits, kind.most()), kind.most()
+    if kind.owed and not kind.lingers:
+        yield f"a wait behind one that {name}", max(median(waits), AT_ONCE), AT_ONCE
+
+
+def closing(sent):
+    """A request that closes its connection."""
+    return sent.replace(b"\r\n\r\n", b"\r\nConnection: close\r\n\r\n", 1)
+
+
+def unread_replies(program, folder):
+    """One that asks for more than the system holds and reads nothing is let go when its time is over."""
+    words = ["--time-limit", str(TIME_LIMIT), "--per-connection", "1000"]
+    with Serving(program, new_database(folder), *words) as serving:
+        yield "made", serving.sends(closing(request("PUT", I, LARGE_SYNC))), reply(201, "{}")
+        with serving.connection() as client:
+            begun = time.monotonic()
+            client.sendall(request("GET", I, "") * 1000)
+            read = serving.sends(closing(GET_CATALOG))
+            waited = time.monotonic() - begun
+        yield "behind one that doesn't read", read, CATALOG_REPLY
+        yield "the wait behind it", max(waited, TIME_LIMIT + SOON), TIME_LIMIT + SOON
+        serving.process.kill()
+        yield "its line", serving.ended()[2], WRITE_LINE
+
+
+def default_limit(program, folder):
+    """Without `--time-limit` a connection has ten seconds."""
+    with Serving(program, new_database(folder)) as serving:
+        _, read, waited = one_try(serving, KINDS["says nothing"])
+        yield "the next after the default time", read, CATALOG_REPLY
+        yield "the default time", 9.5 <= waited <= 10 + SOON, True
+
+
+def limit_descriptors(serving, most):
+    """Lets the program have so many descriptors. The limit that it had."""
+    _, hard = resource.prlimit(serving.process.pid, resource.RLIMIT_NOFILE)
+    return resource.prlimit(serving.process.pid, resource.RLIMIT_NOFILE, (most, hard))
+
+
+def lacking_descriptors(program, folder):
+    """Where descriptors lack, connections are taken again once there are some; or else the program ends."""
+    with Serving(program, new_database(folder)) as serving:
+        used = len(os.listdir(f"/proc/{serving.process.pid}/fd"))
+        for _ in range(3):
+            before = limit_descriptors(serving, used)
+            # An accept that waits already has its descriptor, and takes the first of the two.
+            with serving.connection() as first, serving.connection() as second:
+                for client in (first, second):
+                    client.sendall(GET_CATALOG)
+                time.sleep(0.3)
+                resource.prlimit(serving.process.pid, resource.RLIMIT_NOFILE, before)
+                for client in (first, second):
+                    yield "with descriptors again", heard(client), (CATALOG_REPLY, "closed")
+        limit_descriptors(serving, used)
+        with serving.connection(), serving.connection():
+            status, _, errors = serving.ended()
+        yield "without descriptors", (status, errors[-26:]), (1, b"osb-broker: cannot accept\n")
+
+
+def shared_time(program, folder):
+    """The requests of a connection share its time."""
+    words = ["--time-limit", str(TIME_LIMIT), "--per-connection", "1000"]
+    with Serving(program, new_database(folder), *words) as serving:
+        begun = time.monotonic()
+        with serving.connection() as client:
+            goes_on(client, GET_CATALOG, 0.2 * TIME_LIMIT)
+            read = heard(client)[0]
+        yield "the time of many requests", TIME_LIMIT <= time.monotonic() - begun <= TIME_LIMIT + SOON, True
+        yield "replies in that time", 2 <= read.count(b"HTTP/1.1 200 OK") <= 6, True
+        serving.process.kill()
+        yield "their line", serving.ended()[2], READ_LINE
+
+
+OTHERS = [unread_replies, default_limit, lacking_descriptors, shared_time]
+
+
+def tries(program):
+    with tempfile.TemporaryDirectory() as folder:
+        with ThreadPoolExecutor(PROGRAMS * len(KINDS) + len(OTHERS)) as side_by_side:
+            trials = [trial(program, folder) for trial in OTHERS]
+            trials += [
+                some_tries(program, folder, name, TRIES // PROGRAMS)
+                for name in KINDS
+                for _ in range(PROGRAMS)
+            ]
+            for found in side_by_side.map(list, trials):
+                yield from found
+
+
+if __name__ == "__main__":
+    sys.exit(tell("clients", tries(os.path.abspath(sys.argv[1]))))
