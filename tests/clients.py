@@ -16,6 +16,7 @@ import threading
 import time
 from concurrent.futures import ThreadPoolExecutor
 from dataclasses import dataclass
+from functools import partial
 from statistics import median
 from typing import Callable, Optional
 
@@ -26,6 +27,8 @@ from serving import Serving, new_database, tell
 
 TRIES = 40
 PROGRAMS = 4
+SIDE_BY_SIDE = 16
+ATTEMPTS = 3
 SOON = 0.5
 # Where nothing is waited for.
 AT_ONCE = 0.08
@@ -113,7 +116,7 @@ def floods_after_a_fault(client):
 def asks_in_pieces(client):
     for place in range(0, len(GET_CATALOG), 10):
         client.sendall(GET_CATALOG[place : place + 10])
-        time.sleep(0.6 * TIME_LIMIT * 10 / len(GET_CATALOG))
+        time.sleep(0.4 * TIME_LIMIT * 10 / len(GET_CATALOG))
     return heard(client)
 
 
@@ -174,20 +177,19 @@ def one_try(serving, kind):
         return found, read, time.monotonic() - begun
 
 
-def some_tries(program, folder, name, count):
+def some_tries(serving, name, count):
     """So many tries of one kind over one program."""
     kind = KINDS[name]
     waits = []
     expected = (kind.owed, "closed") if kind.owed else None
-    with Serving(program, new_database(folder), "--time-limit", str(TIME_LIMIT)) as serving:
-        for _ in range(count):
-            reply, read, waited = one_try(serving, kind)
-            waits.append(waited)
-            yield f"one that {name}", reply, expected
-            yield f"the next behind one that {name}", read, CATALOG_REPLY
-        serving.process.kill()
-        lines = b"" if kind.owed else READ_LINE * count
-        yield f"the lines of one that {name}", serving.ended()[2], lines
+    for _ in range(count):
+        answer, read, waited = one_try(serving, kind)
+        waits.append(waited)
+        yield f"one that {name}", answer, expected
+        yield f"the next behind one that {name}", read, CATALOG_REPLY
+    serving.process.kill()
+    lines = b"" if kind.owed else READ_LINE * count
+    yield f"the lines of one that {name}", serving.ended()[2], lines
     yield f"the longest wait behind one that {name}", max(*waits, kind.most()), kind.most()
     if kind.owed and not kind.lingers:
         yield f"a wait behind one that {name}", max(median(waits), AT_ONCE), AT_ONCE
@@ -198,28 +200,25 @@ def closing(sent):
     return sent.replace(b"\r\n\r\n", b"\r\nConnection: close\r\n\r\n", 1)
 
 
-def unread_replies(program, folder):
+def unread_replies(serving):
     """One that asks for more than the system holds and reads nothing is let go when its time is over."""
-    words = ["--time-limit", str(TIME_LIMIT), "--per-connection", "1000"]
-    with Serving(program, new_database(folder), *words) as serving:
-        yield "made", serving.sends(closing(request("PUT", I, LARGE_SYNC))), reply(201, "{}")
-        with serving.connection() as client:
-            begun = time.monotonic()
-            client.sendall(request("GET", I, "") * 1000)
-            read = serving.sends(closing(GET_CATALOG))
-            waited = time.monotonic() - begun
-        yield "behind one that doesn't read", read, CATALOG_REPLY
-        yield "the wait behind it", max(waited, TIME_LIMIT + SOON), TIME_LIMIT + SOON
-        serving.process.kill()
-        yield "its line", serving.ended()[2], WRITE_LINE
+    yield "made", serving.sends(closing(request("PUT", I, LARGE_SYNC))), reply(201, "{}")
+    with serving.connection() as client:
+        begun = time.monotonic()
+        client.sendall(request("GET", I, "") * 1000)
+        read = serving.sends(closing(GET_CATALOG))
+        waited = time.monotonic() - begun
+    yield "behind one that doesn't read", read, CATALOG_REPLY
+    yield "the wait behind it", max(waited, TIME_LIMIT + SOON), TIME_LIMIT + SOON
+    serving.process.kill()
+    yield "its line", serving.ended()[2], WRITE_LINE
 
 
-def default_limit(program, folder):
+def default_limit(serving):
     """Without `--time-limit` a connection has ten seconds."""
-    with Serving(program, new_database(folder)) as serving:
-        _, read, waited = one_try(serving, KINDS["says nothing"])
-        yield "the next after the default time", read, CATALOG_REPLY
-        yield "the default time", 9.5 <= waited <= 10 + SOON, True
+    _, read, waited = one_try(serving, KINDS["says nothing"])
+    yield "the next after the default time", read, CATALOG_REPLY
+    yield "the default time", 9.5 <= waited <= 10 + SOON, True
 
 
 def limit_descriptors(serving, most):
@@ -228,54 +227,71 @@ def limit_descriptors(serving, most):
     return resource.prlimit(serving.process.pid, resource.RLIMIT_NOFILE, (most, hard))
 
 
-def lacking_descriptors(program, folder):
+def lacking_descriptors(serving):
     """Where descriptors lack, connections are taken again once there are some; or else the program ends."""
-    with Serving(program, new_database(folder)) as serving:
-        used = len(os.listdir(f"/proc/{serving.process.pid}/fd"))
-        for _ in range(3):
-            before = limit_descriptors(serving, used)
-            # An accept that waits already has its descriptor, and takes the first of the two.
-            with serving.connection() as first, serving.connection() as second:
-                for client in (first, second):
-                    client.sendall(GET_CATALOG)
-                time.sleep(0.3)
-                resource.prlimit(serving.process.pid, resource.RLIMIT_NOFILE, before)
-                for client in (first, second):
-                    yield "with descriptors again", heard(client), (CATALOG_REPLY, "closed")
-        limit_descriptors(serving, used)
-        with serving.connection(), serving.connection():
-            status, _, errors = serving.ended()
-        yield "without descriptors", (status, errors[-26:]), (1, b"osb-broker: cannot accept\n")
+    used = len(os.listdir(f"/proc/{serving.process.pid}/fd"))
+    for _ in range(3):
+        before = limit_descriptors(serving, used)
+        # An accept that waits already has its descriptor, and takes the first of the two.
+        with serving.connection() as first, serving.connection() as second:
+            for client in (first, second):
+                client.sendall(GET_CATALOG)
+            time.sleep(0.3)
+            resource.prlimit(serving.process.pid, resource.RLIMIT_NOFILE, before)
+            for client in (first, second):
+                yield "with descriptors again", heard(client), (CATALOG_REPLY, "closed")
+    limit_descriptors(serving, used)
+    with serving.connection(), serving.connection():
+        status, _, errors = serving.ended()
+    yield "without descriptors", (status, errors[-26:]), (1, b"osb-broker: cannot accept\n")
 
 
-def shared_time(program, folder):
+def shared_time(serving):
     """The requests of a connection share its time."""
-    words = ["--time-limit", str(TIME_LIMIT), "--per-connection", "1000"]
-    with Serving(program, new_database(folder), *words) as serving:
-        begun = time.monotonic()
-        with serving.connection() as client:
-            goes_on(client, GET_CATALOG, 0.2 * TIME_LIMIT)
-            read = heard(client)[0]
-        yield "the time of many requests", TIME_LIMIT <= time.monotonic() - begun <= TIME_LIMIT + SOON, True
-        yield "replies in that time", 2 <= read.count(b"HTTP/1.1 200 OK") <= 6, True
-        serving.process.kill()
-        yield "their line", serving.ended()[2], READ_LINE
+    begun = time.monotonic()
+    with serving.connection() as client:
+        # None comes just as the time ends, where its reply could be what fails.
+        goes_on(client, GET_CATALOG, 0.3 * TIME_LIMIT)
+        read = heard(client)[0]
+    yield "the time of many requests", TIME_LIMIT <= time.monotonic() - begun <= TIME_LIMIT + SOON, True
+    yield "replies in that time", 2 <= read.count(b"HTTP/1.1 200 OK") <= 6, True
+    serving.process.kill()
+    yield "their line", serving.ended()[2], READ_LINE
 
 
-OTHERS = [unread_replies, default_limit, lacking_descriptors, shared_time]
+LIMITED = ["--time-limit", str(TIME_LIMIT)]
+MANY_REQUESTS = ["--per-connection", "1000"]
+OTHERS = [
+    (default_limit, []),
+    (lacking_descriptors, []),
+    (unread_replies, LIMITED + MANY_REQUESTS),
+    (shared_time, LIMITED + MANY_REQUESTS),
+]
+
+
+def took_too_long(found):
+    """Whether some time isn't as expected."""
+    return any(got != expected and isinstance(expected, (bool, float)) for _, got, expected in found)
+
+
+def found_by(program, folder, trial, words):
+    """What a trial finds. One in which something took too long is made again, twice at most: a machine that
+    stops for a while says nothing of the program."""
+    for _ in range(ATTEMPTS):
+        with Serving(program, new_database(folder), *words) as serving:
+            found = list(trial(serving))
+        if not took_too_long(found):
+            break
+    return found
 
 
 def tries(program):
-    with tempfile.TemporaryDirectory() as folder:
-        with ThreadPoolExecutor(PROGRAMS * len(KINDS) + len(OTHERS)) as side_by_side:
-            trials = [trial(program, folder) for trial in OTHERS]
-            trials += [
-                some_tries(program, folder, name, TRIES // PROGRAMS)
-                for name in KINDS
-                for _ in range(PROGRAMS)
-            ]
-            for found in side_by_side.map(list, trials):
-                yield from found
+    trials = OTHERS + [
+        (partial(some_tries, name=name, count=TRIES // PROGRAMS), LIMITED) for name in KINDS for _ in range(PROGRAMS)
+    ]
+    with tempfile.TemporaryDirectory() as folder, ThreadPoolExecutor(SIDE_BY_SIDE) as pool:
+        for found in pool.map(lambda it: found_by(program, folder, *it), trials):
+            yield from found
 
 
 if __name__ == "__main__":
