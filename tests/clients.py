@@ -3,11 +3,12 @@
 
 usage: tests/clients.py PROGRAM [--times]
 
-Each kind of client comes forty times, without `--times` those that are silent or slow once. One that is owed a reply has it whole, and the next client is
-served. Without `--times` those kinds come whose outcome doesn't hang on how fast the machine is: so the
-gate tries them. With it all come, and the next client has to be served within half a second of that
-reply or, where none is owed, of the time of a connection. Then the kinds are tried side by side, over
-programs of their own, since most of it is waiting; it wants a machine that doesn't stand still.
+Each kind of client comes forty times; without `--times` those that are silent or slow come once. One
+that is owed a reply has it whole, and the next client is served. Without `--times` those kinds come
+whose outcome doesn't hang on how fast the machine is: so the gate tries them. With it all come, and the
+next client has to be served within half a second of that reply or, where none is owed, of the time of a
+connection. Then the kinds are tried side by side, over programs of their own, since most of it is
+waiting; it wants a machine that doesn't stand still.
 """
 
 import os
