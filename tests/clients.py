@@ -1,14 +1,12 @@
 #!/usr/bin/env python3
 """Tries what clients get that send too much, too slowly or nothing, and how long the next one waits.
 
-usage: tests/clients.py PROGRAM [--times]
+usage: tests/clients.py PROGRAM
 
-Each kind of client comes forty times; without `--times` those that are silent or slow come once. One
-that is owed a reply has it whole, and the next client is served. Without `--times` those kinds come
-whose outcome doesn't hang on how fast the machine is: so the gate tries them. With it all come, and the
-next client has to be served within half a second of that reply or, where none is owed, of the time of a
-connection. Then the kinds are tried side by side, over programs of their own, since most of it is
-waiting; it wants a machine that doesn't stand still.
+Each kind of client comes forty times. One that is owed a reply has it whole, and the next client is served
+within half a second of that reply or, where none is owed, of the time of a connection. The kinds are tried
+side by side, over programs of their own, since most of it is waiting. What goes wrong while the machine
+stands still is tried again (`calm.py`).
 """
 
 import os
@@ -18,32 +16,36 @@ import tempfile
 import threading
 import time
 from concurrent.futures import ThreadPoolExecutor
+from contextlib import ExitStack
 from dataclasses import dataclass
 from functools import partial
-from statistics import median
 from typing import Callable, Optional
 
+from calm import Watch
 from conversations import I, LARGE_SYNC, reply, request
 from program import CATALOG_REPLY, GET_CATALOG, NO_HEAD_REPLY, head_of
-from served import NO_BODY_REPLY
 from serving import Serving, new_database, tell
 
 TRIES = 40
 PROGRAMS = 4
 SIDE_BY_SIDE = 8
-ATTEMPTS = 3
 SOON = 0.5
-# Where nothing is waited for.
-AT_ONCE = 0.08
+# Where the client isn't read from after its reply, which would take 0.3.
+AT_ONCE = 0.2
 TIME_LIMIT = 1
 PAUSE = 0.05
-# A client that sends for longer than this may meet the end of what the broker reads past its reply.
-IN_TIME = 0.25
 
 READ_LINE = b"connection: read\n"
 WRITE_LINE = b"connection: write\n"
 
 LARGE = b"PUT / HTTP/1.1\r\nHost: b\r\nContent-Length: 900000\r\n\r\n"
+
+SERVED = (CATALOG_REPLY, "closed")
+
+NO_BODY_REPLY = (
+    b"HTTP/1.1 413 Payload Too Large\r\nContent-Type: application/json\r\nContent-Length: 40\r\n"
+    b'Connection: close\r\n\r\n{"description":"The body is too large."}'
+)
 
 
 def heard(client):
@@ -71,25 +73,22 @@ def goes_on(client, piece, pause=PAUSE):
     threading.Thread(target=send, daemon=True).start()
 
 
-def asks_once(client):
-    client.sendall(GET_CATALOG)
+def asks_once(client, sent=GET_CATALOG):
+    client.sendall(sent)
     return heard(client)
 
 
 def pipelines(client):
-    client.sendall(GET_CATALOG * 200)
-    return heard(client)
+    return asks_once(client, GET_CATALOG * 200)
 
 
 def pipelines_much(client):
     """More than the broker reads at once."""
-    client.sendall(GET_CATALOG * 3000)
-    return heard(client)
+    return asks_once(client, GET_CATALOG * 3000)
 
 
 def large_at_once(client):
-    client.sendall(LARGE + b"b" * 900_000)
-    return heard(client)
+    return asks_once(client, LARGE + b"b" * 900_000)
 
 
 def large_slowly(client):
@@ -134,79 +133,75 @@ def drips_a_request(client):
 
 
 def too_many_lines(client):
-    client.sendall(head_of(129))
-    return heard(client)
+    return asks_once(client, head_of(129))
 
 
 @dataclass
 class Kind:
-    """What a client does, and the reply that it is owed, if one is."""
+    """What a client does, the reply that it is owed, if one is, and how long the next client may wait: behind
+    that reply, or from when a client came that is owed none."""
 
     acts: Callable
     owed: Optional[bytes] = None
-    # Whether the client is read from after its reply.
-    lingers: bool = False
-
-    def most(self):
-        """How long the next client may wait."""
-        return SOON if self.owed else TIME_LIMIT + SOON
+    most: float = SOON
 
 
 KINDS = {
-    "never closes": Kind(asks_once, CATALOG_REPLY),
+    "never closes": Kind(asks_once, CATALOG_REPLY, AT_ONCE),
     "pipelines": Kind(pipelines, CATALOG_REPLY),
-    "pipelines more than is read": Kind(pipelines_much, CATALOG_REPLY, lingers=True),
-    "sends too large a body at once": Kind(large_at_once, NO_BODY_REPLY, lingers=True),
-    "sends too large a body slowly": Kind(large_slowly, NO_BODY_REPLY, lingers=True),
+    "pipelines more than is read": Kind(pipelines_much, CATALOG_REPLY),
+    "sends too large a body at once": Kind(large_at_once, NO_BODY_REPLY),
+    "sends too large a body slowly": Kind(large_slowly, NO_BODY_REPLY),
     "goes on after its reply": Kind(goes_on_after_a_reply, CATALOG_REPLY),
-    "goes on after a fault": Kind(goes_on_after_a_fault, NO_BODY_REPLY, lingers=True),
-    "floods after a fault": Kind(floods_after_a_fault, NO_BODY_REPLY, lingers=True),
-    "asks in pieces, within its time": Kind(asks_in_pieces, CATALOG_REPLY),
-    "sends too many lines and waits": Kind(too_many_lines, NO_HEAD_REPLY, lingers=True),
-    "says nothing": Kind(says_nothing),
-    "drips a request": Kind(drips_a_request),
+    "goes on after a fault": Kind(goes_on_after_a_fault, NO_BODY_REPLY),
+    "floods after a fault": Kind(floods_after_a_fault, NO_BODY_REPLY),
+    "asks in pieces, within its time": Kind(asks_in_pieces, CATALOG_REPLY, AT_ONCE),
+    "sends too many lines and waits": Kind(too_many_lines, NO_HEAD_REPLY),
+    "says nothing": Kind(says_nothing, most=TIME_LIMIT + SOON),
+    "drips a request": Kind(drips_a_request, most=TIME_LIMIT + SOON),
 }
 
 
-def one_try(serving, kind):
-    """What the client heard, what the next one read, how long that one waited, and how long the client took."""
+def heard_by(client, acts=asks_once):
+    """What a client hears that acts so. One that can't send any more still reads."""
+    try:
+        return acts(client)
+    except ConnectionError:
+        return heard(client)[0], "reset"
+
+
+def heard_next(serving, acts=asks_once):
+    """The same of a new client."""
+    with serving.connection() as client:
+        return heard_by(client, acts)
+
+
+def new_lines(serving):
+    """What the program has written on standard error since they were last looked at."""
+    os.set_blocking(serving.process.stderr.fileno(), False)
+    return serving.process.stderr.read() or b""
+
+
+def one_try(serving, name):
+    """A client of a kind, and the next one while the first stays."""
+    kind = KINDS[name]
     begun = time.monotonic()
     with serving.connection() as client:
-        try:
-            found = kind.acts(client)
-        except ConnectionError:
-            found = heard(client)[0], "reset"
-        acted = time.monotonic()
-        read = serving.sends(GET_CATALOG)
-        waited = time.monotonic() - (acted if kind.owed else begun)
-        return found, read, waited, acted - begun
+        answer = heard_by(client, kind.acts)
+        if kind.owed:
+            begun = time.monotonic()
+        next_answer = heard_next(serving)
+        waited = time.monotonic() - begun
+    yield f"one that {name}", answer, (kind.owed, "closed") if kind.owed else None
+    yield f"the next behind one that {name}", next_answer, SERVED
+    yield f"the wait behind one that {name}", max(waited, kind.most), kind.most
+    yield f"the lines of one that {name}", new_lines(serving), b"" if kind.owed else READ_LINE
 
 
-def try_in_time(serving, kind):
-    """The same of a client that took no longer than it may. One that did stood still with the machine."""
-    for _ in range(TRIES):
-        found, read, waited, took = one_try(serving, kind)
-        if not kind.lingers or took <= IN_TIME:
-            break
-    return found, read, waited
-
-
-def some_tries(serving, name, count):
-    """So many tries of one kind over one program."""
-    kind = KINDS[name]
-    waits = []
-    expected = (kind.owed, "closed") if kind.owed else None
-    for _ in range(count):
-        answer, read, waited = try_in_time(serving, kind)
-        waits.append(waited)
-        yield f"one that {name}", answer, expected
-        yield f"the next behind one that {name}", read, CATALOG_REPLY
-    serving.process.kill()
-    lines = b"" if kind.owed else READ_LINE * count
-    yield f"the lines of one that {name}", serving.ended()[2], lines
-    yield f"the longest wait behind one that {name}", max(*waits, kind.most()), kind.most()
-    if kind.owed and not kind.lingers:
-        yield f"a wait behind one that {name}", max(median(waits), AT_ONCE), AT_ONCE
+def some_tries(serving, name, watch):
+    """So many tries of one kind as each program has of them."""
+    for _ in range(TRIES // PROGRAMS):
+        yield from watch.calmly(partial(one_try, serving, name))
 
 
 def closing(sent):
@@ -216,23 +211,25 @@ def closing(sent):
 
 def unread_replies(serving):
     """One that asks for more than the system holds and reads nothing is let go when its time is over."""
-    yield "made", serving.sends(closing(request("PUT", I, LARGE_SYNC))), reply(201, "{}")
+    makes = closing(request("PUT", I, LARGE_SYNC))
+    yield "made", heard_next(serving, partial(asks_once, sent=makes)), (reply(201, "{}"), "closed")
     with serving.connection() as client:
         begun = time.monotonic()
         client.sendall(request("GET", I, "") * 1000)
-        read = serving.sends(closing(GET_CATALOG))
+        next_answer = heard_next(serving, partial(asks_once, sent=closing(GET_CATALOG)))
         waited = time.monotonic() - begun
-    yield "behind one that doesn't read", read, CATALOG_REPLY
+    yield "behind one that doesn't read", next_answer, SERVED
     yield "the wait behind it", max(waited, TIME_LIMIT + SOON), TIME_LIMIT + SOON
-    serving.process.kill()
-    yield "its line", serving.ended()[2], WRITE_LINE
+    yield "its line", new_lines(serving), WRITE_LINE
 
 
 def default_limit(serving):
     """Without `--time-limit` a connection has ten seconds."""
-    _, read, waited = try_in_time(serving, KINDS["says nothing"])
-    yield "the next after the default time", read, CATALOG_REPLY
-    yield "the default time", 9.5 <= waited <= 10 + SOON, True
+    begun = time.monotonic()
+    with serving.connection():
+        next_answer = heard_next(serving)
+    yield "the next after the default time", next_answer, SERVED
+    yield "the default time", 9.5 <= time.monotonic() - begun <= 10 + SOON, True
 
 
 def limit_descriptors(serving, most):
@@ -253,7 +250,7 @@ def lacking_descriptors(serving):
             time.sleep(0.3)
             resource.prlimit(serving.process.pid, resource.RLIMIT_NOFILE, before)
             for client in (first, second):
-                yield "with descriptors again", heard(client), (CATALOG_REPLY, "closed")
+                yield "with descriptors again", heard(client), SERVED
     limit_descriptors(serving, used)
     with serving.connection(), serving.connection():
         status, _, errors = serving.ended()
@@ -269,8 +266,7 @@ def shared_time(serving):
         read = heard(client)[0]
     yield "the time of many requests", TIME_LIMIT <= time.monotonic() - begun <= TIME_LIMIT + SOON, True
     yield "replies in that time", 2 <= read.count(b"HTTP/1.1 200 OK") <= 6, True
-    serving.process.kill()
-    yield "their line", serving.ended()[2], READ_LINE
+    yield "their line", new_lines(serving), READ_LINE
 
 
 LIMITED = ["--time-limit", str(TIME_LIMIT)]
@@ -283,61 +279,30 @@ OTHERS = [
 ]
 
 
-# Kinds whose outcome stays where the machine stands still for a while, and the seconds of a connection.
-STEADY = {
-    "never closes": 60,
-    "pipelines": 60,
-    "goes on after its reply": 60,
-    "asks in pieces, within its time": 60,
-    "sends too many lines and waits": 60,
-    "says nothing": 5,
-    "drips a request": 5,
-}
+# One program at a time looks for a free address and takes it.
+STARTS = threading.Lock()
 
 
-def steady_tries(program, folder, name):
-    """So many tries of a kind, whatever time they take."""
-    kind = KINDS[name]
-    with Serving(program, new_database(folder), "--time-limit", str(STEADY[name])) as serving:
-        for _ in range(TRIES if kind.owed else 1):
-            answer, read, *_ = one_try(serving, kind)
-            yield f"one that {name}", answer, (kind.owed, "closed") if kind.owed else None
-            yield f"the next behind one that {name}", read, CATALOG_REPLY
-        serving.process.kill()
-        yield f"the lines of one that {name}", serving.ended()[2], b"" if kind.owed else READ_LINE
-
-
-def steady(program):
-    with tempfile.TemporaryDirectory() as folder:
-        for name in STEADY:
-            yield from steady_tries(program, folder, name)
-
-
-def took_too_long(found):
-    """Whether some time isn't as expected."""
-    return any(got != expected and isinstance(expected, (bool, float)) for _, got, expected in found)
-
-
-def found_by(program, folder, trial, words):
-    """What a trial finds. One in which something took too long is made again, twice at most: a machine that
-    stops for a while says nothing of the program."""
-    for _ in range(ATTEMPTS):
-        with Serving(program, new_database(folder), *words) as serving:
-            found = list(trial(serving))
-        if not took_too_long(found):
-            break
-    return found
+def over_its_own(program, folder, words, trial):
+    """What a trial finds over a program of its own."""
+    with ExitStack() as stack:
+        with STARTS:
+            serving = stack.enter_context(Serving(program, new_database(folder), *words))
+        return list(trial(serving))
 
 
 def tries(program):
-    trials = OTHERS + [
-        (partial(some_tries, name=name, count=TRIES // PROGRAMS), LIMITED) for name in KINDS for _ in range(PROGRAMS)
-    ]
+    watch = Watch()
     with tempfile.TemporaryDirectory() as folder, ThreadPoolExecutor(SIDE_BY_SIDE) as pool:
-        for found in pool.map(lambda it: found_by(program, folder, *it), trials):
+        over = partial(over_its_own, program, folder)
+        trials = [partial(watch.calmly, partial(over, words, trial)) for trial, words in OTHERS]
+        for name, kind in KINDS.items():
+            trial = partial(some_tries, name=name, watch=watch)
+            trials += [partial(over, [] if kind.owed else LIMITED, trial)] * PROGRAMS
+        for found in pool.map(lambda trial: trial(), trials):
             yield from found
+    print(f"clients: {watch.again} trials again, since the machine stood still")
 
 
 if __name__ == "__main__":
-    tried = tries if sys.argv[2:] == ["--times"] else steady
-    sys.exit(tell("clients", tried(os.path.abspath(sys.argv[1]))))
+    sys.exit(tell("clients", tries(os.path.abspath(sys.argv[1]))))
