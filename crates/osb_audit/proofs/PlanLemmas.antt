@@ -2,6 +2,7 @@
 use Rattle.std.proofs.Common.{◌≡◌, ℕ, ◌≤◌, suc, Bool, true, false, cond, ◌&&◌, ◌||◌, T, List, [], ◌∷◌, length, map, filter, bytes_eq, is_eq, is_gt, is_lt, Option, Some, None, Ordering, Less, Equal, Greater, refl, sym, ◌∙◌, ap, subst, arith}
 use Rattle.std.specs.Prelude.{filter_map, unwrap_or, IfSome}
 use Rattle.std.specs.List.{AllByRecursion, list_any, flat_map}
+use Rattle.std.specs.Str.{is_utf8}
 use Rattle.std.specs.List.Sorted.{IsStrictlySortedBy}
 use Rattle.std.specs.Ordering.{eq_by_cmp, ordering_reverse}
 use Rattle.std.specs.Cmp.{tied_itself}
@@ -12,7 +13,7 @@ use Rattle.std.specs.BTreeSet.{BTreeSet}
 use Rattle.std.proofs.Math.Bool.{or-false}
 use Rattle.std.proofs.lemmas.List.{take_all}
 use Rattle.std.proofs.lemmas.List.Folds.{list_any-append}
-use Rattle.osb_text.specs.Id.{is_id}
+use Rattle.osb_text.specs.Id.{has_no_controls, is_id}
 use Rattle.osb_orders.specs.declared.order.OrderKind.TheVariants.{Update}
 use Rattle.osb_orders.specs.declared.order.OrderState.TheVariants.{Running}
 use Rattle.osb_orders.specs.declared.order.Order.{Order}
@@ -149,8 +150,12 @@ whole_listing lives limit h = take_all limit (filter (is_listed []) (filter_map 
 
 -- ---- the pairs of all
 
+none_is_id : (utf8 small plain : Bool) → (((utf8 && false) && small) && plain) ≡ true → false ≡ true
+none_is_id true small plain e = e
+none_is_id false small plain e = e
+
 after_none : (id : List ℕ) → is_id id ≡ true → is_gt (by_bytes id []) ≡ true
-after_none [] e = cc
+after_none [] e = let no = none_is_id (is_utf8 []) true (has_no_controls []) e in cc
 after_none (c ∷ id) e = refl
 
 shuffled : (s u r w : Bool) → ((s || u) || (r || w)) ≡ ((u || r) || (s || w))

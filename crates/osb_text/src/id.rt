@@ -2,6 +2,7 @@ ghost use Rattle.std.specs.Prelude.{◌≡◌};
 ghost use Rattle.osb_text.specs.Id.{has_no_controls, is_id};
 
 /// Whether the text may be an id: 1 to 256 bytes with no control character.
+#[tactic(auto, using(crate::proofs::Utf8::utf8_test))]
 pub fn is_id(text: &str) -> bool
     ensures { result ≡ is_id text.now }
 {
