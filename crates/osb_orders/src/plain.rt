@@ -1,7 +1,7 @@
 //! The lives kept in memory as their definition has them. It is slow and obvious: what keeps them
 //! otherwise is compared with it.
 
-ghost use Rattle.std.specs.Prelude.{◌≡◌, IfOk, OnOk, OnErr};
+ghost use Rattle.std.specs.Prelude.{◌≡◌, ◌≢◌, IfOk, OnOk, OnErr};
 ghost use Rattle.std.specs.FinMap.{empty};
 
 mod bindings;
@@ -48,6 +48,7 @@ impl PlainLives {
     ghost use Rattle.osb_orders.specs.Lives.{life_of, named_life};
     ghost use Rattle.osb_orders.specs.Named.{instance_in};
     ghost use Rattle.osb_orders.specs.Listing.{listing, listing_for};
+    ghost use Rattle.osb_orders.specs.declared.order.Change.TheVariants.{Nothing};
     ghost use Rattle.osb_orders.specs.Changed.{lives_changed};
     ghost use Rattle.osb_orders.specs.Facts.{facts, view_of};
 
@@ -121,11 +122,12 @@ impl PlainLives {
         }
     }
 
-    /// Makes the change to the life of the instance; where memory is refused, to none. Whether it may
-    /// be made isn't looked at.
+    /// Makes the change to the life of the instance; where memory is refused, to none. No change takes
+    /// no memory. Whether it may be made isn't looked at.
     pub fn apply(&mut self, alloc: Global, instance: &str, change: Change) -> Result<(), AllocError>
         ensures ok { OnOk result (self.new ≡ lives_changed change instance.now self.old) }
         ensures err { OnErr result (self.new ≡ self.old) }
+        ensures sure { OnErr result (change ≢ Nothing) }
     {
         match change {
             Change::Nothing => Ok(()),

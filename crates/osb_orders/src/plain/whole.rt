@@ -1,4 +1,4 @@
-ghost use Rattle.std.specs.Prelude.{◌≡◌, [], length, IfOk, option_and_then};
+ghost use Rattle.std.specs.Prelude.{◌≡◌, ◌≤◌, ◌^◌, [], length, IfOk, OnErr, option_and_then};
 ghost use Rattle.osb_orders.specs.Bindings.{binding_of};
 ghost use Rattle.osb_orders.specs.Lists.{last_of};
 ghost use Rattle.osb_orders.specs.Life.{standing_of};
@@ -99,7 +99,8 @@ fn last_polled(alloc: Global, ask: &Ask, life: &[Order]) -> Result<Option<Order>
 
 /// How many orders there are. Where that is 2^32 or more, want of memory is answered.
 fn count_of(life: &[Order]) -> Result<u32, AllocError>
-    ensures { IfOk result (λ count. count ≡ length life.now) }
+    ensures ok { IfOk result (λ count. count ≡ length life.now) }
+    ensures sure { OnErr result (2 ^ 32 ≤ length life.now) }
 {
     u32::try_from(life.len()).map_err(|_| AllocError)
 }
