@@ -1,9 +1,14 @@
 -- What a writer that keeps its bytes has.
 use Rattle.std.specs.Prelude.{ℕ, ◌-◌, List, vec_len, vec_capacity}
 use Rattle.osb_frames.specs.declared.kept.Kept.{Kept}
+use Rattle.osb_frames.specs.Calls.{Call}
 
 abbrev pub bytes_of : Kept → List ℕ
 bytes_of kept = kept.bytes.items
+
+-- the writes that were made of it, the oldest first
+abbrev pub calls_of : Kept → List Call
+calls_of kept = kept.calls.list
 
 -- how many bytes more it surely takes
 abbrev pub room_of : Kept → ℕ

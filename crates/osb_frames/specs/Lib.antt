@@ -7,3 +7,4 @@ pub mod Found
 pub mod Calls
 pub mod Counted
 pub mod Kept
+pub mod Writers

@@ -17,7 +17,7 @@ pub struct Kept {
 }
 
 impl Kept {
-    ghost use Rattle.osb_frames.specs.Kept.{bytes_of, room_of};
+    ghost use Rattle.osb_frames.specs.Kept.{bytes_of, calls_of, room_of};
 
     /// Writes go behind these bytes.
     pub fn new(bytes: Vec<u8>) -> Kept
@@ -33,6 +33,7 @@ impl Kept {
     /// Makes room for so many bytes more, or refuses and stays as it was.
     pub fn reserve(&mut self, additional: usize) -> Result<(), AllocError>
         ensures bytes { bytes_of self.new ≡ bytes_of self.old }
+        ensures calls { calls_of self.new ≡ calls_of self.old }
         ensures ok { OnOk result (additional ≤ room_of self.new) }
         ensures err { OnErr result (room_of self.new ≡ room_of self.old) }
     {
