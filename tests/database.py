@@ -247,15 +247,22 @@ SPOILED = {
     ],
     "a further view": ["CREATE VIEW more AS SELECT 1 AS a"],
     "statistics": ["ANALYZE"],
+    "a kind of 0": ["UPDATE orders SET kind = 0 WHERE instance_id = 'r'"],
+    "a kind that is none": ["UPDATE orders SET kind = 6 WHERE instance_id = 'r'"],
+    "a state that is none": ["UPDATE orders SET state = 3 WHERE instance_id = 'r'"],
+    "a phase that is none": ["UPDATE instances SET phase = 9 WHERE instance_id = 'i'"],
+    "busy twice": ["UPDATE instances SET busy = 2 WHERE instance_id = 'r'"],
+    "an absent instance with a text": ["UPDATE instances SET plan_id = 'p' WHERE instance_id = 'g'"],
+    "a binding's phase of 0": ["UPDATE bindings SET phase = 0"],
+    "a binding's phase that is none": ["UPDATE bindings SET phase = 5"],
 }
 
-# Rows that can't be read as any order or any row.
+# Rows that can't be read: a number that isn't one of 32 bits, a rowid below 0, a text that is no UTF-8.
 UNREADABLE = {
-    "a phase that is none": "UPDATE instances SET phase = 9 WHERE instance_id = 'i'",
-    "a kind that is none": "UPDATE orders SET kind = 6 WHERE instance_id = 'r'",
     "a number below 0": "UPDATE orders SET seq = -1 WHERE instance_id = 'r'",
+    "a number of more than 32 bits": "UPDATE orders SET seq = 4294967296 WHERE instance_id = 'r'",
+    "a rowid below 0": "UPDATE orders SET rowid = -1 WHERE instance_id = 'r'",
     "a text that is no UTF-8": "UPDATE orders SET note = CAST(x'ff' AS TEXT)",
-    "an absent instance with a text": "UPDATE instances SET plan_id = 'p' WHERE instance_id = 'g'",
 }
 
 # What may be done to the file without a change of its rows.

@@ -1,5 +1,5 @@
 -- What the rows that were read tell of the lives.
-use Rattle.std.proofs.Common.{◌≡◌, ℕ, zero, suc, ◌+◌, ◌<◌, add-one, List, [], ◌∷◌, ◌++◌, length, map, filter, take, get_or, refl, sym, ap, ap₂, ◌∙◌, arith}
+use Rattle.std.proofs.Common.{◌≡◌, ℕ, zero, suc, ◌+◌, ◌<◌, add-one, List, [], ◌∷◌, ◌++◌, length, map, filter, take, drop, get_or, refl, sym, ap, ap₂, ◌∙◌, arith}
 use Rattle.std.proofs.lemmas.List.{map-append}
 use Rattle.sqlite.specs.Order.{Row}
 use Rattle.osb_orders.specs.declared.order.Order.{Order}
@@ -34,3 +34,10 @@ pub told_more : {R A B : Type 0} (shown : A → B) (told : R → B) (rows : List
     → next ≡ found ++ item ∷ [] → map shown next ≡ map told (take (at + 1) rows)
 told_more shown told rows at row found next item low is were tells grown =
     ap (map shown) grown ∙ map-append shown found (item ∷ []) ∙ told_push told rows at row (map shown found) (map shown found ++ shown item ∷ []) (shown item) low is were refl tells
+
+-- each of the rows of entries is that of one of them
+pub row_of : {R E : Type 0} (shown : E → R) (rows : List R) (entries : List E) (i : ℕ) (row : R) → i < length rows → row ≡ get_or rows i row → rows ≡ map shown entries → (entry : E) × (row ≡ shown entry)
+row_of shown rows [] i row low at is = absurd (omega (arith, low, ap length is))
+row_of shown [] (entry ∷ entries) i row low at is = absurd (omega (arith, low))
+row_of shown (first ∷ rows) (entry ∷ entries) zero row low at is = (entry, at ∙ ap (λ rows. get_or rows 0 row) is)
+row_of shown (first ∷ rows) (entry ∷ entries) (suc i) row low at is = row_of shown rows entries i row (omega (arith, low)) at (ap (drop 1) is)

@@ -16,7 +16,7 @@ use Rattle.osb_audit.specs.Orders.{Entry, entry_cmp}
 use Rattle.osb_audit.specs.Instances.{InstanceEntry, instance_cmp}
 use Rattle.osb_audit.specs.Bindings.{binding_cmp}
 use Rattle.osb_records.specs.Columns.{number_in}
-use Rattle.osb_records.specs.Rows.{IsListOf, AreRowids}
+use Rattle.osb_records.specs.Rows.{Stores, IsListOf, AreRowids}
 use Rattle.osb_records.specs.Instances.{instance_cells, instance_row, instance_told, instance_columns}
 use Rattle.osb_records.specs.Bindings.{binding_cells, binding_row, binding_told, binding_columns}
 use Rattle.osb_records.specs.Stored.{order_cells, entry_row, entry_told, entry_columns, version_cells, version_row, version_columns}
@@ -29,7 +29,7 @@ use Rattle.osb_records.proofs.SortLemmas.{entry_total, told_back, instance_total
 use Rattle.osb_records.proofs.TestLemmas.{number_cmp}
 use Rattle.osb_records.proofs.Texts.{all_cells, by_key, instance_cells_read, by_instance, every}
 use Rattle.osb_records.proofs.WholeTexts.{version_cells_read, by_version, version_rowids, version_rowids_is, select_versions, select_versions_is, order_rowids, order_rowids_is, select_orders, select_orders_is, instance_rowids, instance_rowids_is, select_instances, select_instances_is, binding_rowids, binding_rowids_is, select_bindings, select_bindings_is}
-use Rattle.osb_records.proofs.WholeLemmas.{is_list, rowids_shown}
+use Rattle.osb_records.proofs.WholeLemmas.{are_shown, is_list, rowids_shown}
 
 -- the version of a row
 abbrev version_told : Row → ℕ
@@ -73,3 +73,21 @@ bindings_read old mid new ids rows entries has same first second are is =
     let answer = subst (λ (d : Database). IsAnswer (over 5 [] binding_cells_read by_ids every) (overlay d.trees []) [] rows) same (read.answer Null) in
     is_list 5 old.now.trees refl binding_cells binding_row binding_cmp binding_total binding_told binding_back binding_cells_read by_ids (λ _. refl) (λ _. refl) (λ _. refl) (λ a b less. by_both_ids a b ∙ less) binding_columns (λ _. refl) (λ _. refl) rows entries answer
     (rowids_shown 5 old.now.trees refl ids (found.answer Null) are) is
+
+pub orders_shown : (old mid new : State) (rows : List Row) (entries : List Entry) → old.now.schema ≡ record_schema → mid.now ≡ old.now → Shown select_orders [] mid new rows → Stores order_cells entry_row entry_cmp (old.now.trees 1) entries → rows ≡ map entry_row entries
+orders_shown old mid new rows entries has same second stores =
+    let read = reads_as select_orders [] mid new record_schema (ap (λ (d : Database). d.schema) same ∙ has) _ select_orders_is.0 select_orders_is.2 select_orders_is.1 rows second in
+    let answer = subst (λ (d : Database). IsAnswer (over 1 [] all_cells by_key every) (overlay d.trees []) [] rows) same (read.answer Null) in
+    are_shown 1 old.now.trees refl order_cells entry_row entry_cmp entry_total entry_told told_back all_cells by_key (λ _. refl) (λ _. refl) (λ _. refl) (λ a b less. by_both a b ∙ less) entry_columns (λ _. refl) (λ _. refl) rows entries answer stores
+
+pub instances_shown : (old mid new : State) (rows : List Row) (entries : List InstanceEntry) → old.now.schema ≡ record_schema → mid.now ≡ old.now → Shown select_instances [] mid new rows → Stores instance_cells instance_row instance_cmp (old.now.trees 3) entries → rows ≡ map instance_row entries
+instances_shown old mid new rows entries has same second stores =
+    let read = reads_as select_instances [] mid new record_schema (ap (λ (d : Database). d.schema) same ∙ has) _ select_instances_is.0 select_instances_is.2 select_instances_is.1 rows second in
+    let answer = subst (λ (d : Database). IsAnswer (over 3 [] instance_cells_read by_instance every) (overlay d.trees []) [] rows) same (read.answer Null) in
+    are_shown 3 old.now.trees refl instance_cells instance_row instance_cmp instance_total instance_told instance_back instance_cells_read by_instance (λ _. refl) (λ _. refl) (λ _. refl) (λ a b less. by_id a b ∙ less) instance_columns (λ _. refl) (λ _. refl) rows entries answer stores
+
+pub bindings_shown : (old mid new : State) (rows : List Row) (entries : List BindingEntry) → old.now.schema ≡ record_schema → mid.now ≡ old.now → Shown select_bindings [] mid new rows → Stores binding_cells binding_row binding_cmp (old.now.trees 5) entries → rows ≡ map binding_row entries
+bindings_shown old mid new rows entries has same second stores =
+    let read = reads_as select_bindings [] mid new record_schema (ap (λ (d : Database). d.schema) same ∙ has) _ select_bindings_is.0 select_bindings_is.2 select_bindings_is.1 rows second in
+    let answer = subst (λ (d : Database). IsAnswer (over 5 [] binding_cells_read by_ids every) (overlay d.trees []) [] rows) same (read.answer Null) in
+    are_shown 5 old.now.trees refl binding_cells binding_row binding_cmp binding_total binding_told binding_back binding_cells_read by_ids (λ _. refl) (λ _. refl) (λ _. refl) (λ a b less. by_both_ids a b ∙ less) binding_columns (λ _. refl) (λ _. refl) rows entries answer stores

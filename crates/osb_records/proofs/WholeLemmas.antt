@@ -102,6 +102,13 @@ module _ (tree : ℕ) (db : Trees) where
         (shows : (e : E) → (out tree [] project order every seen [] (Null ∷ shown e)).1 ≡ shown e)
         (ordered : (a b : E) → cmp a b ≡ Less → output_cmp (over tree [] project order every) (out tree [] project order every seen [] (Null ∷ shown a)) (out tree [] project order every seen [] (Null ∷ shown b)) ≡ Less)
         (columns : Row → Row) (columns_cells : (row : Row) → columns (cells row) ≡ cells row) (columns_shown : (e : E) → columns (shown e) ≡ shown e) where
+      -- where the table stores entries, the rows that were read show them
+      pub are_shown : (rows : List Row) (others : List E) → IsAnswer (over tree [] project order every) seen [] rows → Stores cells shown cmp (db tree) others → rows ≡ map shown others
+      are_shown rows others a stores =
+          let stored = subst (λ own. Stores cells shown cmp own others) (sym sees) stores in
+          one_answer tree [] project order every seen [] cells shown cmp total (λ _. true) (λ _. refl) out_cells (λ _. refl) ordered others rows stored a
+          ∙ ap (map _) (none_left others) ∙ map_same _ shown shows others
+
       same_shown : (es others : List E) → map shown es ≡ map shown others → es ≡ others
       same_shown es others is = sym (map_back shown told back es) ∙ ap (map told) is ∙ map_back shown told back others
 
@@ -114,9 +121,5 @@ module _ (tree : ℕ) (db : Trees) where
               let all = subst (λ list. IsPermutation list rows) (map_same _ cells out_shows (db tree)) (all_shown project order rows a) in
               subst₂ IsPermutation (map-map columns cells (db tree) ∙ map_same _ cells columns_cells (db tree)) (sym is) (IsPermutation-map columns _ _ all);
         };
-        only = λ others stores.
-            let stored = subst (λ own. Stores cells shown cmp own others) (sym sees) stores in
-            let one = one_answer tree [] project order every seen [] cells shown cmp total (λ _. true) (λ _. refl) out_cells (λ _. refl) ordered others rows stored a in
-            let rows_are = one ∙ ap (map _) (none_left others) ∙ map_same _ shown shows others in
-            same_shown others entries (sym (is ∙ ap (map columns) rows_are ∙ map-map columns shown others ∙ map_same _ shown columns_shown others));
+        only = λ others stores. same_shown others entries (sym (is ∙ ap (map columns) (are_shown rows others a stores) ∙ map-map columns shown others ∙ map_same _ shown columns_shown others));
       }

@@ -1,6 +1,6 @@
 //! Taking over a database.
 
-ghost use Rattle.std.specs.Prelude.{◌≡◌, ◌↔◌, true, Err, IsTrue, IfOk, IfErr, OnOk, OnErr};
+ghost use Rattle.std.specs.Prelude.{◌≡◌, ◌≢◌, ◌↔◌, true, false, Err, IsTrue, IfOk, IfErr, OnOk, OnErr};
 ghost use Rattle.std.specs.FinMap.{empty};
 ghost use Rattle.sqlite.specs.Held.{state};
 ghost use Rattle.sqlite.specs.State.{HasCleanDisk, KeepsCommit, Survives};
@@ -25,6 +25,7 @@ fn check_tables<S: Alter>(conn: &mut Connection<S>, alloc: Global) -> Result<boo
     ensures ok { HasCleanDisk (state S.Store conn.new) → IfOk result (λ whole. (whole ≡ true) ↔ StoreLives (state S.Store conn.old).now.trees) }
     ensures schema { HasCleanDisk (state S.Store conn.new) → OnOk result ((state S.Store conn.old).now.schema ≡ record_schema) }
     ensures same { HasCleanDisk (state S.Store conn.new) → IsTrue (state S.Store conn.new).is_open → (state S.Store conn.new).now ≡ (state S.Store conn.old).now }
+    ensures known { HasCleanDisk (state S.Store conn.new) → StoreLives (state S.Store conn.old).now.trees → result ≢ Err faults.NotOurs }
     ensures crash { Survives (state S.Store conn.old) (state S.Store conn.new) (λ _. ⊥) }
 {
     let mut tx = conn.transaction();
@@ -49,7 +50,7 @@ fn take_tables<S: Alter>(conn: &mut Connection<S>, alloc: Global) -> Result<(), 
     match check_tables(conn, alloc) {
         Ok(true) => Ok(()),
         Ok(false) => Err(StoreFault::NotOurs),
-        Err(_) => Err(StoreFault::Refused),
+        Err(fault) => Err(fault),
     }
 }
 
@@ -71,7 +72,7 @@ fn index_tables<S: Alter>(
     match are_tables_whole(tx, alloc) {
         Ok(true) => Ok(()),
         Ok(false) => Err(StoreFault::NotOurs),
-        Err(_) => Err(StoreFault::Refused),
+        Err(fault) => Err(fault),
     }
 }
 
@@ -85,6 +86,7 @@ fn complete_tables<S: Alter>(
 ) -> Result<(), StoreFault>
     requires settled { IsSettled (state S.Store conn.old) }
     requires schema { ShowsSchema (lacking is_listed) (state S.Store conn.old) }
+    ensures settled { IsSettled (state S.Store conn.new) }
     ensures ready { OnOk result (IsReady (state S.Store conn.new)) }
     ensures ok { HasCleanDisk (state S.Store conn.new) → OnOk result (StandIn (state S.Store conn.old).now (stored (state S.Store conn.new))) }
     ensures err { HasCleanDisk (state S.Store conn.new) → IsTrue (state S.Store conn.new).is_open → OnErr result ((state S.Store conn.new).now ≡ (state S.Store conn.old).now) }
@@ -102,6 +104,7 @@ fn complete_tables<S: Alter>(
 fn make<S: Alter>(conn: &mut Connection<S>) -> Result<(), StoreFault>
     requires settled { IsSettled (state S.Store conn.old) }
     requires blank { ShowsSchema no_schema (state S.Store conn.old) }
+    ensures settled { IsSettled (state S.Store conn.new) }
     ensures ready { OnOk result (IsReady (state S.Store conn.new)) }
     ensures ok { HasCleanDisk (state S.Store conn.new) → OnOk result (stored (state S.Store conn.new) ≡ empty) }
     ensures err { HasCleanDisk (state S.Store conn.new) → IsTrue (state S.Store conn.new).is_open → OnErr result ((state S.Store conn.new).now ≡ (state S.Store conn.old).now) }
@@ -115,6 +118,7 @@ fn make<S: Alter>(conn: &mut Connection<S>) -> Result<(), StoreFault>
 /// Takes over a database that no transaction is open on, or leaves it as it was.
 fn take_settled<S: Alter>(conn: &mut Connection<S>, alloc: Global) -> Result<(), StoreFault>
     requires { IsSettled (state S.Store conn.old) }
+    ensures settled { IsSettled (state S.Store conn.new) }
     ensures ready { OnOk result (IsReady (state S.Store conn.new)) }
     ensures ok { HasCleanDisk (state S.Store conn.new) → IsTrue (state S.Store conn.new).is_open → OnOk result (StandIn (state S.Store conn.old).now (stored (state S.Store conn.new))) }
     ensures err { HasCleanDisk (state S.Store conn.new) → IsTrue (state S.Store conn.new).is_open → OnErr result ((state S.Store conn.new).now ≡ (state S.Store conn.old).now) }
@@ -136,6 +140,7 @@ pub(crate) fn take_over<S: Alter>(conn: &mut Connection<S>, alloc: Global) -> Re
     ensures ok { HasCleanDisk (state S.Store conn.new) → IsTrue (state S.Store conn.new).is_open → OnOk result (StandIn (state S.Store conn.old).now (stored (state S.Store conn.new))) }
     ensures err { HasCleanDisk (state S.Store conn.new) → IsTrue (state S.Store conn.new).is_open → OnErr result ((state S.Store conn.new).now ≡ (state S.Store conn.old).now) }
     ensures not_ours { HasCleanDisk (state S.Store conn.new) → result ≡ Err faults.NotOurs → (lives : Lives) → ¬ StandIn (state S.Store conn.old).now lives }
+    ensures settled { (state S.Store conn.old).in_transaction ≡ false → IsSettled (state S.Store conn.new) }
     ensures open_transaction { IsTrue (state S.Store conn.old).in_transaction → (result ≡ Err faults.Refused) × (conn.new ≡ conn.old) }
     ensures crash { Survives (state S.Store conn.old) (state S.Store conn.new) (HoldsSame (state S.Store conn.old).now) }
 {

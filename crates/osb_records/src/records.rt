@@ -17,7 +17,7 @@ ghost use Rattle.osb_orders.specs.IsLife.{IsLives};
 ghost use Rattle.osb_records.specs.declared.fault.StoreFault.TheVariants as faults;
 ghost use Rattle.osb_records.specs.Kept.{KeepsLives};
 ghost use Rattle.osb_records.specs.Opened.{StandIn, HoldsSame};
-ghost use Rattle.osb_records.specs.Steps.{IsReady, LeavesOnly, stored};
+ghost use Rattle.osb_records.specs.Steps.{IsReady, IsSettled, LeavesOnly, stored};
 ghost use Rattle.osb_records.specs.Commit.{Commits, FinishesLast, Lasts};
 
 use crate::adopt::take_over;
@@ -67,8 +67,8 @@ pub fn open_memory(alloc: Global) -> Result<Records<MemStore>, StoreFault>
 impl<S: Alter> Records<S> {
     /// Takes a database over: one that this program made, or one that is empty, in which the tables are
     /// made. Where it has other tables or the rows of no well-formed lives, it isn't ours. With a fault
-    /// the connection comes back with its tables as they were. A connection with an open transaction
-    /// is refused, and comes back with it.
+    /// the connection comes back with its tables as they were, and no transaction is open. A connection
+    /// with an open transaction is refused, and comes back with it.
     pub fn adopt(
         alloc: Global,
         mut conn: Connection<S>,
@@ -76,6 +76,7 @@ impl<S: Alter> Records<S> {
         ensures ok { IfOk result (λ records. HasCleanDisk (state S.Store records) → IsTrue (state S.Store records).is_open → StandIn (state S.Store conn).now (stored (state S.Store records))) }
         ensures err { IfErr result (λ fault. HasCleanDisk (state S.Store fault.1) → IsTrue (state S.Store fault.1).is_open → (state S.Store fault.1).now ≡ (state S.Store conn).now) }
         ensures not_ours { IfErr result (λ fault. HasCleanDisk (state S.Store fault.1) → fault.0 ≡ faults.NotOurs → (lives : Lives) → ¬ StandIn (state S.Store conn).now lives) }
+        ensures settled { (state S.Store conn).in_transaction ≡ false → IfErr result (λ fault. IsSettled (state S.Store fault.1)) }
         ensures open_transaction { IsTrue (state S.Store conn).in_transaction → result ≡ Err (faults.Refused, conn) }
         ensures crash { IfOk result (λ records. Survives (state S.Store conn) (state S.Store records) (HoldsSame (state S.Store conn).now)) }
         ensures fault_crash { IfErr result (λ fault. Survives (state S.Store conn) (state S.Store fault.1) (HoldsSame (state S.Store conn).now)) }

@@ -1,10 +1,19 @@
 //! Rows as orders, and as what stands of instances and bindings.
 
-ghost use Rattle.std.specs.Prelude.{◌≡◌, ◌==◌, true, pos, map, IfOk};
+ghost use Rattle.std.specs.Prelude.{◌≡◌, ◌≢◌, ◌==◌, Bool, true, pos, List, map, Option, Err, IfOk, IfErr};
 ghost use Rattle.sqlite.specs.declared.types.Value.TheVariants.{Int, Text as Words};
 ghost use Rattle.sqlite.specs.Order.{column, bytes};
 ghost use Rattle.sqlite_trees.specs.Tree.{rowid};
+ghost use Rattle.osb_orders.specs.declared.order.OrderKind.{OrderKind};
+ghost use Rattle.osb_orders.specs.declared.order.OrderState.{OrderState};
+ghost use Rattle.osb_orders.specs.declared.view.BindingPhase.{BindingPhase};
+ghost use Rattle.osb_orders.specs.declared.view.InstancePhase.{InstancePhase};
+ghost use Rattle.osb_orders.specs.declared.view.Standing.{Standing};
 ghost use Rattle.osb_orders.specs.Orders.{kind_number, state_number};
+ghost use Rattle.osb_audit.specs.declared.entry.BindingEntry.{BindingEntry};
+ghost use Rattle.osb_audit.specs.Orders.{Entry};
+ghost use Rattle.osb_audit.specs.Instances.{InstanceEntry};
+ghost use Rattle.osb_records.specs.declared.fault.StoreFault.TheVariants as faults;
 ghost use Rattle.osb_records.specs.Queries.{first_order};
 ghost use Rattle.osb_records.specs.Rows.{rowid_shown};
 ghost use Rattle.osb_records.specs.Columns.{number_in, attributes_told, HoldAttributes};
@@ -27,6 +36,7 @@ use std::alloc::Global;
 fn text_in(row: &Row, at: usize) -> Result<Text, StoreFault>
     ensures told { IfOk result (λ text. text ≡ bytes (column row.now at)) }
     ensures held { IfOk result (λ text. column row.now at ≡ Words text) }
+    ensures refused { IfErr result (λ fault. fault ≡ faults.Refused) }
 {
     let string: String = row.get(at)?;
     Ok(Text::from(string))
@@ -35,6 +45,7 @@ fn text_in(row: &Row, at: usize) -> Result<Text, StoreFault>
 fn number_in(row: &Row, at: usize) -> Result<u32, StoreFault>
     ensures told { IfOk result (λ number. number ≡ number_in (column row.now at)) }
     ensures held { IfOk result (λ number. column row.now at ≡ Int (pos number)) }
+    ensures refused { IfErr result (λ fault. fault ≡ faults.Refused) }
 {
     Ok(row.get(at)?)
 }
@@ -42,6 +53,7 @@ fn number_in(row: &Row, at: usize) -> Result<u32, StoreFault>
 fn kind_numbered(number: u32) -> Result<OrderKind, StoreFault>
     ensures told { IfOk result (λ kind. kind ≡ kind_numbered number) }
     ensures held { IfOk result (λ kind. number ≡ kind_number kind) }
+    ensures known { (kind : OrderKind) → number ≡ kind_number kind → result ≢ Err faults.NotOurs }
 {
     match number {
         1 => Ok(OrderKind::Create),
@@ -49,25 +61,27 @@ fn kind_numbered(number: u32) -> Result<OrderKind, StoreFault>
         3 => Ok(OrderKind::Delete),
         4 => Ok(OrderKind::Bind),
         5 => Ok(OrderKind::Unbind),
-        _ => Err(StoreFault::Refused),
+        _ => Err(StoreFault::NotOurs),
     }
 }
 
 fn state_numbered(number: u32) -> Result<OrderState, StoreFault>
     ensures told { IfOk result (λ state. state ≡ state_numbered number) }
     ensures held { IfOk result (λ state. number ≡ state_number state) }
+    ensures known { (state : OrderState) → number ≡ state_number state → result ≢ Err faults.NotOurs }
 {
     match number {
         0 => Ok(OrderState::Running),
         1 => Ok(OrderState::Succeeded),
         2 => Ok(OrderState::Failed),
-        _ => Err(StoreFault::Refused),
+        _ => Err(StoreFault::NotOurs),
     }
 }
 
 fn attributes_in(row: &Row) -> Result<Attributes, StoreFault>
     ensures told { IfOk result (λ attributes. attributes ≡ attributes_told row.now) }
     ensures held { IfOk result (HoldAttributes row.now) }
+    ensures refused { IfErr result (λ fault. fault ≡ faults.Refused) }
 {
     Ok(Attributes {
         service: text_in(row, 4)?,
@@ -82,6 +96,7 @@ fn attributes_in(row: &Row) -> Result<Attributes, StoreFault>
 fn outcome_in(row: &Row) -> Result<Outcome, StoreFault>
     ensures told { IfOk result (λ outcome. outcome ≡ (order_told row.now).outcome) }
     ensures held { IfOk result (λ outcome. (column row.now 10 ≡ Int (pos (state_number outcome.state))) × (column row.now 11 ≡ Words outcome.description) × (column row.now 12 ≡ Words outcome.credentials)) }
+    ensures known { (state : OrderState) → column row.now 10 ≡ Int (pos (state_number state)) → result ≢ Err faults.NotOurs }
 {
     Ok(Outcome {
         state: state_numbered(number_in(row, 10)?)?,
@@ -93,6 +108,7 @@ fn outcome_in(row: &Row) -> Result<Outcome, StoreFault>
 fn order_in(row: &Row) -> Result<Order, StoreFault>
     ensures told { IfOk result (λ order. order ≡ order_told row.now) }
     ensures held { IfOk result (λ order. order_columns row.now ≡ order_row order) }
+    ensures known { (entry : Entry) → row.now ≡ entry_row entry → result ≢ Err faults.NotOurs }
 {
     Ok(Order {
         number: number_in(row, 1)?,
@@ -116,14 +132,16 @@ pub(crate) fn orders_in(alloc: Global, rows: &[Row]) -> Result<Vec<Order>, Store
 
 /// The order of the row, with the id of its instance.
 fn entry_in(row: &Row) -> Result<(Text, Order), StoreFault>
-    ensures { IfOk result (λ entry. entry_row entry ≡ entry_columns row.now) }
+    ensures told { IfOk result (λ entry. entry_row entry ≡ entry_columns row.now) }
+    ensures known { (entry : Entry) → row.now ≡ entry_row entry → result ≢ Err faults.NotOurs }
 {
     Ok((text_in(row, 0)?, order_in(row)?))
 }
 
 /// The orders of the rows, each with the id of its instance.
 pub(crate) fn entries_in(alloc: Global, rows: &[Row]) -> Result<Vec<(Text, Order)>, StoreFault>
-    ensures { IfOk result (λ entries. map entry_row entries.items ≡ map entry_columns rows.now) }
+    ensures told { IfOk result (λ entries. map entry_row entries.items ≡ map entry_columns rows.now) }
+    ensures known { (entries : List Entry) → rows.now ≡ map entry_row entries → result ≢ Err faults.NotOurs }
 {
     let mut entries = Vec::new(alloc);
     for row in rows {
@@ -141,7 +159,8 @@ pub(crate) fn named_in(row: &Row) -> Result<(Text, u32), StoreFault>
 
 /// The versions of the rows.
 pub(crate) fn versions_in(alloc: Global, rows: &[Row]) -> Result<Vec<u32>, StoreFault>
-    ensures { IfOk result (λ versions. map version_row versions.items ≡ map version_columns rows.now) }
+    ensures told { IfOk result (λ versions. map version_row versions.items ≡ map version_columns rows.now) }
+    ensures refused { IfErr result (λ fault. fault ≡ faults.Refused) }
 {
     let mut versions = Vec::new(alloc);
     for row in rows {
@@ -152,7 +171,8 @@ pub(crate) fn versions_in(alloc: Global, rows: &[Row]) -> Result<Vec<u32>, Store
 
 /// The rowids of the rows, none of them negative.
 pub(crate) fn rowids_in(alloc: Global, rows: &[Row]) -> Result<Vec<u64>, StoreFault>
-    ensures { IfOk result (λ ids. map rowid_shown ids.items ≡ map rowid rows.now) }
+    ensures told { IfOk result (λ ids. map rowid_shown ids.items ≡ map rowid rows.now) }
+    ensures refused { IfErr result (λ fault. fault ≡ faults.Refused) }
 {
     let mut ids = Vec::new(alloc);
     for row in rows {
@@ -162,7 +182,8 @@ pub(crate) fn rowids_in(alloc: Global, rows: &[Row]) -> Result<Vec<u64>, StoreFa
 }
 
 fn rowid_in(row: &Row) -> Result<u64, StoreFault>
-    ensures { IfOk result (λ id. rowid_shown id ≡ rowid row.now) }
+    ensures told { IfOk result (λ id. rowid_shown id ≡ rowid row.now) }
+    ensures refused { IfErr result (λ fault. fault ≡ faults.Refused) }
 {
     Ok(row.get(0)?)
 }
@@ -180,6 +201,7 @@ pub(crate) fn first_in(rows: &[Row]) -> Result<Option<Order>, StoreFault>
 fn instance_phase_numbered(number: u32) -> Result<InstancePhase, StoreFault>
     ensures told { IfOk result (λ phase. phase ≡ instance_phase_numbered number) }
     ensures held { IfOk result (λ phase. number ≡ instance_phase_number phase) }
+    ensures known { (phase : InstancePhase) → number ≡ instance_phase_number phase → result ≢ Err faults.NotOurs }
 {
     match number {
         1 => Ok(InstancePhase::Creating),
@@ -187,13 +209,14 @@ fn instance_phase_numbered(number: u32) -> Result<InstancePhase, StoreFault>
         3 => Ok(InstancePhase::Failed),
         4 => Ok(InstancePhase::Updating),
         5 => Ok(InstancePhase::Deleting),
-        _ => Err(StoreFault::Refused),
+        _ => Err(StoreFault::NotOurs),
     }
 }
 
 /// Whether each of the texts is empty.
 fn are_blank(attributes: &Attributes) -> bool
-    ensures { result ≡ true → attributes.now ≡ no_attributes }
+    ensures blank { result ≡ true → attributes.now ≡ no_attributes }
+    ensures known { attributes.now ≡ no_attributes → result ≡ true }
 {
     attributes.service.is_empty()
         && attributes.plan.is_empty()
@@ -206,12 +229,13 @@ fn are_blank(attributes: &Attributes) -> bool
 fn standing_told(number: u32, attributes: Attributes) -> Result<Option<Standing>, StoreFault>
     ensures told { IfOk result (λ standing. standing ≡ standing_told number attributes) }
     ensures held { IfOk result (λ standing. (number ≡ standing_number standing) × (attributes ≡ attributes_shown standing)) }
+    ensures known { (standing : Option Standing) → number ≡ standing_number standing → attributes ≡ attributes_shown standing → result ≢ Err faults.NotOurs }
 {
     if number == 0 {
         return if are_blank(&attributes) {
             Ok(None)
         } else {
-            Err(StoreFault::Refused)
+            Err(StoreFault::NotOurs)
         };
     }
     Ok(Some(Standing {
@@ -223,11 +247,12 @@ fn standing_told(number: u32, attributes: Attributes) -> Result<Option<Standing>
 fn busy_numbered(number: u32) -> Result<bool, StoreFault>
     ensures told { IfOk result (λ busy. busy ≡ (number == 1)) }
     ensures held { IfOk result (λ busy. number ≡ busy_number busy) }
+    ensures known { (busy : Bool) → number ≡ busy_number busy → result ≢ Err faults.NotOurs }
 {
     match number {
         0 => Ok(false),
         1 => Ok(true),
-        _ => Err(StoreFault::Refused),
+        _ => Err(StoreFault::NotOurs),
     }
 }
 
@@ -235,6 +260,7 @@ fn busy_numbered(number: u32) -> Result<bool, StoreFault>
 fn instance_row_in(row: &Row) -> Result<InstanceRow, StoreFault>
     ensures told { IfOk result (λ found. found ≡ instance_row_told row.now) }
     ensures held { IfOk result (λ found. standing_row found ≡ standing_columns row.now) }
+    ensures known { (entry : InstanceEntry) → row.now ≡ instance_row entry → result ≢ Err faults.NotOurs }
 {
     Ok(InstanceRow {
         busy: busy_numbered(number_in(row, 2)?)?,
@@ -245,7 +271,8 @@ fn instance_row_in(row: &Row) -> Result<InstanceRow, StoreFault>
 
 /// The row with the id of its instance.
 fn instance_in(row: &Row) -> Result<(Text, InstanceRow), StoreFault>
-    ensures { IfOk result (λ entry. instance_row entry ≡ instance_columns row.now) }
+    ensures told { IfOk result (λ entry. instance_row entry ≡ instance_columns row.now) }
+    ensures known { (entry : InstanceEntry) → row.now ≡ instance_row entry → result ≢ Err faults.NotOurs }
 {
     Ok((text_in(row, 0)?, instance_row_in(row)?))
 }
@@ -255,7 +282,8 @@ pub(crate) fn instances_in(
     alloc: Global,
     rows: &[Row],
 ) -> Result<Vec<(Text, InstanceRow)>, StoreFault>
-    ensures { IfOk result (λ entries. map instance_row entries.items ≡ map instance_columns rows.now) }
+    ensures told { IfOk result (λ entries. map instance_row entries.items ≡ map instance_columns rows.now) }
+    ensures known { (entries : List InstanceEntry) → rows.now ≡ map instance_row entries → result ≢ Err faults.NotOurs }
 {
     let mut entries = Vec::new(alloc);
     for row in rows {
@@ -277,13 +305,14 @@ pub(crate) fn first_instance_in(rows: &[Row]) -> Result<Option<InstanceRow>, Sto
 fn binding_phase_numbered(number: u32) -> Result<BindingPhase, StoreFault>
     ensures told { IfOk result (λ phase. phase ≡ binding_phase_numbered number) }
     ensures held { IfOk result (λ phase. number ≡ binding_phase_number phase) }
+    ensures known { (phase : BindingPhase) → number ≡ binding_phase_number phase → result ≢ Err faults.NotOurs }
 {
     match number {
         1 => Ok(BindingPhase::Binding),
         2 => Ok(BindingPhase::Bound),
         3 => Ok(BindingPhase::Failed),
         4 => Ok(BindingPhase::Unbinding),
-        _ => Err(StoreFault::Refused),
+        _ => Err(StoreFault::NotOurs),
     }
 }
 
@@ -313,7 +342,8 @@ pub(crate) fn binding_in(alloc: Global, row: &Row) -> Result<BindingNow, StoreFa
 }
 
 fn binding_entry_in(row: &Row) -> Result<BindingEntry, StoreFault>
-    ensures { IfOk result (λ entry. binding_row entry ≡ binding_columns row.now) }
+    ensures told { IfOk result (λ entry. binding_row entry ≡ binding_columns row.now) }
+    ensures known { (entry : BindingEntry) → row.now ≡ binding_row entry → result ≢ Err faults.NotOurs }
 {
     Ok(BindingEntry {
         phase: binding_phase_numbered(number_in(row, 2)?)?,
@@ -330,7 +360,8 @@ fn binding_entry_in(row: &Row) -> Result<BindingEntry, StoreFault>
 
 /// The bindings of the rows.
 pub(crate) fn bindings_in(alloc: Global, rows: &[Row]) -> Result<Vec<BindingEntry>, StoreFault>
-    ensures { IfOk result (λ entries. map binding_row entries.items ≡ map binding_columns rows.now) }
+    ensures told { IfOk result (λ entries. map binding_row entries.items ≡ map binding_columns rows.now) }
+    ensures known { (entries : List BindingEntry) → rows.now ≡ map binding_row entries → result ≢ Err faults.NotOurs }
 {
     let mut entries = Vec::new(alloc);
     for row in rows {

@@ -1,6 +1,6 @@
 //! Reading whole tables, inside a transaction.
 
-ghost use Rattle.std.specs.Prelude.{◌≡◌, ◌↔◌, [], ◌∷◌, true, IsTrue, IfOk, OnOk};
+ghost use Rattle.std.specs.Prelude.{◌≡◌, ◌≢◌, ◌↔◌, List, [], ◌∷◌, true, Err, IsTrue, IfOk, IfErr, OnOk};
 ghost use Rattle.std.specs.Ordering.{nat_cmp};
 ghost use Rattle.std.specs.List.Sorted.{IsStrictlySortedBy};
 ghost use Rattle.sqlite.specs.Held.{state};
@@ -8,9 +8,16 @@ ghost use Rattle.sqlite.specs.Given.{IsPlain};
 ghost use Rattle.sqlite.specs.Listing.{understood};
 ghost use Rattle.sqlite.specs.State.{HasCleanDisk, IsUnchanged, KeepsCommit, Survives, Shown};
 ghost use Rattle.osb_tables.specs.Tables.{record_schema};
-ghost use Rattle.osb_records.specs.Rows.{AreRowids};
+ghost use Rattle.osb_audit.specs.declared.entry.BindingEntry.{BindingEntry};
 ghost use Rattle.osb_audit.specs.Audit.{AreRowsOfLives};
-ghost use Rattle.osb_records.specs.Stored.{AreVersionsOf, AreOrdersOf, AreInstancesOf, AreBindingsOf};
+ghost use Rattle.osb_audit.specs.Bindings.{binding_cmp};
+ghost use Rattle.osb_audit.specs.Instances.{InstanceEntry, instance_cmp};
+ghost use Rattle.osb_audit.specs.Orders.{Entry, entry_cmp};
+ghost use Rattle.osb_records.specs.declared.fault.StoreFault.TheVariants as faults;
+ghost use Rattle.osb_records.specs.Rows.{AreRowids, Stores};
+ghost use Rattle.osb_records.specs.Bindings.{binding_cells, binding_row};
+ghost use Rattle.osb_records.specs.Instances.{instance_cells, instance_row};
+ghost use Rattle.osb_records.specs.Stored.{AreVersionsOf, AreOrdersOf, AreInstancesOf, AreBindingsOf, entry_row, order_cells};
 ghost use Rattle.osb_records.specs.Opened.{StoreLives};
 ghost use Rattle.osb_records.specs.Steps.{ShowsSchema};
 
@@ -46,7 +53,8 @@ fn rise(ids: &[u64]) -> bool
 
 /// Refuses rows that are no rising rowids.
 fn check_rowids(alloc: Global, rows: &[Row]) -> Result<(), StoreFault>
-    ensures { OnOk result (AreRowids rows.now) }
+    ensures ok { OnOk result (AreRowids rows.now) }
+    ensures refused { IfErr result (λ fault. fault ≡ faults.Refused) }
 {
     let ids = rowids_in(alloc, rows)?;
     if rise(&ids) {
@@ -69,6 +77,7 @@ fn read_versions<S: Alter>(
     ensures shows { OnOk result (ShowsSchema record_schema (state S.Store tx.new.conn.now)) }
     ensures kept { HasCleanDisk (state S.Store tx.new.conn.now) → IsTrue (state S.Store tx.old.conn.now).in_transaction → KeepsCommit (state S.Store tx.old.conn.now) (state S.Store tx.new.conn.now) }
     ensures survives { Survives (state S.Store tx.old.conn.now) (state S.Store tx.new.conn.now) (λ _. ⊥) }
+    ensures refused { IfErr result (λ fault. fault ≡ faults.Refused) }
 {
     let ids = select_all(tx, "SELECT rowid FROM format ORDER BY rowid")?;
     let rows = select_all(tx, "SELECT version FROM format ORDER BY version")?;
@@ -89,6 +98,7 @@ fn read_orders<S: Alter>(
     ensures shows { OnOk result (ShowsSchema record_schema (state S.Store tx.new.conn.now)) }
     ensures kept { HasCleanDisk (state S.Store tx.new.conn.now) → IsTrue (state S.Store tx.old.conn.now).in_transaction → KeepsCommit (state S.Store tx.old.conn.now) (state S.Store tx.new.conn.now) }
     ensures survives { Survives (state S.Store tx.old.conn.now) (state S.Store tx.new.conn.now) (λ _. ⊥) }
+    ensures known { HasCleanDisk (state S.Store tx.new.conn.now) → (orders : List Entry) → Stores order_cells entry_row entry_cmp ((state S.Store tx.old.conn.now).now.trees 1) orders → result ≢ Err faults.NotOurs }
 {
     let ids = select_all(tx, "SELECT rowid FROM orders ORDER BY rowid")?;
     let rows = select_all(
@@ -112,6 +122,7 @@ pub(crate) fn read_instances<S: Alter>(
     ensures shows { OnOk result (ShowsSchema record_schema (state S.Store tx.new.conn.now)) }
     ensures kept { HasCleanDisk (state S.Store tx.new.conn.now) → IsTrue (state S.Store tx.old.conn.now).in_transaction → KeepsCommit (state S.Store tx.old.conn.now) (state S.Store tx.new.conn.now) }
     ensures survives { Survives (state S.Store tx.old.conn.now) (state S.Store tx.new.conn.now) (λ _. ⊥) }
+    ensures known { HasCleanDisk (state S.Store tx.new.conn.now) → (instances : List InstanceEntry) → Stores instance_cells instance_row instance_cmp ((state S.Store tx.old.conn.now).now.trees 3) instances → result ≢ Err faults.NotOurs }
 {
     let ids = select_all(tx, "SELECT rowid FROM instances ORDER BY rowid")?;
     let rows = select_all(
@@ -135,6 +146,7 @@ fn read_bindings<S: Alter>(
     ensures shows { OnOk result (ShowsSchema record_schema (state S.Store tx.new.conn.now)) }
     ensures kept { HasCleanDisk (state S.Store tx.new.conn.now) → IsTrue (state S.Store tx.old.conn.now).in_transaction → KeepsCommit (state S.Store tx.old.conn.now) (state S.Store tx.new.conn.now) }
     ensures survives { Survives (state S.Store tx.old.conn.now) (state S.Store tx.new.conn.now) (λ _. ⊥) }
+    ensures known { HasCleanDisk (state S.Store tx.new.conn.now) → (bindings : List BindingEntry) → Stores binding_cells binding_row binding_cmp ((state S.Store tx.old.conn.now).now.trees 5) bindings → result ≢ Err faults.NotOurs }
 {
     let ids = select_all(tx, "SELECT rowid FROM bindings ORDER BY rowid")?;
     let rows = select_all(
@@ -158,6 +170,7 @@ fn read_lives<S: Alter>(
     ensures shows { OnOk result (ShowsSchema record_schema (state S.Store tx.new.conn.now)) }
     ensures kept { HasCleanDisk (state S.Store tx.new.conn.now) → IsTrue (state S.Store tx.old.conn.now).in_transaction → KeepsCommit (state S.Store tx.old.conn.now) (state S.Store tx.new.conn.now) }
     ensures survives { Survives (state S.Store tx.old.conn.now) (state S.Store tx.new.conn.now) (λ _. ⊥) }
+    ensures known { HasCleanDisk (state S.Store tx.new.conn.now) → (orders : List Entry) → Stores order_cells entry_row entry_cmp ((state S.Store tx.old.conn.now).now.trees 1) orders → result ≢ Err faults.NotOurs }
 {
     let versions = read_versions(tx, alloc)?;
     let orders = read_orders(tx, alloc)?;
@@ -177,6 +190,7 @@ fn read_standing<S: Alter>(
     ensures shows { OnOk result (ShowsSchema record_schema (state S.Store tx.new.conn.now)) }
     ensures kept { HasCleanDisk (state S.Store tx.new.conn.now) → IsTrue (state S.Store tx.old.conn.now).in_transaction → KeepsCommit (state S.Store tx.old.conn.now) (state S.Store tx.new.conn.now) }
     ensures survives { Survives (state S.Store tx.old.conn.now) (state S.Store tx.new.conn.now) (λ _. ⊥) }
+    ensures known { HasCleanDisk (state S.Store tx.new.conn.now) → (instances : List InstanceEntry) → Stores instance_cells instance_row instance_cmp ((state S.Store tx.old.conn.now).now.trees 3) instances → (bindings : List BindingEntry) → Stores binding_cells binding_row binding_cmp ((state S.Store tx.old.conn.now).now.trees 5) bindings → result ≢ Err faults.NotOurs }
 {
     let instances = read_instances(tx, alloc)?;
     let bindings = read_bindings(tx, alloc)?;
@@ -190,7 +204,8 @@ fn are_whole(
     instances: &[(Text, InstanceRow)],
     bindings: &[BindingEntry],
 ) -> Result<bool, StoreFault>
-    ensures { IfOk result (λ yes. (yes ≡ true) ↔ ((versions.now ≡ 1 ∷ []) × AreRowsOfLives orders.now instances.now bindings.now)) }
+    ensures ok { IfOk result (λ yes. (yes ≡ true) ↔ ((versions.now ≡ 1 ∷ []) × AreRowsOfLives orders.now instances.now bindings.now)) }
+    ensures refused { IfErr result (λ fault. fault ≡ faults.Refused) }
 {
     if versions != [1].as_slice() {
         return Ok(false);
@@ -211,6 +226,7 @@ pub(crate) fn are_tables_whole<S: Alter>(
     ensures shows { OnOk result (ShowsSchema record_schema (state S.Store tx.new.conn.now)) }
     ensures kept { HasCleanDisk (state S.Store tx.new.conn.now) → IsTrue (state S.Store tx.old.conn.now).in_transaction → KeepsCommit (state S.Store tx.old.conn.now) (state S.Store tx.new.conn.now) }
     ensures survives { Survives (state S.Store tx.old.conn.now) (state S.Store tx.new.conn.now) (λ _. ⊥) }
+    ensures known { HasCleanDisk (state S.Store tx.new.conn.now) → StoreLives (state S.Store tx.old.conn.now).now.trees → result ≢ Err faults.NotOurs }
 {
     let (versions, orders) = read_lives(tx, alloc)?;
     let (instances, bindings) = read_standing(tx, alloc)?;

@@ -4,7 +4,7 @@ use Rattle.osb_records.specs.Rows.{AreRowids}
 use Rattle.osb_records.specs.Stored.{entry_columns}
 use Rattle.osb_records.proofs.ResultLemmas.{if_ok}
 use Rattle.osb_records.proofs.StepLemmas.{clean_before}
-use Rattle.osb_records.proofs.TableReads.{orders_read}
+use Rattle.osb_records.proofs.TableReads.{orders_read, orders_shown}
 use Rattle.osb_records.proofs.WholeTexts.{order_rowids_is, select_orders_is}
 use Rattle.osb_records.proofs.whole.read_orders.Goals as goal
 
@@ -23,5 +23,15 @@ returns-clause-ok g c clean =
     let same = c.in_ok-ids.ensures.same before in
     let has = c.requires (clean_before old mid _ c.select_all.ensures.survives before) same.0.was_open in
     if_ok c.entries_in.result (λ entries is. orders_read old mid new c.in_ok-ids.ids.items c.in_ok-rows.rows.items entries.items has same.0.now_is (c.in_ok-ids.ensures.ok before) (c.in_ok-rows.ensures.ok clean)
-    (subst AreRowids c.deref.ensures.value c.in_ok-check_rowids.ensures) (is ∙ ap (map entry_columns) c.deref-2.ensures.value))
-    c.entries_in.ensures
+    (subst AreRowids c.deref.ensures.value c.in_ok-check_rowids.ensures.ok) (is ∙ ap (map entry_columns) c.deref-2.ensures.value))
+    c.entries_in.ensures.told
+
+pub returns-clause-known : goal.returns-clause-known
+returns-clause-known g c clean entries stores =
+    let old = state g.S.Store c.args.tx.now.conn.now in
+    let mid = state g.S.Store c.select_all.new.tx.conn.now in
+    let new = state g.S.Store c.select_all-2.new.tx.conn.now in
+    let before = clean_before mid new _ c.select_all-2.ensures.survives clean in
+    let same = c.in_ok-ids.ensures.same before in
+    let has = c.requires (clean_before old mid _ c.select_all.ensures.survives before) same.0.was_open in
+    c.entries_in.ensures.known entries (c.deref-2.ensures.value ∙ orders_shown old mid new c.in_ok-rows.rows.items entries has same.0.now_is (c.in_ok-rows.ensures.ok clean) stores)

@@ -23,5 +23,5 @@ returns-clause-ok g c clean =
     let same = c.in_ok-ids.ensures.same before in
     let has = c.requires (clean_before old mid _ c.select_all.ensures.survives before) same.0.was_open in
     if_ok c.versions_in.result (λ entries is. versions_read old mid new c.in_ok-ids.ids.items c.in_ok-rows.rows.items entries.items has same.0.now_is (c.in_ok-ids.ensures.ok before) (c.in_ok-rows.ensures.ok clean)
-    (subst AreRowids c.deref.ensures.value c.in_ok-check_rowids.ensures) (is ∙ ap (map version_columns) c.deref-2.ensures.value))
-    c.versions_in.ensures
+    (subst AreRowids c.deref.ensures.value c.in_ok-check_rowids.ensures.ok) (is ∙ ap (map version_columns) c.deref-2.ensures.value))
+    c.versions_in.ensures.told
