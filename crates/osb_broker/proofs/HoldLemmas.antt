@@ -1,7 +1,7 @@
 -- The steps of the loop over a buffer.
-use Rattle.std.proofs.Common.{◌≡◌, ℕ, zero, zero-add, suc, ◌+◌, ◌-◌, ◌≤◌, ◌==◌, inl, inr, Bool, true, false, List, [], ◌∷◌, ◌++◌, length, take, drop, Option, Some, None, Ok, Err, IfSome, sym, refl, ap, subst, ◌∙◌, arith}
+use Rattle.std.proofs.Common.{◌≡◌, ℕ, zero, zero-add, suc, ◌+◌, ◌-◌, ◌≤◌, ◌==◌, inl, inr, Bool, true, false, List, [], ◌∷◌, ◌++◌, length, take, drop, Option, Some, None, Result, Ok, Err, IfSome, OnOk, sym, refl, ap, subst, ◌∙◌, arith}
 use Rattle.std.specs.Io.KnownBytes.{Consumes, IsAtEnd, Keeps}
-use Rattle.std.specs.List.{copy_within}
+use Rattle.std.specs.List.{concat, copy_within}
 use Rattle.std.proofs.lemmas.List.Edits.{take-paste}
 use Rattle.std.proofs.lemmas.List.{drop-take, append_assoc, append-nil, drop-append-le, length-drop}
 use Rattle.osb_frames.specs.declared.limits.Limits.{Limits}
@@ -11,14 +11,21 @@ use Rattle.osb_frames.specs.Cuts.{Message, closes, whole, IsFront}
 use Rattle.osb_frames.specs.Steps.{FaultStays}
 use Rattle.osb_replies.specs.declared.write.WriteFault.{WriteFault}
 use Rattle.osb_replies.specs.Text.{reply_text}
+use Rattle.osb_broker.specs.declared.fault.ServeFault.{ServeFault}
 use Rattle.osb_broker.specs.Machine.{Machine, fault_reply}
 use Rattle.osb_broker.specs.Connection.{After}
 use Rattle.osb_broker.specs.Served.{Served, Reached, BrokenOff}
 use Rattle.osb_broker.specs.Answering.{Answers, WritesText}
-use Rattle.osb_broker.specs.Serving.{Gave, OfConnection, Holding, Past, Left}
+use Rattle.osb_broker.specs.Serving.{Gave, OfConnection, Outcome, Past, Left}
 use Rattle.osb_broker.proofs.RunLemmas.{after_more, concat_more, served_silent, text_of_end, text_of_none, not_marked}
 use Rattle.osb_broker.proofs.LoopLemmas.{AtRequest, closing, breaking, refusing}
 use Rattle.osb_broker.proofs.CallLemmas.{all_more, all_failed}
+
+-- so far the texts of the requests before held were written, whatever follows it
+pub record Holding {S : Type 0} (machine : Machine S) (limits : Limits) (k : ℕ) (s : S) (got old : List ℕ) (left : ℕ) (now : List ℕ) (u : S) (held : List ℕ) : Type 0 where
+  pub texts : List (List ℕ)
+  pub is : (more : List ℕ) → After machine limits k s (got ++ more) texts left u (held ++ more)
+  pub written : now ≡ old ++ concat texts
 
 pub gave_nothing : (made : List Call) (known : Option (List ℕ)) → Gave made made known known []
 gave_nothing made None = record { made = sym (append-nil made); consumed = tt }
@@ -140,6 +147,10 @@ known_all None now got P consumed of = tt
 known_all (Some all) None got P consumed of = absurd consumed
 known_all (Some all) (Some rest) got P consumed (inl each) = subst P (sym consumed) (each rest)
 known_all (Some all) (Some rest) got P consumed (inr last) = subst P (sym (append-nil got) ∙ ap (λ l. got ++ l) (sym last.1) ∙ sym consumed) last.0
+
+pub known_ok : {S : Type 0} (result : Result (Unit {0}) ServeFault) (machine : Machine S) (limits : Limits) (k : ℕ) (s : S) (known now : Option (List ℕ)) (got old new : List ℕ) (t : S) → Consumes known now got → Outcome result machine limits k s got now old new t → OnOk result (IfSome known (λ all. Served machine limits k s all old new t))
+known_ok (Ok x) machine limits k s known now got old new t consumed of = known_all known now got _ consumed of
+known_ok (Err fault) machine limits k s known now got old new t consumed of = tt
 
 -- ---- how much was read
 

@@ -1,15 +1,23 @@
 -- The steps of the loop, by what the calls in it say.
-use Rattle.std.proofs.Common.{◌≡◌, ℕ, suc, ◌==◌, Bool, true, List, [], ◌∷◌, drop, Result, Ok, Err, OnOk, OnErr, sym, refl, ◌∙◌}
+use Rattle.std.proofs.Common.{◌≡◌, ℕ, suc, ◌<◌, ◌==◌, Bool, true, List, [], ◌∷◌, drop, Result, Ok, Err, OnOk, OnErr, sym, refl, ◌∙◌}
+use Rattle.std.specs.Result.{IsErr}
 use Rattle.osb_frames.specs.declared.limits.Limits.{Limits}
 use Rattle.osb_frames.specs.declared.step.StopKind.{StopKind}
 use Rattle.osb_frames.specs.Cuts.{Message, fault, whole, IsFront}
 use Rattle.osb_replies.specs.declared.write.WriteFault.{WriteFault}
 use Rattle.osb_replies.specs.Text.{ReplyParts, reply_text}
+use Rattle.osb_replies.specs.Written.{WroteFirst}
 use Rattle.osb_broker.specs.Machine.{Machine, Answered, fault_reply}
 use Rattle.osb_broker.specs.Connection.{OneReply, of_request, of_fault}
 use Rattle.osb_broker.specs.Served.{Served, Reached, BrokenOff}
 use Rattle.osb_broker.specs.Answering.{Answers, WritesText}
 use Rattle.osb_broker.proofs.RunLemmas.{served_text, text_of_last, text_of_fault, broken}
+
+-- a reply that was begun answers
+pub in_part : {S : Type 0} (machine : Machine S) (q : Message) (last : Bool) (s t : S) (base : List ℕ) (before : ℕ) (now : List ℕ) (after : ℕ) (result : Result Bool WriteFault) (mark : Bool) (reply : ReplyParts) (written : ℕ) → IsErr result → Answered machine q last mark s reply t → WroteFirst base now (reply_text reply) written → before < after → Answers machine q last s t base before now after result
+in_part machine q last s t base before now after (Ok close) mark reply written err answered first low = absurd (cc)
+in_part machine q last s t base before now after (Err f) mark reply written err answered first low =
+    (mark, reply, answered, (first.count, first.inside, first.bytes, low))
 
 -- a whole request at the front of the rest, of which one fewer may come after it
 pub record AtRequest {S : Type 0} (machine : Machine S) (limits : Limits) (k : ℕ) (s : S) (bytes old : List ℕ) (left : ℕ) (now : List ℕ) (u : S) (rest : List ℕ) (q : Message) (n j : ℕ) : Type 0 where

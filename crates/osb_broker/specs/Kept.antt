@@ -1,5 +1,5 @@
 -- What a broker keeps.
-use Rattle.std.specs.Prelude.{◌≡◌, ℕ, false, IsTrue}
+use Rattle.std.specs.Prelude.{◌≡◌, ◌⊎◌, ℕ, false, IsTrue}
 use Rattle.osb_broker.specs.declared.broker.Broker.{Broker}
 use Rattle.osb_replies.specs.Body.{body_bytes}
 use Rattle.osb_machine.specs.declared.step.Answer as code
@@ -27,6 +27,12 @@ pub record Works (s : State) : Type 0 where
 -- a fault of its disk has shut the store
 abbrev pub IsShut : State → Type 0
 IsShut s = s.is_open ≡ false
+
+-- These may be the lives before and after something was done with a store: those that it stores, where it works still;
+-- any lives that stay, where a fault had shut it.
+abbrev pub LivesGo : State → State → Lives → Lives → Type 0
+LivesGo old new before after =
+    (Works new × (before ≡ stored old) × (after ≡ stored new)) ⊎ (HasCleanDisk new × IsShut old × (after ≡ before))
 
 -- the lives of all instances, as its records store them
 unfoldable pub lives_of : {S : Type 0} → Ghosts S → Broker S → Lives

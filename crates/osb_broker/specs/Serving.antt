@@ -1,6 +1,6 @@
 -- What serving a connection did, of bytes that came in pieces.
 use Rattle.std.specs.Prelude.{◌≡◌, ℕ, zero, suc, ◌<◌, ◌≤◌, ◌+◌, ◌⊎◌, false, List, [], ◌∷◌, ◌++◌, length, drop, ⊤, Option, Some, None, Result, Ok, Err}
-use Rattle.std.specs.List.{AllByRecursion, concat}
+use Rattle.std.specs.List.{AllByRecursion}
 use Rattle.std.specs.Io.KnownBytes.{Consumes, IsAtEnd}
 use Rattle.osb_frames.specs.declared.limits.Limits.{Limits}
 use Rattle.osb_frames.specs.declared.step.StopKind.{StopKind}
@@ -12,7 +12,6 @@ use Rattle.osb_broker.specs.declared.fault.ServeFault.{ServeFault}
 use Rattle.osb_broker.specs.declared.fault.ServeFault.TheVariants.{Read, Write}
 use Rattle.osb_replies.specs.Text.{reply_text}
 use Rattle.osb_broker.specs.Machine.{Machine, fault_reply}
-use Rattle.osb_broker.specs.Connection.{After}
 use Rattle.osb_broker.specs.Served.{Served, Reached, BrokenOff}
 
 -- each fault has its cause
@@ -53,12 +52,6 @@ ReadsOf _ calls = AreFruitful calls ⊎ EndsWith (Some []) calls
 -- P of the bytes of a connection that began with got: of all that may follow, or of got where it is all there was
 abbrev pub OfConnection : (List ℕ → Type 0) → List ℕ → Option (List ℕ) → Type 0
 OfConnection P got known = ((more : List ℕ) → P (got ++ more)) ⊎ (P got × IsAtEnd known)
-
--- so far the texts of the requests before held were written, whatever follows it
-pub record Holding {S : Type 0} (machine : Machine S) (limits : Limits) (k : ℕ) (s : S) (got old : List ℕ) (left : ℕ) (now : List ℕ) (u : S) (held : List ℕ) : Type 0 where
-  pub texts : List (List ℕ)
-  pub is : (more : List ℕ) → After machine limits k s (got ++ more) texts left u (held ++ more)
-  pub written : now ≡ old ++ concat texts
 
 -- no whole request waits, and no fault that no further bytes mend; bytes that follow may make a request
 pub record NothingWaits (limits : Limits) (held : List ℕ) : Type 0 where

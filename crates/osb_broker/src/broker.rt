@@ -6,6 +6,7 @@ ghost use Rattle.sqlite.specs.Tree.{Trees};
 ghost use Rattle.sqlite.specs.State.{HasCleanDisk, Survives};
 ghost use Rattle.osb_frames.specs.Cuts.{closes};
 ghost use Rattle.osb_frames.specs.Steps.{message};
+ghost use Rattle.osb_frames.specs.Writers.{WritesNothing};
 ghost use Rattle.osb_replies.specs.Parts.{parts, refused};
 ghost use Rattle.osb_replies.specs.Text.{reply_text};
 ghost use Rattle.osb_catalog.specs.Rules as catalog;
@@ -351,7 +352,7 @@ impl<'s, S: Alter> Broker<'s, S> {
         ensures lasts { HasCleanDisk (store_of S.Store self.new) → OnOk result ((db : Trees) → (store_of S.Store self.new).may_leave db → LastsSettled (store_of S.Store self.old) (lives_of S.Store self.old) pending.now db) }
         ensures room { OnOk result (length (reply_text (parts reply.now)) + spare ≤ W.room room.new) }
         ensures spare { OnErr result (spare ≤ W.room room.old → spare ≤ W.room room.new) }
-        ensures taken { W.taken room.new ≡ W.taken room.old }
+        ensures unwritten { WritesNothing W.Sink room.old room.new }
         ensures untouched { pending.now ≡ None → records_of self.new ≡ records_of self.old }
         ensures most { most_of self.new ≡ most_of self.old }
         ensures rules { rules_of self.new ≡ rules_of self.old }
@@ -378,7 +379,7 @@ impl<'s, S: Alter> Broker<'s, S> {
         ensures durable { Works (store_of S.Store self.old) → HasCleanDisk (store_of S.Store self.new) → OnOk result (LeavesOnly (store_of S.Store self.new) (lives_after (rules_of self.old) (lives_of S.Store self.old) (message request.now))) }
         ensures room { IfOk result (λ reply. length (reply_text (parts reply)) + spare ≤ W.room room.new) }
         ensures spare { OnErr result (spare ≤ W.room room.old → spare ≤ W.room room.new) }
-        ensures taken { W.taken room.new ≡ W.taken room.old }
+        ensures unwritten { WritesNothing W.Sink room.old room.new }
         ensures open { HasCleanDisk (store_of S.Store self.new) → needs_lives (ask_of (rules_of self.old) (message request.now)) ≡ true → OnOk result (IsTrue (store_of S.Store self.old).is_open) }
         ensures plain { needs_lives (ask_of (rules_of self.old) (message request.now)) ≡ false → IfOk result (λ reply. (lives : Lives) → Answered (machine (rules_of self.old)) (message request.now) last false lives (parts reply) lives) }
         ensures untouched { needs_lives (ask_of (rules_of self.old) (message request.now)) ≡ false → records_of self.new ≡ records_of self.old }
@@ -411,7 +412,7 @@ impl<'s, S: Alter> Broker<'s, S> {
         ensures durable { Works (store_of S.Store self.old) → HasCleanDisk (store_of S.Store self.new) → parts result ≢ refused → LeavesOnly (store_of S.Store self.new) (lives_after (rules_of self.old) (lives_of S.Store self.old) (message request.now)) }
         ensures room { (parts result ≡ refused) ⊎ (length (reply_text (parts result)) + spare ≤ W.room room.new) }
         ensures spare { spare ≤ W.room room.old → spare ≤ W.room room.new }
-        ensures taken { W.taken room.new ≡ W.taken room.old }
+        ensures unwritten { WritesNothing W.Sink room.old room.new }
         ensures most { most_of self.new ≡ most_of self.old }
         ensures rules { rules_of self.new ≡ rules_of self.old }
     {
@@ -443,7 +444,7 @@ impl<'s, S: Alter> Broker<'s, S> {
         ensures crash { Survives (store_of S.Store self.old) (store_of S.Store self.new) (Commits (store_of S.Store self.old) (lives_after (rules_of self.old) (lives_of S.Store self.old) (message request.now))) }
         ensures durable { Works (store_of S.Store self.old) → HasCleanDisk (store_of S.Store self.new) → parts result ≢ refused → LeavesOnly (store_of S.Store self.new) (lives_after (rules_of self.old) (lives_of S.Store self.old) (message request.now)) }
         ensures room { (parts result ≡ refused) ⊎ (length (reply_text (parts result)) ≤ W.room room.new) }
-        ensures taken { W.taken room.new ≡ W.taken room.old }
+        ensures unwritten { WritesNothing W.Sink room.old room.new }
         ensures most { most_of self.new ≡ most_of self.old }
         ensures rules { rules_of self.new ≡ rules_of self.old }
     {

@@ -7,6 +7,7 @@ ghost use Rattle.sqlite.specs.Steps.{over_memory};
 ghost use Rattle.osb_frames.specs.declared.limits.Limits.{Limits};
 ghost use Rattle.osb_frames.specs.Calls.{Call, all_bytes};
 ghost use Rattle.osb_frames.specs.Steps.{message};
+ghost use Rattle.osb_frames.specs.Writers.{WritesNothing};
 ghost use Rattle.osb_replies.specs.Parts.{parts, refused};
 ghost use Rattle.osb_replies.specs.Text.{reply_text};
 ghost use Rattle.osb_catalog.specs.Rules as catalog;
@@ -80,7 +81,7 @@ pub fn answer<'s: 'a, 'a, W: Room>(
     ensures stays { is_500 (parts result).status ≡ true → lives_of over_memory broker.new ≡ lives_of over_memory broker.old }
     ensures untouched { needs_lives (ask_of (rules_of broker.old) (message request.now)) ≡ false → records_of broker.new ≡ records_of broker.old }
     ensures room { (parts result ≡ refused) ⊎ (length (reply_text (parts result)) ≤ W.room room.new) }
-    ensures taken { W.taken room.new ≡ W.taken room.old }
+    ensures unwritten { WritesNothing W.Sink room.old room.new }
     ensures most { most_of broker.new ≡ most_of broker.old }
     ensures rules { rules_of broker.new ≡ rules_of broker.old }
 {

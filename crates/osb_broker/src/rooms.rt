@@ -1,6 +1,7 @@
 //! Writers that room can be made in, before anything is written.
 
 ghost use Rattle.std.specs.Prelude.{◌≡◌, ◌≤◌, ◌+◌, length, OnOk, OnErr};
+ghost use Rattle.osb_frames.specs.Writers.{WritesNothing};
 ghost use Rattle.osb_replies.specs.Parts.{parts};
 ghost use Rattle.osb_replies.specs.Text.{reply_text};
 
@@ -14,7 +15,7 @@ pub trait Room: Sink {
     fn make(&mut self, bytes: usize) -> Result<(), AllocError>
         ensures ok { OnOk result (bytes ≤ Self.room self.new) }
         ensures err { OnErr result (Self.room self.new ≡ Self.room self.old) }
-        ensures taken { Self.taken self.new ≡ Self.taken self.old };
+        ensures unwritten { WritesNothing Self.Sink self.old self.new };
 }
 
 impl Room for Kept {
@@ -31,7 +32,7 @@ pub(crate) fn make_room<W: Room>(
 ) -> Result<(), AllocError>
     ensures ok { OnOk result (length (reply_text (parts reply.now)) + spare ≤ W.room room.new) }
     ensures err { OnErr result (W.room room.new ≡ W.room room.old) }
-    ensures taken { W.taken room.new ≡ W.taken room.old }
+    ensures unwritten { WritesNothing W.Sink room.old room.new }
 {
     let length = reply.length();
     if length == usize::MAX {

@@ -2,9 +2,11 @@
 
 ghost use Rattle.std.specs.Prelude.{◌≡◌, ◌≤◌, [], ◌++◌, false, length, map, vec_items, IfOk, OnErr};
 ghost use Rattle.std.specs.List.{AllByRecursion};
+ghost use Rattle.sqlite.specs.State.{HasCleanDisk};
 ghost use Rattle.osb_frames.specs.Kept.{bytes_of, room_of};
 ghost use Rattle.osb_frames.specs.Steps.{message};
 ghost use Rattle.osb_replies.specs.Text.{reply_text};
+ghost use Rattle.osb_orders.specs.Lives.{Lives};
 ghost use Rattle.osb_broker.specs.Machine.{fault_reply};
 ghost use Rattle.osb_broker.specs.Steps.{crowded};
 ghost use Rattle.osb_broker.specs.Answering.{AnswersWhole};
@@ -43,16 +45,17 @@ fn refuse_into(output: &mut Kept, kind: StopKind)
 }
 
 impl<S: Alter> Broker<'_, S> {
-    ghost use Rattle.osb_broker.specs.Kept.{Works, lives_of, most_of, rules_of, store_of};
+    ghost use Rattle.osb_broker.specs.Kept.{IsShut, LivesGo, Works, lives_of, most_of, rules_of, store_of};
     ghost use Rattle.osb_broker.specs.Once.{ServedOnce};
 
     /// Answers a request into an output that has room for a fixed reply. Whether the connection
     /// closes; where it doesn't, there still is that room.
     fn reply_into(&mut self, request: &Request<'_>, last: bool, output: &mut Kept) -> bool
         requires { 512 ≤ room_of output.old }
-        ensures answers { Works (store_of S.Store self.new) → AnswersWhole (crowded (rules_of self.old)) (message request.now) last (lives_of S.Store self.old) (lives_of S.Store self.new) (bytes_of output.old) (bytes_of output.new) result }
+        ensures answers { (before after : Lives) → LivesGo (store_of S.Store self.old) (store_of S.Store self.new) before after → AnswersWhole (crowded (rules_of self.old)) (message request.now) last before after (bytes_of output.old) (bytes_of output.new) result }
         ensures room { result ≡ false → 512 ≤ room_of output.new }
         ensures works { Works (store_of S.Store self.new) → Works (store_of S.Store self.old) }
+        ensures clean { HasCleanDisk (store_of S.Store self.new) → HasCleanDisk (store_of S.Store self.old) }
         ensures most { most_of self.new ≡ most_of self.old }
         ensures rules { rules_of self.new ≡ rules_of self.old }
     {
@@ -64,8 +67,9 @@ impl<S: Alter> Broker<'_, S> {
     /// Serves a connection whose bytes are all there.
     fn serve_into(&mut self, limits: &Limits, bytes: &[u8], output: &mut Kept)
         requires { 512 ≤ room_of output.old }
-        ensures served { Works (store_of S.Store self.new) → Served (crowded (rules_of self.old)) limits.now (most_of self.old) (lives_of S.Store self.old) bytes.now (bytes_of output.old) (bytes_of output.new) (lives_of S.Store self.new) }
+        ensures served { (before after : Lives) → LivesGo (store_of S.Store self.old) (store_of S.Store self.new) before after → Served (crowded (rules_of self.old)) limits.now (most_of self.old) before bytes.now (bytes_of output.old) (bytes_of output.new) after }
         ensures works { Works (store_of S.Store self.new) → Works (store_of S.Store self.old) }
+        ensures clean { HasCleanDisk (store_of S.Store self.new) → HasCleanDisk (store_of S.Store self.old) }
         ensures most { most_of self.new ≡ most_of self.old }
         ensures rules { rules_of self.new ≡ rules_of self.old }
     {
@@ -94,8 +98,9 @@ impl<S: Alter> Broker<'_, S> {
     /// The output of a connection whose bytes are all there, in an output that was blank.
     fn output_of(&mut self, limits: &Limits, bytes: &[u8], blank: Vec<u8>) -> Vec<u8>
         requires { IsBlank blank }
-        ensures served { Works (store_of S.Store self.new) → Served (crowded (rules_of self.old)) limits.now (most_of self.old) (lives_of S.Store self.old) bytes.now [] result.items (lives_of S.Store self.new) }
+        ensures served { (before after : Lives) → LivesGo (store_of S.Store self.old) (store_of S.Store self.new) before after → Served (crowded (rules_of self.old)) limits.now (most_of self.old) before bytes.now [] result.items after }
         ensures works { Works (store_of S.Store self.new) → Works (store_of S.Store self.old) }
+        ensures clean { HasCleanDisk (store_of S.Store self.new) → HasCleanDisk (store_of S.Store self.old) }
         ensures most { most_of self.new ≡ most_of self.old }
         ensures rules { rules_of self.new ≡ rules_of self.old }
     {
@@ -110,10 +115,11 @@ impl<S: Alter> Broker<'_, S> {
         limits: &Limits,
         connections: &[Vec<u8>],
     ) -> Result<Vec<Vec<u8>>, AllocError>
-        ensures ok { Works (store_of S.Store self.new) → IfOk result (λ outputs.
-            RunServed (crowded (rules_of self.old)) limits.now (most_of self.old) (lives_of S.Store self.old) (map vec_items connections.now) (map vec_items outputs.items) (lives_of S.Store self.new)) }
+        ensures ok { (before after : Lives) → LivesGo (store_of S.Store self.old) (store_of S.Store self.new) before after → IfOk result (λ outputs.
+            RunServed (crowded (rules_of self.old)) limits.now (most_of self.old) before (map vec_items connections.now) (map vec_items outputs.items) after) }
         ensures err { Works (store_of S.Store self.new) → OnErr result (lives_of S.Store self.new ≡ lives_of S.Store self.old) }
         ensures works { Works (store_of S.Store self.new) → Works (store_of S.Store self.old) }
+        ensures clean { HasCleanDisk (store_of S.Store self.new) → HasCleanDisk (store_of S.Store self.old) }
         ensures most { most_of self.new ≡ most_of self.old }
         ensures rules { rules_of self.new ≡ rules_of self.old }
     {
@@ -131,7 +137,8 @@ impl<S: Alter> Broker<'_, S> {
     /// Serves connections whose bytes are all there, one after the other and within
     /// [`Limits::STANDARD`], and gives the output of each.
     ///
-    /// What is said of outputs and lives is said where the store works still.
+    /// What is said of outputs and lives is said where the store works still. Where a fault of the disk
+    /// had shut it before the call, the outputs are as from any lives, and the lives stay (`shut`).
     ///
     /// Each output first gets room for a fixed reply, and only there want of memory is an error,
     /// with nothing changed. Later each reply asks for its room before its change is made; where
@@ -146,6 +153,9 @@ impl<S: Alter> Broker<'_, S> {
         ensures once { Works (store_of S.Store self.new) → most_of self.old ≡ 1 → IfOk result (λ outputs.
             (limits : Limits) × AreStandard limits
             × ServedOnce (rules_of self.old) limits (lives_of S.Store self.old) (map vec_items connections.now) (map vec_items outputs.items) (lives_of S.Store self.new)) }
+        ensures shut { HasCleanDisk (store_of S.Store self.new) → IsShut (store_of S.Store self.old) → (lives : Lives) → IfOk result (λ outputs.
+            (limits : Limits) × AreStandard limits
+            × RunServed (crowded (rules_of self.old)) limits (most_of self.old) lives (map vec_items connections.now) (map vec_items outputs.items) lives) }
         ensures err { Works (store_of S.Store self.new) → OnErr result (lives_of S.Store self.new ≡ lives_of S.Store self.old) }
         ensures works { Works (store_of S.Store self.new) → Works (store_of S.Store self.old) }
         ensures most { most_of self.new ≡ most_of self.old }

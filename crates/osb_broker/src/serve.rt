@@ -1,9 +1,11 @@
 //! One connection after another, each read in pieces.
 
 ghost use Rattle.std.specs.Prelude.{◌≡◌, ◌<◌, ◌≤◌, ◌+◌, ℕ, List, length, false, IfOk, OnOk, OnErr, IfSome, IsFalse, IsTrue};
+ghost use Rattle.sqlite.specs.State.{HasCleanDisk};
 ghost use Rattle.osb_frames.specs.Calls.{Call, all_bytes};
 ghost use Rattle.osb_frames.specs.Cuts.{closes};
 ghost use Rattle.osb_frames.specs.Steps.{message};
+ghost use Rattle.osb_orders.specs.Lives.{Lives};
 ghost use Rattle.osb_broker.specs.Steps.{machine};
 ghost use Rattle.osb_broker.specs.Answering.{Answers};
 ghost use Rattle.osb_broker.specs.Served.{Served};
@@ -19,7 +21,7 @@ use osb_replies::{WriteFault, write_reply};
 use sqlite::Alter;
 
 impl<S: Alter> Broker<'_, S> {
-    ghost use Rattle.osb_broker.specs.Kept.{Works, lives_of, most_of, rules_of, store_of};
+    ghost use Rattle.osb_broker.specs.Kept.{LivesGo, Works, lives_of, most_of, rules_of, store_of};
     ghost use Rattle.osb_broker.specs.Room.{limits_of, met_fault};
 
     /// Handles a request and writes its reply. Whether the connection closes.
@@ -29,9 +31,10 @@ impl<S: Alter> Broker<'_, S> {
         last: bool,
         sink: &mut W,
     ) -> Result<bool, WriteFault>
-        ensures answers { Works (store_of S.Store self.new) → Answers (machine (rules_of self.old)) (message request.now) last (lives_of S.Store self.old) (lives_of S.Store self.new)
+        ensures answers { (before after : Lives) → LivesGo (store_of S.Store self.old) (store_of S.Store self.new) before after → Answers (machine (rules_of self.old)) (message request.now) last before after
             (W.taken sink.old) (W.fruitless sink.old) (W.taken sink.new) (W.fruitless sink.new) result }
         ensures works { Works (store_of S.Store self.new) → Works (store_of S.Store self.old) }
+        ensures clean { HasCleanDisk (store_of S.Store self.new) → HasCleanDisk (store_of S.Store self.old) }
         ensures ok { OnOk result (W.fruitless sink.new ≡ W.fruitless sink.old) }
         ensures err { OnErr result (W.fruitless sink.old < W.fruitless sink.new) }
         ensures closes { IfOk result (λ close. close ≡ false → closes (message request.now) ≡ false) }
@@ -59,11 +62,12 @@ impl<S: Alter> Broker<'_, S> {
         ensures rules { rules_of self.new ≡ rules_of self.old }
         ensures cause { HasCause result (R.failures source.old < R.failures source.new) (W.fruitless sink.old < W.fruitless sink.new) }
         ensures works { Works (store_of S.Store self.new) → Works (store_of S.Store self.old) }
+        ensures clean { HasCleanDisk (store_of S.Store self.new) → HasCleanDisk (store_of S.Store self.old) }
         ensures wrote { WritesOf result (W.fruitless sink.old) (W.fruitless sink.new) }
         ensures outcome { (calls : List Call) × Gave (R.calls source.old) (R.calls source.new) (R.rest source.old) (R.rest source.new) calls
             × ReadsOf result calls
             × EachWasNeeded limits.now (most_of self.old) (length room.old) calls
-            × (Works (store_of S.Store self.new) → Outcome result (machine (rules_of self.old)) limits.now (most_of self.old) (lives_of S.Store self.old) (all_bytes calls) (R.rest source.new) (W.taken sink.old) (W.taken sink.new) (lives_of S.Store self.new)) }
+            × ((before after : Lives) → LivesGo (store_of S.Store self.old) (store_of S.Store self.new) before after → Outcome result (machine (rules_of self.old)) limits.now (most_of self.old) before (all_bytes calls) (R.rest source.new) (W.taken sink.old) (W.taken sink.new) after) }
     {
         let mut filled = 0;
         let mut ended = false;
@@ -107,8 +111,8 @@ impl<S: Alter> Broker<'_, S> {
     /// are taken, and none after a reply that closes.
     ///
     /// It takes no memory of its own. After a fault of the sink the text of one reply may have been
-    /// written in part; the lives are those after that request. What is said of texts and lives is
-    /// said where the store works still.
+    /// written in part; the lives are those after that request. Where a fault of the disk had shut the
+    /// store before the call, what needs the lives is answered by the fixed 500, and the rest as ever.
     pub fn serve<R: Source, W: Sink>(
         &mut self,
         buffer: &mut Buffer,
@@ -124,6 +128,7 @@ impl<S: Alter> Broker<'_, S> {
         ensures ok { Works (store_of S.Store self.new) → OnOk result (IfSome (R.rest source.old) (λ all.
             Served (machine (rules_of self.old)) (limits_of buffer.old) (most_of self.old) (lives_of S.Store self.old) all (W.taken sink.old) (W.taken sink.new) (lives_of S.Store self.new))) }
         ensures works { Works (store_of S.Store self.new) → Works (store_of S.Store self.old) }
+        ensures clean { HasCleanDisk (store_of S.Store self.new) → HasCleanDisk (store_of S.Store self.old) }
 
         // A fault has its cause in this call, and leaves a prefix.
         ensures cause { HasCause result (R.failures source.old < R.failures source.new) (W.fruitless sink.old < W.fruitless sink.new) }
@@ -133,7 +138,7 @@ impl<S: Alter> Broker<'_, S> {
         ensures outcome { (calls : List Call) × Gave (R.calls source.old) (R.calls source.new) (R.rest source.old) (R.rest source.new) calls
             × ReadsOf result calls
             × EachWasNeeded (limits_of buffer.old) (most_of self.old) ((limits_of buffer.old).head + (limits_of buffer.old).body) calls
-            × (Works (store_of S.Store self.new) → Outcome result (machine (rules_of self.old)) (limits_of buffer.old) (most_of self.old) (lives_of S.Store self.old) (all_bytes calls) (R.rest source.new) (W.taken sink.old) (W.taken sink.new) (lives_of S.Store self.new)) }
+            × ((before after : Lives) → LivesGo (store_of S.Store self.old) (store_of S.Store self.new) before after → Outcome result (machine (rules_of self.old)) (limits_of buffer.old) (most_of self.old) before (all_bytes calls) (R.rest source.new) (W.taken sink.old) (W.taken sink.new) after) }
     {
         let limits = buffer.limits;
         let mut met_fault = false;

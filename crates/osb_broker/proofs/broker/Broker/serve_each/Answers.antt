@@ -1,9 +1,11 @@
-use Rattle.std.proofs.Common.{◌+◌, ◌≤◌, [], ◌∷◌, length, vec_items, vec_len, vec_capacity, refl, sym, ap, subst, ◌∙◌, arith}
-use Rattle.std.proofs.lemmas.List.{length-append}
+use Rattle.std.proofs.Common.{◌+◌, ◌≤◌, [], ◌∷◌, length, map, vec_items, vec_len, vec_capacity, refl, sym, ap, subst, ◌∙◌, arith}
+use Rattle.std.proofs.lemmas.List.{length-append, take_all}
+use Rattle.sqlite.specs.State.{HasCleanDisk}
 use Rattle.osb_broker.specs.Room.{IsBlank}
 use Rattle.osb_broker.specs.Steps.{crowded}
-use Rattle.osb_broker.specs.Kept.{Works, lives_of, most_of, rules_of, store_of}
-use Rattle.osb_broker.specs.Served.{Served}
+use Rattle.osb_broker.specs.Kept.{LivesGo, Works, most_of, rules_of, store_of}
+use Rattle.osb_broker.specs.Served.{RunServed}
+use Rattle.osb_broker.proofs.ShutLemmas.{go_through, lives_stay}
 use Rattle.osb_broker.proofs.WholeLemmas.{of_last, of_front, run_start, run_on}
 use Rattle.osb_broker.proofs.broker.Broker.serve_each.Goals as goal
 use Rattle.osb_broker.proofs.broker.Broker.serve_each.Goals.{in-Some+in_ok-push, in_default}
@@ -17,14 +19,14 @@ loop-connection-init g c = record {
   count = c.in_ok-outputs.ensures.len;
   room = c.in_ok-outputs.ensures.capacity;
   works = λ works. works;
-  served = λ works. rw c.in_ok-outputs.ensures.items (run_start (crowded (rules_of c.args.self.now)) c.args.limits.now (most_of c.args.self.now) (lives_of g.S.Store c.args.self.now));
+  clean = λ clean. clean;
+  served = λ before after go. rw (c.in_ok-outputs.ensures.items, lives_stay (store_of g.S.Store c.args.self.now) before after go) (run_start (crowded (rules_of c.args.self.now)) c.args.limits.now (most_of c.args.self.now) before);
 }
 
 pub output_of-output-requires : goal.output_of-output-requires
 output_of-output-requires g c = of_last IsBlank c.pop.new.self.items c.in-Some.blank (rw c.in-Some.ensures.items at c.loop-connection.invariant.blank)
 
 pub loop-connection-preserved : goal.loop-connection-preserved
-unfolding lives_of
 loop-connection-preserved g c =
     let before = c.loop-connection.invariant in
     elim c.match-pop.branch [
@@ -36,13 +38,19 @@ loop-connection-preserved g c =
         count = ap vec_len w.outputs-is ∙ w.in_ok-push.ensures.len ∙ ap (λ n. n + 1) before.count;
         room = subst (λ o. length c.args.connections.now ≤ vec_capacity o) (sym w.outputs-is) (omega (arith, w.in_ok-push.ensures.capacity, before.room));
         works = λ works. before.works (w.output_of-output.ensures.works (subst (λ b. Works (store_of g.S.Store b)) w.self-is works));
-        served = λ works.
-            let now = subst (λ b. Works (store_of g.S.Store b)) w.self-is works in
-            run_on (crowded (rules_of c.args.self.now)) c.args.limits.now (most_of c.args.self.now) (lives_of g.S.Store c.args.self.now) vec_items c.args.connections.now c.loop-connection.connection-index c.connection-item.result
-            c.loop-connection.outputs.items c.match-pop.outputs.items w.output_of-output.result (lives_of g.S.Store c.loop-connection.self) (lives_of g.S.Store c.match-pop.self)
-            c.loop-connection-test.true c.connection-item.is (ap vec_items w.outputs-is ∙ w.in_ok-push.ensures.items) (before.served (w.output_of-output.ensures.works now))
-            (subst (λ b. Served (crowded (rules_of c.args.self.now)) c.args.limits.now (most_of c.args.self.now) (lives_of g.S.Store c.loop-connection.self) (vec_items c.connection-item.result) [] (vec_items w.output_of-output.result) (lives_of g.S.Store b)) (sym w.self-is)
-            (rw (before.rules, before.most, w.deref.ensures.value) at (w.output_of-output.ensures.served now)));
+        clean = λ clean. before.clean (w.output_of-output.ensures.clean (subst (λ b. HasCleanDisk (store_of g.S.Store b)) w.self-is clean));
+        served = λ was now go.
+            let through = go_through (store_of g.S.Store c.args.self.now) (store_of g.S.Store c.loop-connection.self) (store_of g.S.Store w.output_of-output.new.self) before.works w.output_of-output.ensures.works w.output_of-output.ensures.clean was now (subst (λ b. LivesGo (store_of g.S.Store c.args.self.now) (store_of g.S.Store b) was now) w.self-is go) in
+            run_on (crowded (rules_of c.args.self.now)) c.args.limits.now (most_of c.args.self.now) was vec_items c.args.connections.now c.loop-connection.connection-index c.connection-item.result
+            c.loop-connection.outputs.items c.match-pop.outputs.items w.output_of-output.result through.0 now
+            c.loop-connection-test.true c.connection-item.is (ap vec_items w.outputs-is ∙ w.in_ok-push.ensures.items) (before.served was through.0 through.1)
+            (rw (before.rules, before.most, w.deref.ensures.value) at (w.output_of-output.ensures.served through.0 now through.2));
       }
       | in_default w ↦ absurd (omega (arith, w.in_default.ensures.cases.0, c.loop-connection.blanks.ok.0, before.enough, c.loop-connection-test.true))
     ]
+
+pub returns-clause-ok : goal.returns-clause-ok
+returns-clause-ok g c before after go =
+    let connections = c.args.connections.now in
+    let all = take_all c.loop-connection.connection-index connections (omega (arith, c.loop-connection-test.false)) in
+    subst (λ served. RunServed (crowded (rules_of c.args.self.now)) c.args.limits.now (most_of c.args.self.now) before (map vec_items served) (map vec_items c.loop-connection.outputs.items) after) all (c.loop-connection.invariant.served before after go)

@@ -5,11 +5,12 @@ use Rattle.std.proofs.lemmas.Grind.{common_steps}
 use Rattle.osb_frames.specs.Calls.{all_bytes}
 use Rattle.osb_frames.specs.Steps.{message}
 use Rattle.osb_broker.specs.Steps.{machine}
-use Rattle.osb_broker.specs.Kept.{most_of, rules_of}
+use Rattle.osb_broker.specs.Kept.{most_of, rules_of, store_of}
 use Rattle.osb_broker.specs.Serving.{NothingWaits}
 use Rattle.osb_broker.proofs.CallLemmas.{all_more, all_failed}
 use Rattle.osb_broker.proofs.HoldLemmas.{gave_nothing, gave_more, gave_failed, holding_start, reached_now, holding_fed, holding_more, closing_held, breaking_held, refusing_ok, refusing_err, ending_held, none_held, left_start, left_more, left_fed}
 use Rattle.osb_broker.proofs.ReadLemmas.{ended_here, failed_here, fruitful_yet, fruitful_more, needed_more, none_needed, reads_so_far}
+use Rattle.osb_broker.proofs.ShutLemmas.{go_through, lives_stay}
 use Rattle.osb_broker.proofs.broker.Broker.serve_in.Goals as goal
 use Rattle.osb_broker.proofs.broker.Broker.serve_in.Goals.{then-n-eq0, else-n-eq0}
 
@@ -23,7 +24,8 @@ loop-left-init g c = record {
   met = refl;
   over = λ e. cc;
   works = λ works. works;
-  holding = ([], gave_nothing _ _, left_start c.args.limits.now (most_of c.args.self.now), (λ works. holding_start (machine (rules_of c.args.self.now)) c.args.limits.now (most_of c.args.self.now) _ _), tt, none_needed c.args.limits.now (most_of c.args.self.now) _);
+  clean = λ clean. clean;
+  holding = ([], gave_nothing _ _, left_start c.args.limits.now (most_of c.args.self.now), (λ before after go. rw (lives_stay (store_of g.S.Store c.args.self.now) before after go) (holding_start (machine (rules_of c.args.self.now)) c.args.limits.now (most_of c.args.self.now) before _)), tt, none_needed c.args.limits.now (most_of c.args.self.now) _);
 }
 
 pub returns-in-Ok-true-clause-outcome : goal.returns-in-Ok-true-clause-outcome
@@ -36,9 +38,11 @@ returns-in-Ok-true-clause-outcome g c =
       c.loop-left.invariant.holding.1,
       reads_so_far c.loop-left.ended calls c.loop-left.invariant.holding.4,
       c.loop-left.invariant.holding.5,
-      λ works. inl (closing_held (machine (rules_of c.args.self.now)) c.args.limits.now (most_of c.args.self.now) _ got _ c.loop-left.left _ _ held q c.in-Whole.used (c.loop-left.left - 1) _ _ _ _ _
-          (record { holding = c.loop-left.invariant.holding.3 (c.in-Ok-true.ensures.works works); front = c.in-Whole.ensures.stays; inside = c.in-Whole.ensures.size.1; fewer = omega arith })
-          (rw c.loop-left.invariant.rules at (c.in-Ok-true.ensures.answers works))
+      λ before after go.
+          let through = go_through (store_of g.S.Store c.args.self.now) (store_of g.S.Store c.loop-left.self) (store_of g.S.Store c.reply_to.new.self) c.loop-left.invariant.works c.in-Ok-true.ensures.works c.in-Ok-true.ensures.clean before after go in
+          inl (closing_held (machine (rules_of c.args.self.now)) c.args.limits.now (most_of c.args.self.now) before got _ c.loop-left.left _ _ held q c.in-Whole.used (c.loop-left.left - 1) _ _ _ _ _
+          (record { holding = c.loop-left.invariant.holding.3 before through.0 through.1; front = c.in-Whole.ensures.stays; inside = c.in-Whole.ensures.size.1; fewer = omega arith })
+          (rw c.loop-left.invariant.rules at (c.in-Ok-true.ensures.answers through.0 after through.2))
           c.in-Ok-true.field-0-test),
     )
 
@@ -52,9 +56,11 @@ returns-in-Err-clause-outcome g c =
       c.loop-left.invariant.holding.1,
       reads_so_far c.loop-left.ended calls c.loop-left.invariant.holding.4,
       c.loop-left.invariant.holding.5,
-      λ works. inl (breaking_held (machine (rules_of c.args.self.now)) c.args.limits.now (most_of c.args.self.now) _ got _ c.loop-left.left _ _ held q c.in-Whole.used (c.loop-left.left - 1) _ _ _ _ c.in-Err.field-0
-          (record { holding = c.loop-left.invariant.holding.3 (c.in-Err.ensures.works works); front = c.in-Whole.ensures.stays; inside = c.in-Whole.ensures.size.1; fewer = omega arith })
-          (rw c.loop-left.invariant.rules at (c.in-Err.ensures.answers works))),
+      λ before after go.
+          let through = go_through (store_of g.S.Store c.args.self.now) (store_of g.S.Store c.loop-left.self) (store_of g.S.Store c.reply_to.new.self) c.loop-left.invariant.works c.in-Err.ensures.works c.in-Err.ensures.clean before after go in
+          inl (breaking_held (machine (rules_of c.args.self.now)) c.args.limits.now (most_of c.args.self.now) before got _ c.loop-left.left _ _ held q c.in-Whole.used (c.loop-left.left - 1) _ _ _ _ c.in-Err.field-0
+          (record { holding = c.loop-left.invariant.holding.3 before through.0 through.1; front = c.in-Whole.ensures.stays; inside = c.in-Whole.ensures.size.1; fewer = omega arith })
+          (rw c.loop-left.invariant.rules at (c.in-Err.ensures.answers through.0 after through.2))),
     )
 
 pub loop-left-preserved-in-Whole : goal.loop-left-preserved-in-Whole
@@ -72,13 +78,16 @@ loop-left-preserved-in-Whole g c =
       met = c.loop-left.invariant.met;
       over = c.loop-left.invariant.over;
       works = λ works. c.loop-left.invariant.works (c.in-Ok-false.ensures.works works);
+      clean = λ clean. c.loop-left.invariant.clean (c.in-Ok-false.ensures.clean clean);
       holding = (
         calls,
         c.loop-left.invariant.holding.1,
         rw c.shift.ensures (left_more c.args.limits.now (most_of c.args.self.now) got c.loop-left.left held q c.in-Whole.used (c.loop-left.left - 1) c.loop-left.invariant.holding.2 c.in-Whole.ensures.stays c.in-Whole.ensures.size.1 (omega arith) (c.in-Ok-false.ensures.closes c.in-Ok-false.field-0-test)),
-        (λ works. rw c.shift.ensures (holding_more (machine (rules_of c.args.self.now)) c.args.limits.now (most_of c.args.self.now) _ got _ c.loop-left.left _ _ held q c.in-Whole.used (c.loop-left.left - 1) _ _ _ _ _
-            (record { holding = c.loop-left.invariant.holding.3 (c.in-Ok-false.ensures.works works); front = c.in-Whole.ensures.stays; inside = c.in-Whole.ensures.size.1; fewer = omega arith })
-            (rw c.loop-left.invariant.rules at (c.in-Ok-false.ensures.answers works))
+        (λ before after go.
+            let through = go_through (store_of g.S.Store c.args.self.now) (store_of g.S.Store c.loop-left.self) (store_of g.S.Store c.reply_to.new.self) c.loop-left.invariant.works c.in-Ok-false.ensures.works c.in-Ok-false.ensures.clean before after go in
+            rw c.shift.ensures (holding_more (machine (rules_of c.args.self.now)) c.args.limits.now (most_of c.args.self.now) before got _ c.loop-left.left _ _ held q c.in-Whole.used (c.loop-left.left - 1) _ _ _ _ _
+            (record { holding = c.loop-left.invariant.holding.3 before through.0 through.1; front = c.in-Whole.ensures.stays; inside = c.in-Whole.ensures.size.1; fewer = omega arith })
+            (rw c.loop-left.invariant.rules at (c.in-Ok-false.ensures.answers through.0 after through.2))
             c.in-Ok-false.field-0-test)),
         c.loop-left.invariant.holding.4,
         c.loop-left.invariant.holding.5,
@@ -94,8 +103,8 @@ returns-in-Ok-clause-outcome g c =
       c.loop-left.invariant.holding.1,
       reads_so_far c.loop-left.ended calls c.loop-left.invariant.holding.4,
       c.loop-left.invariant.holding.5,
-      λ works. refusing_ok (machine (rules_of c.args.self.now)) c.args.limits.now (most_of c.args.self.now) _ got _ c.loop-left.left _ _ held c.in-Stop.kind c.loop-left.ended _ (c.loop-left.left - 1) _ _ _ _
-          (c.loop-left.invariant.holding.3 works) c.in-Stop.ensures.stays c.loop-left.invariant.over (omega arith) c.in-Ok.ensures.writes,
+      λ before after go. refusing_ok (machine (rules_of c.args.self.now)) c.args.limits.now (most_of c.args.self.now) before got _ c.loop-left.left _ _ held c.in-Stop.kind c.loop-left.ended _ (c.loop-left.left - 1) _ _ _ _
+          (c.loop-left.invariant.holding.3 before after go) c.in-Stop.ensures.stays c.loop-left.invariant.over (omega arith) c.in-Ok.ensures.writes,
     )
 
 pub returns-in-Err-refuse-clause-outcome : goal.returns-in-Err-refuse-clause-outcome
@@ -107,8 +116,8 @@ returns-in-Err-refuse-clause-outcome g c =
       c.loop-left.invariant.holding.1,
       reads_so_far c.loop-left.ended calls c.loop-left.invariant.holding.4,
       c.loop-left.invariant.holding.5,
-      λ works. refusing_err (machine (rules_of c.args.self.now)) c.args.limits.now (most_of c.args.self.now) _ got _ c.loop-left.left _ _ held c.in-Stop.kind c.loop-left.ended _ (c.loop-left.left - 1) _ _ _ c.in-Err-refuse.field-0
-          (c.loop-left.invariant.holding.3 works) c.in-Stop.ensures.stays c.loop-left.invariant.over (omega arith) c.in-Err-refuse.ensures.writes,
+      λ before after go. refusing_err (machine (rules_of c.args.self.now)) c.args.limits.now (most_of c.args.self.now) before got _ c.loop-left.left _ _ held c.in-Stop.kind c.loop-left.ended _ (c.loop-left.left - 1) _ _ _ c.in-Err-refuse.field-0
+          (c.loop-left.invariant.holding.3 before after go) c.in-Stop.ensures.stays c.loop-left.invariant.over (omega arith) c.in-Err-refuse.ensures.writes,
     )
 
 pub returns-in-Ended-clause-outcome : goal.returns-in-Ended-clause-outcome
@@ -116,7 +125,7 @@ returns-in-Ended-clause-outcome g c =
     let calls = c.loop-left.invariant.holding.0 in
     let got = all_bytes calls in
     let held = take c.loop-left.filled c.loop-left.room in
-    (calls, c.loop-left.invariant.holding.1, reads_so_far c.loop-left.ended calls c.loop-left.invariant.holding.4, c.loop-left.invariant.holding.5, (λ works. inr (ending_held (machine (rules_of c.args.self.now)) c.args.limits.now (most_of c.args.self.now) _ got _ c.loop-left.left _ _ held (c.loop-left.left - 1) (c.loop-left.invariant.holding.3 works) (omega arith) c.in-Ended.ensures.says.1, c.loop-left.invariant.over c.in-Ended.ensures.says.0)))
+    (calls, c.loop-left.invariant.holding.1, reads_so_far c.loop-left.ended calls c.loop-left.invariant.holding.4, c.loop-left.invariant.holding.5, (λ before after go. inr (ending_held (machine (rules_of c.args.self.now)) c.args.limits.now (most_of c.args.self.now) before got _ c.loop-left.left _ _ held (c.loop-left.left - 1) (c.loop-left.invariant.holding.3 before after go) (omega arith) c.in-Ended.ensures.says.1, c.loop-left.invariant.over c.in-Ended.ensures.says.0)))
 
 pub fill-requires : goal.fill-requires
 fill-requires g c =
@@ -149,11 +158,12 @@ loop-left-preserved g c =
         | else-n-eq0 w ↦ λ e. let f : true ≡ false = sym e ∙ w.ended-is ∙ c.in-More.ensures.says.0 in cc
       ];
       works = c.loop-left.invariant.works;
+      clean = c.loop-left.invariant.clean;
       holding = (
         calls ++ Some piece ∷ [],
         gave_more _ _ _ _ _ _ calls piece c.loop-left.invariant.holding.1 c.in-Ok-fill.ensures.called c.in-Ok-fill.ensures.known.0,
         rw (front, all_more calls piece) (left_fed c.args.limits.now (most_of c.args.self.now) got c.loop-left.left held piece c.loop-left.invariant.holding.2),
-        (λ works. rw (front, all_more calls piece) (holding_fed (machine (rules_of c.args.self.now)) c.args.limits.now (most_of c.args.self.now) _ got _ c.loop-left.left _ _ held piece (c.loop-left.invariant.holding.3 works))),
+        (λ before after go. rw (front, all_more calls piece) (holding_fed (machine (rules_of c.args.self.now)) c.args.limits.now (most_of c.args.self.now) before got _ c.loop-left.left _ _ held piece (c.loop-left.invariant.holding.3 before after go))),
         elim c.if-n-eq0.branch [
           | then-n-eq0 w ↦ rw w.ended-is (ended_here calls piece fruitful (nil_from_length piece (omega (arith, size, w.if-n-eq0.true))))
           | else-n-eq0 w ↦ rw (w.ended-is, c.in-More.ensures.says.0) (fruitful_more calls piece fruitful (omega (arith, size, w.if-n-eq0.false)))
@@ -196,11 +206,11 @@ returns-in-Err-fill-clause-outcome g c =
         free = omega (arith, c.in-More.ensures.room, c.loop-left.auto.room);
         fits = omega (arith, c.loop-left.auto.room, c.loop-left.invariant.inside, length-take c.loop-left.filled c.loop-left.room);
       }),
-      λ works. rw (all_failed calls) (record {
+      λ before after go. rw (all_failed calls) (record {
         left = c.loop-left.left;
         some = c.loop-left-test.true;
         held = held;
-        reached = reached_now (machine (rules_of c.args.self.now)) c.args.limits.now (most_of c.args.self.now) _ got _ c.loop-left.left _ _ held (c.loop-left.invariant.holding.3 works);
+        reached = reached_now (machine (rules_of c.args.self.now)) c.args.limits.now (most_of c.args.self.now) before got _ c.loop-left.left _ _ held (c.loop-left.invariant.holding.3 before after go);
         waits = waits;
       }),
     )
@@ -210,4 +220,4 @@ returns-clause-outcome g c =
     let calls = c.loop-left.invariant.holding.0 in
     let got = all_bytes calls in
     let held = take c.loop-left.filled c.loop-left.room in
-    (calls, c.loop-left.invariant.holding.1, reads_so_far c.loop-left.ended calls c.loop-left.invariant.holding.4, c.loop-left.invariant.holding.5, (λ works. inl (none_held (machine (rules_of c.args.self.now)) c.args.limits.now (most_of c.args.self.now) _ got _ c.loop-left.left _ _ held (c.loop-left.invariant.holding.3 works) (omega arith))))
+    (calls, c.loop-left.invariant.holding.1, reads_so_far c.loop-left.ended calls c.loop-left.invariant.holding.4, c.loop-left.invariant.holding.5, (λ before after go. inl (none_held (machine (rules_of c.args.self.now)) c.args.limits.now (most_of c.args.self.now) before got _ c.loop-left.left _ _ held (c.loop-left.invariant.holding.3 before after go) (omega arith))))

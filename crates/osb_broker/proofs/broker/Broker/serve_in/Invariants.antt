@@ -1,9 +1,12 @@
 use Rattle.std.proofs.Common.{◌≡◌, ◌≤◌, ◌+◌, ◌-◌, ◌*◌, List, true, cond, length, take}
 use Rattle.std.specs.Io.KnownBytes.{IsAtEnd}
+use Rattle.sqlite.specs.State.{HasCleanDisk}
 use Rattle.osb_frames.specs.Calls.{Call, all_bytes}
+use Rattle.osb_orders.specs.Lives.{Lives}
 use Rattle.osb_broker.specs.Steps.{machine}
-use Rattle.osb_broker.specs.Kept.{Works, lives_of, most_of, rules_of, store_of}
-use Rattle.osb_broker.specs.Serving.{EachWasNeeded, Gave, Holding, Left}
+use Rattle.osb_broker.specs.Kept.{LivesGo, Works, most_of, rules_of, store_of}
+use Rattle.osb_broker.specs.Serving.{EachWasNeeded, Gave, Left}
+use Rattle.osb_broker.proofs.HoldLemmas.{Holding}
 use Rattle.osb_broker.proofs.ReadLemmas.{SoFar}
 use Rattle.osb_broker.proofs.broker.Broker.serve_in.Given as goal
 
@@ -23,9 +26,10 @@ invariant-loop-left g l =
       met : l.met_fault ≡ l.fn.met_fault;
       over : l.ended ≡ true → IsAtEnd (source.rest l.source);
       works : Works (store_of g.S.Store l.self) → Works (store_of g.S.Store l.fn.self);
+      clean : HasCleanDisk (store_of g.S.Store l.self) → HasCleanDisk (store_of g.S.Store l.fn.self);
       holding : (calls : List Call) × Gave (source.calls l.fn.source) (source.calls l.source) (source.rest l.fn.source) (source.rest l.source) calls
           × Left l.limits (most_of l.fn.self) (all_bytes calls) l.left (take l.filled l.room)
-          × (Works (store_of g.S.Store l.self) → Holding (machine (rules_of l.fn.self)) l.limits (most_of l.fn.self) (lives_of g.S.Store l.fn.self) (all_bytes calls) (sink.taken l.fn.sink) l.left (sink.taken l.sink) (lives_of g.S.Store l.self) (take l.filled l.room))
+          × ((before after : Lives) → LivesGo (store_of g.S.Store l.fn.self) (store_of g.S.Store l.self) before after → Holding (machine (rules_of l.fn.self)) l.limits (most_of l.fn.self) before (all_bytes calls) (sink.taken l.fn.sink) l.left (sink.taken l.sink) after (take l.filled l.room))
           × SoFar l.ended calls
           × EachWasNeeded l.limits (most_of l.fn.self) (length l.fn.room) calls;
     }

@@ -1,7 +1,9 @@
 use Rattle.std.proofs.Common.{◌≡◌, ◌≤◌}
+use Rattle.sqlite.specs.State.{HasCleanDisk}
 use Rattle.osb_frames.specs.Kept.{bytes_of, room_of}
+use Rattle.osb_orders.specs.Lives.{Lives}
 use Rattle.osb_broker.specs.Steps.{crowded}
-use Rattle.osb_broker.specs.Kept.{Works, lives_of, most_of, rules_of, store_of}
+use Rattle.osb_broker.specs.Kept.{LivesGo, Works, most_of, rules_of, store_of}
 use Rattle.osb_broker.specs.Served.{Reached}
 use Rattle.osb_broker.proofs.broker.Broker.serve_into.Given as goal
 
@@ -14,5 +16,6 @@ invariant-loop-left g l = record {
   rules : rules_of l.self ≡ rules_of l.fn.self;
   room : 512 ≤ room_of l.output;
   works : Works (store_of g.S.Store l.self) → Works (store_of g.S.Store l.fn.self);
-  reached : Works (store_of g.S.Store l.self) → Reached (crowded (rules_of l.fn.self)) l.limits (most_of l.fn.self) (lives_of g.S.Store l.fn.self) l.bytes (bytes_of l.fn.output) l.left (bytes_of l.output) (lives_of g.S.Store l.self) l.rest;
+  clean : HasCleanDisk (store_of g.S.Store l.self) → HasCleanDisk (store_of g.S.Store l.fn.self);
+  reached : (before after : Lives) → LivesGo (store_of g.S.Store l.fn.self) (store_of g.S.Store l.self) before after → Reached (crowded (rules_of l.fn.self)) l.limits (most_of l.fn.self) before l.bytes (bytes_of l.fn.output) l.left (bytes_of l.output) after l.rest;
 }

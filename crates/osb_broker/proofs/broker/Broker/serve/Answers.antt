@@ -1,0 +1,12 @@
+use Rattle.std.proofs.Common.{inl, refl}
+use Rattle.osb_broker.specs.Kept.{lives_of, most_of, rules_of}
+use Rattle.osb_broker.specs.Steps.{machine}
+use Rattle.osb_frames.specs.Calls.{all_bytes}
+use Rattle.osb_broker.proofs.HoldLemmas.{known_ok}
+use Rattle.osb_broker.proofs.broker.Broker.serve.Goals as goal
+
+pub returns-clause-ok : goal.returns-clause-ok
+unfolding lives_of
+returns-clause-ok g c works =
+    let told = c.serve_in-served.ensures.outcome in
+    known_ok c.serve_in-served.result (machine (rules_of c.args.self.now)) _ (most_of c.args.self.now) _ _ _ (all_bytes told.0) _ _ _ told.1.consumed (told.4 _ _ (inl (works, refl, refl)))
