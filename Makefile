@@ -23,6 +23,7 @@ run: osb-broker
 test:
 	@sh tests/needs.sh
 	python3 tests/needs.py
+	python3 tests/counts.py
 	python3 tests/edits.py --beside $(RT) ci
 	cp crates/osb_program/out/osb_program osb-broker
 	python3 tests/program.py ./osb-broker
