@@ -1,5 +1,5 @@
 -- What is refused isn't early.
-use Rattle.std.proofs.Common.{◌≡◌, Bool, true, false, Option, None, Result, Ok, Err, IfOk, OnErr, refl}
+use Rattle.std.proofs.Common.{◌≡◌, Bool, true, false, Option, None, Result, Ok, Err, OnErr, refl}
 
 pub late : {A : Type 0} (early : Bool) (pending : Option A) → (early ≡ true → pending ≡ None) → ¬ (pending ≡ None) → early ≡ false
 late true pending quiet some = absurd (some (quiet refl))
@@ -8,8 +8,3 @@ late false pending quiet some = refl
 pub on_err : {A E P : Type 0} (result : Result A E) → P → OnErr result P
 on_err (Ok x) p = tt
 on_err (Err e) p = p
-
--- what holds of a result under a premise, where the premise is there
-pub if_ok_at : {A E P : Type 0} (result : Result A E) (Q : A → Type 0) → IfOk result (λ x. P → Q x) → P → IfOk result Q
-if_ok_at (Ok x) Q h p = h p
-if_ok_at (Err e) Q h p = tt

@@ -1,5 +1,5 @@
 -- An answer of want of memory isn't to a request whose answer takes none.
-use Rattle.std.proofs.Common.{◌≡◌, Bool, true, false, not, Result, Err, sym, ap, refl, ◌∙◌}
+use Rattle.std.proofs.Common.{◌≡◌, Bool, true, false, Result, Err, sym, ap, refl, ◌∙◌}
 use Rattle.std.proofs.lemmas.Bool.{true≢false}
 use Rattle.osb_asks.specs.declared.ask.Ask.{Ask}
 use Rattle.osb_asks.specs.declared.ask_fault.AskFault.{AskFault}
@@ -12,7 +12,3 @@ not_early r found early is = by (is_early found) refl
     by : (b : Bool) → is_early found ≡ b → b ≡ false
     by true e = absurd (true≢false (sym e ∙ ap is_early (sym (early e) ∙ is)))
     by false e = refl
-
-pub not_false : (b : Bool) → not b ≡ false → b ≡ true
-not_false true e = refl
-not_false false e = absurd (true≢false e)

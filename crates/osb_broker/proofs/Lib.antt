@@ -9,6 +9,7 @@ mod FixedLemmas
 mod TextLemmas
 mod StepLemmas
 mod StoreLemmas
+mod ReplyLemmas
 mod ShutLemmas
 mod HandleLemmas
 mod LateLemmas

@@ -1,41 +1,53 @@
 -- What a crash leaves of a request, whose change is committed last.
-use Rattle.std.proofs.Common.{◌≡◌, ℕ, List, inl, inr, Some, Result, Ok, Err, IfErr, IsTrue, sym, refl, ap, subst, ◌∙◌, arith}
+use Rattle.std.proofs.Common.{◌≡◌, false, inl, inr, Result, Ok, Err, IfErr, IsTrue, sym, refl, ap, subst, ◌∙◌, arith}
 use Rattle.sqlite.specs.Tree.{Trees}
+use Rattle.sqlite.specs.Held.{Held, state}
 use Rattle.sqlite.specs.State.{State, HasCleanDisk, Survives}
 use Rattle.sqlite.proofs.StateLemmas.{survives_then}
 use Rattle.sqlite.proofs.Callers.{memory_is_clean}
 use Rattle.sqlite.specs.Steps.{over_memory}
+use Rattle.sqlite_trees.specs.declared.store.Store.{Ghosts}
 use Rattle.sqlite_trees.specs.declared.memory.MemStore.{MemStore}
 use Rattle.osb_broker.specs.declared.broker.Broker.{Broker}
+use Rattle.osb_catalog.specs.Rules.{Rules}
+use Rattle.osb_asks.specs.declared.ask.Ask.{Ask}
+use Rattle.osb_asks.specs.declared.ask_fault.AskFault.{AskFault}
+use Rattle.osb_asks.specs.Asks.{is_early}
 use Rattle.osb_orders.specs.Lives.{Lives}
 use Rattle.osb_orders.specs.IsLife.{IsLives}
-use Rattle.osb_orders.specs.Changed.{lives_changed}
-use Rattle.osb_records.specs.Commit.{Commits, Lasts}
+use Rattle.osb_records.specs.Commit.{Commits}
 use Rattle.osb_records.specs.Kept.{KeepsLives}
 use Rattle.osb_records.specs.Steps.{HoldsLives, LeavesOnly, stored}
-use Rattle.osb_broker.specs.declared.prepared.Pending.{Pending}
 use Rattle.osb_broker.specs.declared.prepared.Prepared.{Prepared}
 use Rattle.osb_broker.specs.Machine.{Answer}
 use Rattle.osb_broker.specs.Prepared.{settled, LastsSettled, Prepares}
+use Rattle.osb_broker.specs.Inside.{GivesPrepared, LivesStay}
 use Rattle.osb_broker.specs.Kept.{Works, store_of}
 
 pub survives_same : (s : State) (P : Trees → Type 0) → Survives s s P
 survives_same s P = record { clean = omega arith; shield = λ x. x; counts = omega arith; limit = refl; closes = λ clean live. inl live; crash = λ clean db left. inl left }
 
--- a change that is made lasts, as the pending one
-pub lasts_settled : (s : State) (pending : Pending) (id : List ℕ) (db : Trees) → id ≡ pending.instance → Lasts s pending.change id db → LastsSettled s (stored s) (Some pending) db
-lasts_settled s pending id db is (inl stands) = inl (stands.0, stands.1 ∙ ap (λ i. lives_changed pending.change i (stored s)) is)
-lasts_settled s pending id db is (inr nothing) = inr ((λ any. ap (λ c. lives_changed c pending.instance any) nothing.0), nothing.1)
+-- where nothing was done with a store, for want of memory
+pub lacks_memory : {S E : Type 0} (g : Ghosts S) (rules : Rules) (asked : Result Ask AskFault) (records : Held S) (e : E) → is_early asked ≡ false → GivesPrepared g rules asked records records (Err e)
+lacks_memory g rules asked records e late = record {
+  ok = λ works clean. tt;
+  quiet = tt;
+  late = late;
+  was_open = λ clean needs. tt;
+  plain = λ plain. tt;
+  silent = λ plain. tt;
+  untouched = λ plain. refl;
+  stays = record { works = λ works. works; same = λ works. refl; crash = survives_same (state g records) _ };
+}
 
 -- from the state before a request to that in which its answer is ready, and to that after its change
-module _ (old mid new : State) (was now : Lives) (prepared : Prepared) (step : Answer × Lives)
-    (reads : Survives old mid (λ _. ⊥)) (works : Works mid → Works old) (same : Works mid → now ≡ was)
-    (prepares : Works old → HasCleanDisk mid → Prepares was prepared step)
-    (settles : Survives mid new (Commits mid (settled prepared.pending now))) where
-  leads : HasCleanDisk mid → IsTrue mid.is_open → settled prepared.pending now ≡ step.1
+module _ (old mid new : State) (prepared : Prepared) (step : Answer × Lives) (stays : LivesStay old mid)
+    (prepares : Works old → HasCleanDisk mid → Prepares (stored old) prepared step)
+    (settles : Survives mid new (Commits mid (settled prepared.pending (stored mid)))) where
+  leads : HasCleanDisk mid → IsTrue mid.is_open → settled prepared.pending (stored mid) ≡ step.1
   leads clean live =
       let both : Works mid = record { clean = clean; live = live } in
-      ap (settled prepared.pending) (same both) ∙ (prepares (works both) clean).lives_are
+      ap (settled prepared.pending) (stays.same both) ∙ (prepares (stays.works both) clean).lives_are
 
   clean_mid : HasCleanDisk new → HasCleanDisk mid
   clean_mid clean = omega (arith, settles.clean)
@@ -44,15 +56,15 @@ module _ (old mid new : State) (was now : Lives) (prepared : Prepared) (step : A
   request_commits = survives_then old mid new _ _ _ (λ _ db none. absurd none)
       (λ clean db commits.
       let is = leads (clean_mid clean) commits.was_open in
-      let before = works (record { clean = clean_mid clean; live = commits.was_open }) in
+      let before = stays.works (record { clean = clean_mid clean; live = commits.was_open }) in
       record { was_open = before.live; whole = subst IsLives is commits.whole; holds = subst (λ l. HoldsLives l db) is commits.holds })
-      reads settles
+      stays.crash settles
 
-  pub request_lasts : (Works old → KeepsLives old was) → ((db : Trees) → new.may_leave db → LastsSettled mid now prepared.pending db) → Works old → HasCleanDisk new → LeavesOnly new step.1
+  pub request_lasts : (Works old → KeepsLives old (stored old)) → ((db : Trees) → new.may_leave db → LastsSettled mid (stored mid) prepared.pending db) → Works old → HasCleanDisk new → LeavesOnly new step.1
   request_lasts kept lasts before clean db left = elim (lasts db left) [
     | inl stands ↦ stands.1 ∙ leads (clean_mid clean) stands.0
-    | inr nothing ↦ elim (reads.crash (clean_mid clean) db nothing.1) [
-      | inl earlier ↦ (kept before db earlier).lives_are ∙ sym (nothing.0 was) ∙ (prepares before (clean_mid clean)).lives_are
+    | inr nothing ↦ elim (stays.crash.crash (clean_mid clean) db nothing.1) [
+      | inl earlier ↦ (kept before db earlier).lives_are ∙ sym (nothing.0 (stored old)) ∙ (prepares before (clean_mid clean)).lives_are
       | inr none ↦ absurd none
     ]
   ]

@@ -40,11 +40,11 @@ lives_of store broker = stored (store_of store broker)
 
 -- how many requests of a connection it takes
 abbrev pub most_of : {S : Type 0} → Broker S → ℕ
-most_of broker = broker.per_connection
+most_of broker = broker.setup.per_connection.number
 
 -- the settings that it decides by
 abbrev pub rules_of : {S : Type 0} → Broker S → catalog.Rules
-rules_of broker = catalog.rules_of broker.settings.now
+rules_of broker = catalog.rules_of broker.setup.settings.now
 
 -- an answer of the code
 abbrev pub answer_parts : code.Answer → Answer

@@ -7,6 +7,7 @@ pub mod Faults
 pub mod Steps
 pub mod Kept
 pub mod Prepared
+pub mod Inside
 pub mod Plans
 pub mod Room
 pub mod Laws

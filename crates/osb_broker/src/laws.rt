@@ -26,25 +26,31 @@ use osb_laws::{asked_again, never_500};
 /// the marks.
 pub fn texts_are_of_the_cut()
     ensures { (machine : Machine Lives) (limits : Limits) (k : ℕ) (s : Lives) (bytes : List ℕ)
-        (requests : List Message) (end : End) (marks : List Bool) (texts : List (List ℕ)) (t : Lives) →
+        (requests : List Message) (end : End) (marks : List Bool) (texts : List (List ℕ))
+        (t : Lives) →
         Cuts limits k bytes requests end → ConnectionText machine limits k s bytes marks texts t →
-        (texts ≡ (texts_of machine k s requests end marks).0) × (t ≡ (texts_of machine k s requests end marks).1) }
+        (texts ≡ (texts_of machine k s requests end marks).0)
+        × (t ≡ (texts_of machine k s requests end marks).1) }
 {}
 
 /// A run goes on with one connection more: who serves one connection after another serves a run.
 pub fn runs_go_on()
     ensures { (machine : Machine Lives) (limits : Limits) (k : ℕ) (s : Lives)
-        (connections : List (List ℕ)) (marks : List (List Bool)) (outputs : List (List (List ℕ))) (t : Lives)
+        (connections : List (List ℕ)) (marks : List (List Bool)) (outputs : List (List (List ℕ)))
+        (t : Lives)
         (bytes : List ℕ) (more : List Bool) (texts : List (List ℕ)) (u : Lives) →
-        Run machine limits k s connections marks outputs t → ConnectionText machine limits k t bytes more texts u →
-        Run machine limits k s (connections ++ bytes ∷ []) (marks ++ more ∷ []) (outputs ++ texts ∷ []) u }
+        Run machine limits k s connections marks outputs t →
+        ConnectionText machine limits k t bytes more texts u →
+        Run machine limits k s (connections ++ bytes ∷ []) (marks ++ more ∷ [])
+        (outputs ++ texts ∷ []) u }
 {}
 
 /// What is said of each read of a connection bounds them all: no more is taken than a head and a body
 /// past the start of the last request that was looked for, in at most one read for each byte and one
 /// more.
 pub fn reads_are_bounded()
-    ensures { (limits : Limits) (k room : ℕ) (result : Result (Unit {0}) ServeFault) (calls : List Call) →
+    ensures { (limits : Limits) (k room : ℕ) (result : Result (Unit {0}) ServeFault)
+        (calls : List Call) →
         ReadsOf result calls → EachWasNeeded limits k room calls → IsBounded limits k room calls }
 {}
 

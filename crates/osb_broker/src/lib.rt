@@ -10,14 +10,18 @@ mod broker;
 mod buffer;
 mod fault;
 mod filling;
+mod handling;
 mod laws;
 pub mod memory;
+mod per_connection;
 mod plans;
 mod prepared;
 mod refuse;
 mod rooms;
 mod runs;
 mod serve;
+mod settle;
+mod setup;
 
 pub use broker::Broker;
 pub use buffer::Buffer;

@@ -44,13 +44,18 @@ pub fn new(
 ) -> Result<Broker<'_, MemStore>, (NewFault, Records<MemStore>)>
     requires some { 1 ≤ per_connection }
     requires few { per_connection ≤ 1000 }
-    ensures lives { IfOk result (λ broker. lives_of over_memory broker ≡ stored (state over_memory records)) }
+    ensures lives { IfOk result (λ broker.
+        lives_of over_memory broker ≡ stored (state over_memory records)) }
     ensures most { IfOk result (λ broker. most_of broker ≡ per_connection) }
     ensures rules { IfOk result (λ broker. rules_of broker ≡ catalog.rules_of settings.now) }
-    ensures offered { IfOk result (λ broker. OffersInUse (catalog.rules_of settings.now) (stored (state over_memory records))) }
-    ensures in_use { IfErr result (λ fault. Tells fault.0 (first_lacking (catalog.rules_of settings.now) (plans_in_use (stored (state over_memory records))))) }
+    ensures offered { IfOk result (λ broker.
+        OffersInUse (catalog.rules_of settings.now) (stored (state over_memory records))) }
+    ensures in_use { IfErr result (λ fault.
+        Tells fault.0 (first_lacking (catalog.rules_of settings.now)
+        (plans_in_use (stored (state over_memory records))))) }
     ensures lacks { IfErr result (λ fault. NamesLacking (catalog.rules_of settings.now) fault.0) }
-    ensures err { IfErr result (λ fault. stored (state over_memory fault.1) ≡ stored (state over_memory records)) }
+    ensures err { IfErr result (λ fault.
+        stored (state over_memory fault.1) ≡ stored (state over_memory records)) }
 {
     Broker::new(alloc, settings, records, per_connection)
 }
@@ -61,9 +66,12 @@ pub fn handle<'s: 'a, 'a>(
     request: &Request<'a>,
     last: bool,
 ) -> Reply<'a>
-    ensures handled { Handled (machine (rules_of broker.old)) (message request.now) last (lives_of over_memory broker.old) (parts result) (lives_of over_memory broker.new) }
-    ensures stays { is_500 (parts result).status ≡ true → lives_of over_memory broker.new ≡ lives_of over_memory broker.old }
-    ensures untouched { needs_lives (ask_of (rules_of broker.old) (message request.now)) ≡ false → records_of broker.new ≡ records_of broker.old }
+    ensures handled { Handled (machine (rules_of broker.old)) (message request.now) last
+        (lives_of over_memory broker.old) (parts result) (lives_of over_memory broker.new) }
+    ensures stays { is_500 (parts result).status ≡ true →
+        lives_of over_memory broker.new ≡ lives_of over_memory broker.old }
+    ensures untouched { needs_lives (ask_of (rules_of broker.old) (message request.now)) ≡ false →
+        records_of broker.new ≡ records_of broker.old }
     ensures most { most_of broker.new ≡ most_of broker.old }
     ensures rules { rules_of broker.new ≡ rules_of broker.old }
 {
@@ -77,10 +85,14 @@ pub fn answer<'s: 'a, 'a, W: Room>(
     last: bool,
     room: &mut W,
 ) -> Reply<'a>
-    ensures handled { Handled (crowded (rules_of broker.old)) (message request.now) last (lives_of over_memory broker.old) (parts result) (lives_of over_memory broker.new) }
-    ensures stays { is_500 (parts result).status ≡ true → lives_of over_memory broker.new ≡ lives_of over_memory broker.old }
-    ensures untouched { needs_lives (ask_of (rules_of broker.old) (message request.now)) ≡ false → records_of broker.new ≡ records_of broker.old }
-    ensures room { (parts result ≡ refused) ⊎ (length (reply_text (parts result)) ≤ W.room room.new) }
+    ensures handled { Handled (crowded (rules_of broker.old)) (message request.now) last
+        (lives_of over_memory broker.old) (parts result) (lives_of over_memory broker.new) }
+    ensures stays { is_500 (parts result).status ≡ true →
+        lives_of over_memory broker.new ≡ lives_of over_memory broker.old }
+    ensures untouched { needs_lives (ask_of (rules_of broker.old) (message request.now)) ≡ false →
+        records_of broker.new ≡ records_of broker.old }
+    ensures room { (parts result ≡ refused)
+        ⊎ (length (reply_text (parts result)) ≤ W.room room.new) }
     ensures unwritten { WritesNothing W.Sink room.old room.new }
     ensures most { most_of broker.new ≡ most_of broker.old }
     ensures rules { rules_of broker.new ≡ rules_of broker.old }
@@ -98,15 +110,24 @@ pub fn serve<R: Source, W: Sink>(
     ensures most { most_of broker.new ≡ most_of broker.old }
     ensures rules { rules_of broker.new ≡ rules_of broker.old }
     ensures limits { limits_of buffer.new ≡ limits_of buffer.old }
-    ensures met_fault { OnOk result (IsTrue (met_fault buffer.new) → EndsAtFault (W.taken sink.new)) }
+    ensures met_fault { OnOk result (IsTrue (met_fault buffer.new) →
+        EndsAtFault (W.taken sink.new)) }
     ensures ok { OnOk result (IfSome (R.rest source.old) (λ all.
-        Served (machine (rules_of broker.old)) (limits_of buffer.old) (most_of broker.old) (lives_of over_memory broker.old) all (W.taken sink.old) (W.taken sink.new) (lives_of over_memory broker.new))) }
-    ensures cause { HasCause result (R.failures source.old < R.failures source.new) (W.fruitless sink.old < W.fruitless sink.new) }
+        Served (machine (rules_of broker.old)) (limits_of buffer.old) (most_of broker.old)
+        (lives_of over_memory broker.old) all (W.taken sink.old) (W.taken sink.new)
+        (lives_of over_memory broker.new))) }
+    ensures cause { HasCause result (R.failures source.old < R.failures source.new)
+        (W.fruitless sink.old < W.fruitless sink.new) }
     ensures wrote { WritesOf result (W.fruitless sink.old) (W.fruitless sink.new) }
-    ensures outcome { (calls : List Call) × Gave (R.calls source.old) (R.calls source.new) (R.rest source.old) (R.rest source.new) calls
+    ensures outcome { (calls : List Call)
+        × Gave (R.calls source.old) (R.calls source.new) (R.rest source.old)
+        (R.rest source.new) calls
         × ReadsOf result calls
-        × EachWasNeeded (limits_of buffer.old) (most_of broker.old) ((limits_of buffer.old).head + (limits_of buffer.old).body) calls
-        × Outcome result (machine (rules_of broker.old)) (limits_of buffer.old) (most_of broker.old) (lives_of over_memory broker.old) (all_bytes calls) (R.rest source.new) (W.taken sink.old) (W.taken sink.new) (lives_of over_memory broker.new) }
+        × EachWasNeeded (limits_of buffer.old) (most_of broker.old)
+        ((limits_of buffer.old).head + (limits_of buffer.old).body) calls
+        × Outcome result (machine (rules_of broker.old)) (limits_of buffer.old) (most_of broker.old)
+        (lives_of over_memory broker.old) (all_bytes calls) (R.rest source.new) (W.taken sink.old)
+        (W.taken sink.new) (lives_of over_memory broker.new) }
 {
     broker.serve(buffer, source, sink)
 }
@@ -118,10 +139,14 @@ pub fn serve_all(
 ) -> Result<Vec<Vec<u8>>, AllocError>
     ensures ok { IfOk result (λ outputs.
         (limits : Limits) × AreStandard limits
-        × RunServed (crowded (rules_of broker.old)) limits (most_of broker.old) (lives_of over_memory broker.old) (map vec_items connections.now) (map vec_items outputs.items) (lives_of over_memory broker.new)) }
+        × RunServed (crowded (rules_of broker.old)) limits (most_of broker.old)
+        (lives_of over_memory broker.old) (map vec_items connections.now)
+        (map vec_items outputs.items) (lives_of over_memory broker.new)) }
     ensures once { most_of broker.old ≡ 1 → IfOk result (λ outputs.
         (limits : Limits) × AreStandard limits
-        × ServedOnce (rules_of broker.old) limits (lives_of over_memory broker.old) (map vec_items connections.now) (map vec_items outputs.items) (lives_of over_memory broker.new)) }
+        × ServedOnce (rules_of broker.old) limits (lives_of over_memory broker.old)
+        (map vec_items connections.now) (map vec_items outputs.items)
+        (lives_of over_memory broker.new)) }
     ensures err { OnErr result (lives_of over_memory broker.new ≡ lives_of over_memory broker.old) }
     ensures most { most_of broker.new ≡ most_of broker.old }
     ensures rules { rules_of broker.new ≡ rules_of broker.old }

@@ -36,11 +36,17 @@ pub(crate) fn find_plans<S: Alter>(
     alloc: Global,
     settings: &Settings,
 ) -> Result<(), NewFault>
-    ensures ok { HasCleanDisk (state S.Store records.new) → OnOk result (OffersInUse (rules_of settings.now) (stored (state S.Store records.old))) }
-    ensures err { HasCleanDisk (state S.Store records.new) → IfErr result (λ fault. Tells fault (first_lacking (rules_of settings.now) (plans_in_use (stored (state S.Store records.old))))) }
+    ensures ok { HasCleanDisk (state S.Store records.new) →
+        OnOk result (OffersInUse (rules_of settings.now) (stored (state S.Store records.old))) }
+    ensures err { HasCleanDisk (state S.Store records.new) →
+        IfErr result (λ fault. Tells fault (first_lacking (rules_of settings.now)
+        (plans_in_use (stored (state S.Store records.old))))) }
     ensures lacks { IfErr result (NamesLacking (rules_of settings.now)) }
-    ensures same { HasCleanDisk (state S.Store records.new) → IsTrue (state S.Store records.new).is_open → stored (state S.Store records.new) ≡ stored (state S.Store records.old) }
-    ensures was_open { HasCleanDisk (state S.Store records.new) → IsTrue (state S.Store records.new).is_open → IsTrue (state S.Store records.old).is_open }
+    ensures same { HasCleanDisk (state S.Store records.new) →
+        IsTrue (state S.Store records.new).is_open →
+        stored (state S.Store records.new) ≡ stored (state S.Store records.old) }
+    ensures was_open { HasCleanDisk (state S.Store records.new) →
+        IsTrue (state S.Store records.new).is_open → IsTrue (state S.Store records.old).is_open }
     ensures crash { Survives (state S.Store records.old) (state S.Store records.new) (λ _. ⊥) }
 {
     let Ok(plans) = records.plans_in_use(alloc) else {

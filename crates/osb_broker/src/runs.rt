@@ -2,11 +2,13 @@
 
 ghost use Rattle.std.specs.Prelude.{◌≡◌, ◌≤◌, [], ◌++◌, false, length, map, vec_items, IfOk, OnErr};
 ghost use Rattle.std.specs.List.{AllByRecursion};
+ghost use Rattle.sqlite.specs.Held.{state};
 ghost use Rattle.sqlite.specs.State.{HasCleanDisk};
 ghost use Rattle.osb_frames.specs.Kept.{bytes_of, room_of};
 ghost use Rattle.osb_frames.specs.Steps.{message};
 ghost use Rattle.osb_replies.specs.Text.{reply_text};
 ghost use Rattle.osb_orders.specs.Lives.{Lives};
+ghost use Rattle.osb_records.specs.Steps.{stored};
 ghost use Rattle.osb_broker.specs.Machine.{fault_reply};
 ghost use Rattle.osb_broker.specs.Steps.{crowded};
 ghost use Rattle.osb_broker.specs.Answering.{AnswersWhole};
@@ -15,8 +17,10 @@ ghost use Rattle.osb_broker.specs.Room.{IsBlank};
 
 use crate::broker::Broker;
 use crate::refuse::refuse;
+use crate::setup::Setup;
 use osb_asks::laws::worded;
 use osb_frames::{Kept, Limits, Request, Step, StopKind, next};
+use osb_records::Records;
 use osb_replies::write_reply;
 use sqlite::Alter;
 use std::alloc::{AllocError, Global};
@@ -44,42 +48,55 @@ fn refuse_into(output: &mut Kept, kind: StopKind)
     let _ = refuse(output, kind);
 }
 
-impl<S: Alter> Broker<'_, S> {
-    ghost use Rattle.osb_broker.specs.Kept.{IsShut, LivesGo, Works, lives_of, most_of, rules_of, store_of};
-    ghost use Rattle.osb_broker.specs.Once.{ServedOnce};
+impl Setup<'_> {
+    ghost use Rattle.osb_broker.specs.Kept.{LivesGo, Works};
+    ghost use Rattle.osb_broker.specs.Inside.{given_most, given_rules, Worked};
 
     /// Answers a request into an output that has room for a fixed reply. Whether the connection
     /// closes; where it doesn't, there still is that room.
-    fn reply_into(&mut self, request: &Request<'_>, last: bool, output: &mut Kept) -> bool
+    fn reply_into<S: Alter>(
+        &self,
+        records: &mut Records<S>,
+        request: &Request<'_>,
+        last: bool,
+        output: &mut Kept,
+    ) -> bool
         requires { 512 ≤ room_of output.old }
-        ensures answers { (before after : Lives) → LivesGo (store_of S.Store self.old) (store_of S.Store self.new) before after → AnswersWhole (crowded (rules_of self.old)) (message request.now) last before after (bytes_of output.old) (bytes_of output.new) result }
+        ensures answers { (before after : Lives) →
+            LivesGo (state S.Store records.old) (state S.Store records.new) before after →
+            AnswersWhole (crowded (given_rules self.now)) (message request.now) last before after
+            (bytes_of output.old) (bytes_of output.new) result }
         ensures room { result ≡ false → 512 ≤ room_of output.new }
-        ensures works { Works (store_of S.Store self.new) → Works (store_of S.Store self.old) }
-        ensures clean { HasCleanDisk (store_of S.Store self.new) → HasCleanDisk (store_of S.Store self.old) }
-        ensures most { most_of self.new ≡ most_of self.old }
-        ensures rules { rules_of self.new ≡ rules_of self.old }
+        ensures worked { Worked (state S.Store records.old) (state S.Store records.new) }
     {
-        let reply = self.answer_in(request, last, output, SPARE);
+        let reply = self.answer_in(records, request, last, output, SPARE);
         let _ = write_reply(output, &reply);
         reply.close
     }
 
     /// Serves a connection whose bytes are all there.
-    fn serve_into(&mut self, limits: &Limits, bytes: &[u8], output: &mut Kept)
+    fn serve_into<S: Alter>(
+        &self,
+        records: &mut Records<S>,
+        limits: &Limits,
+        bytes: &[u8],
+        output: &mut Kept,
+    )
         requires { 512 ≤ room_of output.old }
-        ensures served { (before after : Lives) → LivesGo (store_of S.Store self.old) (store_of S.Store self.new) before after → Served (crowded (rules_of self.old)) limits.now (most_of self.old) before bytes.now (bytes_of output.old) (bytes_of output.new) after }
-        ensures works { Works (store_of S.Store self.new) → Works (store_of S.Store self.old) }
-        ensures clean { HasCleanDisk (store_of S.Store self.new) → HasCleanDisk (store_of S.Store self.old) }
-        ensures most { most_of self.new ≡ most_of self.old }
-        ensures rules { rules_of self.new ≡ rules_of self.old }
+        ensures served { (before after : Lives) →
+            LivesGo (state S.Store records.old) (state S.Store records.new) before after →
+            Served (crowded (given_rules self.now)) limits.now (given_most self.now) before
+            bytes.now
+            (bytes_of output.old) (bytes_of output.new) after }
+        ensures worked { Worked (state S.Store records.old) (state S.Store records.new) }
     {
         let mut rest = bytes;
-        let mut left = self.per_connection;
+        let mut left = self.per_connection.number;
         while left > 0 {
             match next(rest, true, limits) {
                 Step::Whole(request, used) => {
                     left -= 1;
-                    if self.reply_into(&request, left == 0, output) {
+                    if self.reply_into(records, &request, left == 0, output) {
                         return;
                     }
                     rest = &rest[used..];
@@ -96,43 +113,57 @@ impl<S: Alter> Broker<'_, S> {
     }
 
     /// The output of a connection whose bytes are all there, in an output that was blank.
-    fn output_of(&mut self, limits: &Limits, bytes: &[u8], blank: Vec<u8>) -> Vec<u8>
+    fn output_of<S: Alter>(
+        &self,
+        records: &mut Records<S>,
+        limits: &Limits,
+        bytes: &[u8],
+        blank: Vec<u8>,
+    ) -> Vec<u8>
         requires { IsBlank blank }
-        ensures served { (before after : Lives) → LivesGo (store_of S.Store self.old) (store_of S.Store self.new) before after → Served (crowded (rules_of self.old)) limits.now (most_of self.old) before bytes.now [] result.items after }
-        ensures works { Works (store_of S.Store self.new) → Works (store_of S.Store self.old) }
-        ensures clean { HasCleanDisk (store_of S.Store self.new) → HasCleanDisk (store_of S.Store self.old) }
-        ensures most { most_of self.new ≡ most_of self.old }
-        ensures rules { rules_of self.new ≡ rules_of self.old }
+        ensures served { (before after : Lives) →
+            LivesGo (state S.Store records.old) (state S.Store records.new) before after →
+            Served (crowded (given_rules self.now)) limits.now (given_most self.now) before
+            bytes.now
+            [] result.items after }
+        ensures worked { Worked (state S.Store records.old) (state S.Store records.new) }
     {
         let mut output = Kept::new(blank);
-        self.serve_into(limits, bytes, &mut output);
+        self.serve_into(records, limits, bytes, &mut output);
         output.into_bytes()
     }
 
     /// As `serve_all`, within any limits.
-    fn serve_each(
-        &mut self,
+    fn serve_each<S: Alter>(
+        &self,
+        records: &mut Records<S>,
         limits: &Limits,
         connections: &[Vec<u8>],
     ) -> Result<Vec<Vec<u8>>, AllocError>
-        ensures ok { (before after : Lives) → LivesGo (store_of S.Store self.old) (store_of S.Store self.new) before after → IfOk result (λ outputs.
-            RunServed (crowded (rules_of self.old)) limits.now (most_of self.old) before (map vec_items connections.now) (map vec_items outputs.items) after) }
-        ensures err { Works (store_of S.Store self.new) → OnErr result (lives_of S.Store self.new ≡ lives_of S.Store self.old) }
-        ensures works { Works (store_of S.Store self.new) → Works (store_of S.Store self.old) }
-        ensures clean { HasCleanDisk (store_of S.Store self.new) → HasCleanDisk (store_of S.Store self.old) }
-        ensures most { most_of self.new ≡ most_of self.old }
-        ensures rules { rules_of self.new ≡ rules_of self.old }
+        ensures ok { (before after : Lives) →
+            LivesGo (state S.Store records.old) (state S.Store records.new) before after →
+            IfOk result (λ outputs.
+            RunServed (crowded (given_rules self.now)) limits.now (given_most self.now) before
+            (map vec_items connections.now) (map vec_items outputs.items) after) }
+        ensures err { Works (state S.Store records.new) → OnErr result
+            (stored (state S.Store records.new) ≡ stored (state S.Store records.old)) }
+        ensures worked { Worked (state S.Store records.old) (state S.Store records.new) }
     {
         let mut blanks = blank_outputs(self.alloc, connections.len())?;
         let mut outputs = Vec::with_capacity(self.alloc, connections.len())?;
         for connection in connections {
             if let Some(blank) = blanks.pop() {
-                let output = self.output_of(limits, connection, blank);
+                let output = self.output_of(records, limits, connection, blank);
                 outputs.push(output)?;
             }
         }
         Ok(outputs)
     }
+}
+
+impl<S: Alter> Broker<'_, S> {
+    ghost use Rattle.osb_broker.specs.Kept.{IsShut, Works, lives_of, most_of, rules_of, store_of};
+    ghost use Rattle.osb_broker.specs.Once.{ServedOnce};
 
     /// Serves connections whose bytes are all there, one after the other and within
     /// [`Limits::STANDARD`], and gives the output of each.
@@ -146,24 +177,34 @@ impl<S: Alter> Broker<'_, S> {
     ///
     /// Where a connection has one request, a request that is sent again acts once, whatever is refused,
     /// and what is asked about one instance doesn't touch another (`once`).
+    #[tactic(auto, unfolding(crate::specs::Kept::lives_of))]
     pub fn serve_all(&mut self, connections: &[Vec<u8>]) -> Result<Vec<Vec<u8>>, AllocError>
         ensures ok { Works (store_of S.Store self.new) → IfOk result (λ outputs.
             (limits : Limits) × AreStandard limits
-            × RunServed (crowded (rules_of self.old)) limits (most_of self.old) (lives_of S.Store self.old) (map vec_items connections.now) (map vec_items outputs.items) (lives_of S.Store self.new)) }
-        ensures once { Works (store_of S.Store self.new) → most_of self.old ≡ 1 → IfOk result (λ outputs.
+            × RunServed (crowded (rules_of self.old)) limits (most_of self.old)
+            (lives_of S.Store self.old) (map vec_items connections.now)
+            (map vec_items outputs.items) (lives_of S.Store self.new)) }
+        ensures once { Works (store_of S.Store self.new) → most_of self.old ≡ 1 →
+            IfOk result (λ outputs.
             (limits : Limits) × AreStandard limits
-            × ServedOnce (rules_of self.old) limits (lives_of S.Store self.old) (map vec_items connections.now) (map vec_items outputs.items) (lives_of S.Store self.new)) }
-        ensures shut { HasCleanDisk (store_of S.Store self.new) → IsShut (store_of S.Store self.old) → (lives : Lives) → IfOk result (λ outputs.
+            × ServedOnce (rules_of self.old) limits (lives_of S.Store self.old)
+            (map vec_items connections.now) (map vec_items outputs.items)
+            (lives_of S.Store self.new)) }
+        ensures shut { HasCleanDisk (store_of S.Store self.new) →
+            IsShut (store_of S.Store self.old) → (lives : Lives) → IfOk result (λ outputs.
             (limits : Limits) × AreStandard limits
-            × RunServed (crowded (rules_of self.old)) limits (most_of self.old) lives (map vec_items connections.now) (map vec_items outputs.items) lives) }
-        ensures err { Works (store_of S.Store self.new) → OnErr result (lives_of S.Store self.new ≡ lives_of S.Store self.old) }
+            × RunServed (crowded (rules_of self.old)) limits (most_of self.old) lives
+            (map vec_items connections.now) (map vec_items outputs.items) lives) }
+        ensures err { Works (store_of S.Store self.new) →
+            OnErr result (lives_of S.Store self.new ≡ lives_of S.Store self.old) }
         ensures works { Works (store_of S.Store self.new) → Works (store_of S.Store self.old) }
         ensures most { most_of self.new ≡ most_of self.old }
         ensures rules { rules_of self.new ≡ rules_of self.old }
     {
         worded();
-        self.is_sound();
+        self.setup.is_sound();
         self.are_whole();
-        self.serve_each(&Limits::STANDARD, connections)
+        self.setup
+            .serve_each(&mut self.records, &Limits::STANDARD, connections)
     }
 }

@@ -1,6 +1,7 @@
 //! One connection after another, each read in pieces.
 
 ghost use Rattle.std.specs.Prelude.{◌≡◌, ◌<◌, ◌≤◌, ◌+◌, ℕ, List, length, false, IfOk, OnOk, OnErr, IfSome, IsFalse, IsTrue};
+ghost use Rattle.sqlite.specs.Held.{state};
 ghost use Rattle.sqlite.specs.State.{HasCleanDisk};
 ghost use Rattle.osb_frames.specs.Calls.{Call, all_bytes};
 ghost use Rattle.osb_frames.specs.Cuts.{closes};
@@ -16,40 +17,45 @@ use crate::buffer::Buffer;
 use crate::fault::ServeFault;
 use crate::filling::{fill, shift};
 use crate::refuse::refuse;
+use crate::setup::Setup;
 use osb_frames::{Limits, Request, Sink, Source, Step, next_at_once};
+use osb_records::Records;
 use osb_replies::{WriteFault, write_reply};
 use sqlite::Alter;
 
-impl<S: Alter> Broker<'_, S> {
-    ghost use Rattle.osb_broker.specs.Kept.{LivesGo, Works, lives_of, most_of, rules_of, store_of};
-    ghost use Rattle.osb_broker.specs.Room.{limits_of, met_fault};
+impl Setup<'_> {
+    ghost use Rattle.osb_broker.specs.Kept.{LivesGo};
+    ghost use Rattle.osb_broker.specs.Inside.{given_most, given_rules, Worked};
 
     /// Handles a request and writes its reply. Whether the connection closes.
-    fn reply_to<W: Sink>(
-        &mut self,
+    fn reply_to<S: Alter, W: Sink>(
+        &self,
+        records: &mut Records<S>,
         request: &Request<'_>,
         last: bool,
         sink: &mut W,
     ) -> Result<bool, WriteFault>
-        ensures answers { (before after : Lives) → LivesGo (store_of S.Store self.old) (store_of S.Store self.new) before after → Answers (machine (rules_of self.old)) (message request.now) last before after
-            (W.taken sink.old) (W.fruitless sink.old) (W.taken sink.new) (W.fruitless sink.new) result }
-        ensures works { Works (store_of S.Store self.new) → Works (store_of S.Store self.old) }
-        ensures clean { HasCleanDisk (store_of S.Store self.new) → HasCleanDisk (store_of S.Store self.old) }
+        ensures answers { (before after : Lives) →
+            LivesGo (state S.Store records.old) (state S.Store records.new) before after →
+            Answers (machine (given_rules self.now)) (message request.now) last before after
+            (W.taken sink.old) (W.fruitless sink.old) (W.taken sink.new) (W.fruitless sink.new)
+            result }
+        ensures worked { Worked (state S.Store records.old) (state S.Store records.new) }
         ensures ok { OnOk result (W.fruitless sink.new ≡ W.fruitless sink.old) }
         ensures err { OnErr result (W.fruitless sink.old < W.fruitless sink.new) }
-        ensures closes { IfOk result (λ close. close ≡ false → closes (message request.now) ≡ false) }
-        ensures most { most_of self.new ≡ most_of self.old }
-        ensures rules { rules_of self.new ≡ rules_of self.old }
+        ensures closes { IfOk result (λ close. close ≡ false →
+            closes (message request.now) ≡ false) }
     {
-        let reply = self.handle(request, last);
+        let reply = self.handled(records, request, last);
         let close = reply.close;
         write_reply(sink, &reply)?;
         Ok(close)
     }
 
     /// Serves a connection in a room for a head and a body, and says whether it ended at a framing fault.
-    fn serve_in<R: Source, W: Sink>(
-        &mut self,
+    fn serve_in<S: Alter, R: Source, W: Sink>(
+        &self,
+        records: &mut Records<S>,
         room: &mut [u8],
         limits: &Limits,
         met_fault: &mut bool,
@@ -57,26 +63,30 @@ impl<S: Alter> Broker<'_, S> {
         sink: &mut W,
     ) -> Result<(), ServeFault>
         requires { limits.now.head + limits.now.body ≤ length room.old }
-        ensures met_fault { IsFalse met_fault.old → OnOk result (IsTrue met_fault.new → EndsAtFault (W.taken sink.new)) }
-        ensures most { most_of self.new ≡ most_of self.old }
-        ensures rules { rules_of self.new ≡ rules_of self.old }
-        ensures cause { HasCause result (R.failures source.old < R.failures source.new) (W.fruitless sink.old < W.fruitless sink.new) }
-        ensures works { Works (store_of S.Store self.new) → Works (store_of S.Store self.old) }
-        ensures clean { HasCleanDisk (store_of S.Store self.new) → HasCleanDisk (store_of S.Store self.old) }
+        ensures met_fault { IsFalse met_fault.old →
+            OnOk result (IsTrue met_fault.new → EndsAtFault (W.taken sink.new)) }
+        ensures cause { HasCause result (R.failures source.old < R.failures source.new)
+            (W.fruitless sink.old < W.fruitless sink.new) }
+        ensures worked { Worked (state S.Store records.old) (state S.Store records.new) }
         ensures wrote { WritesOf result (W.fruitless sink.old) (W.fruitless sink.new) }
-        ensures outcome { (calls : List Call) × Gave (R.calls source.old) (R.calls source.new) (R.rest source.old) (R.rest source.new) calls
+        ensures outcome { (calls : List Call) ×
+            Gave (R.calls source.old) (R.calls source.new) (R.rest source.old)
+            (R.rest source.new) calls
             × ReadsOf result calls
-            × EachWasNeeded limits.now (most_of self.old) (length room.old) calls
-            × ((before after : Lives) → LivesGo (store_of S.Store self.old) (store_of S.Store self.new) before after → Outcome result (machine (rules_of self.old)) limits.now (most_of self.old) before (all_bytes calls) (R.rest source.new) (W.taken sink.old) (W.taken sink.new) after) }
+            × EachWasNeeded limits.now (given_most self.now) (length room.old) calls
+            × ((before after : Lives) →
+            LivesGo (state S.Store records.old) (state S.Store records.new) before after →
+            Outcome result (machine (given_rules self.now)) limits.now (given_most self.now) before
+            (all_bytes calls) (R.rest source.new) (W.taken sink.old) (W.taken sink.new) after) }
     {
         let mut filled = 0;
         let mut ended = false;
-        let mut left = self.per_connection;
+        let mut left = self.per_connection.number;
         while left > 0 {
             match next_at_once(&room[..filled], ended, limits) {
                 Step::Whole(request, used) => {
                     left -= 1;
-                    match self.reply_to(&request, left == 0, sink) {
+                    match self.reply_to(records, &request, left == 0, sink) {
                         Ok(true) => return Ok(()),
                         Ok(false) => {}
                         Err(_) => return Err(ServeFault::Write),
@@ -105,6 +115,11 @@ impl<S: Alter> Broker<'_, S> {
         }
         Ok(())
     }
+}
+
+impl<S: Alter> Broker<'_, S> {
+    ghost use Rattle.osb_broker.specs.Kept.{LivesGo, Works, lives_of, most_of, rules_of, store_of};
+    ghost use Rattle.osb_broker.specs.Room.{limits_of, met_fault};
 
     /// Serves one connection, in pieces as they come: a request is answered as soon as it is
     /// whole, and no more is read than the buffer has room for. At most `per_connection` requests
@@ -122,27 +137,41 @@ impl<S: Alter> Broker<'_, S> {
         ensures most { most_of self.new ≡ most_of self.old }
         ensures rules { rules_of self.new ≡ rules_of self.old }
         ensures limits { limits_of buffer.new ≡ limits_of buffer.old }
-        ensures met_fault { OnOk result (IsTrue (met_fault buffer.new) → EndsAtFault (W.taken sink.new)) }
+        ensures met_fault { OnOk result (IsTrue (met_fault buffer.new) →
+            EndsAtFault (W.taken sink.new)) }
 
         // What is written is the texts of the connection, whatever pieces it came in.
-        ensures ok { Works (store_of S.Store self.new) → OnOk result (IfSome (R.rest source.old) (λ all.
-            Served (machine (rules_of self.old)) (limits_of buffer.old) (most_of self.old) (lives_of S.Store self.old) all (W.taken sink.old) (W.taken sink.new) (lives_of S.Store self.new))) }
+        ensures ok { Works (store_of S.Store self.new) →
+            OnOk result (IfSome (R.rest source.old) (λ all.
+            Served (machine (rules_of self.old)) (limits_of buffer.old) (most_of self.old)
+            (lives_of S.Store self.old) all (W.taken sink.old) (W.taken sink.new)
+            (lives_of S.Store self.new))) }
         ensures works { Works (store_of S.Store self.new) → Works (store_of S.Store self.old) }
-        ensures clean { HasCleanDisk (store_of S.Store self.new) → HasCleanDisk (store_of S.Store self.old) }
+        ensures clean { HasCleanDisk (store_of S.Store self.new) →
+            HasCleanDisk (store_of S.Store self.old) }
 
         // A fault has its cause in this call, and leaves a prefix.
-        ensures cause { HasCause result (R.failures source.old < R.failures source.new) (W.fruitless sink.old < W.fruitless sink.new) }
+        ensures cause { HasCause result (R.failures source.old < R.failures source.new)
+            (W.fruitless sink.old < W.fruitless sink.new) }
         ensures wrote { WritesOf result (W.fruitless sink.old) (W.fruitless sink.new) }
 
         // A read that fails or finds the end is the last one, and each was made where more was needed.
-        ensures outcome { (calls : List Call) × Gave (R.calls source.old) (R.calls source.new) (R.rest source.old) (R.rest source.new) calls
+        ensures outcome { (calls : List Call)
+            × Gave (R.calls source.old) (R.calls source.new) (R.rest source.old)
+            (R.rest source.new) calls
             × ReadsOf result calls
-            × EachWasNeeded (limits_of buffer.old) (most_of self.old) ((limits_of buffer.old).head + (limits_of buffer.old).body) calls
-            × ((before after : Lives) → LivesGo (store_of S.Store self.old) (store_of S.Store self.new) before after → Outcome result (machine (rules_of self.old)) (limits_of buffer.old) (most_of self.old) before (all_bytes calls) (R.rest source.new) (W.taken sink.old) (W.taken sink.new) after) }
+            × EachWasNeeded (limits_of buffer.old) (most_of self.old)
+            ((limits_of buffer.old).head + (limits_of buffer.old).body) calls
+            × ((before after : Lives) →
+            LivesGo (store_of S.Store self.old) (store_of S.Store self.new) before after →
+            Outcome result (machine (rules_of self.old)) (limits_of buffer.old)
+            (most_of self.old) before (all_bytes calls) (R.rest source.new) (W.taken sink.old)
+            (W.taken sink.new) after) }
     {
         let limits = buffer.limits;
         let mut met_fault = false;
-        let served = self.serve_in(
+        let served = self.setup.serve_in(
+            &mut self.records,
             buffer.room.as_mut_slice(),
             &limits,
             &mut met_fault,

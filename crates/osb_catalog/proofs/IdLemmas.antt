@@ -5,8 +5,9 @@ use Rattle.std.proofs.lemmas.Map.Text.{is_eq-slice_cmp}
 use Rattle.std.specs.Ordering.{nat_cmp}
 use Rattle.std.specs.Cmp.Lexicographic.{slice_cmp, nat_list_eq_equiv}
 use Rattle.std.specs.BTreeSet.{BTreeSet, Updates, contains}
+use Rattle.std.specs.List.{list_any}
 use Rattle.osb_catalog.specs.Ids.{is_among, has_double}
-use Rattle.osb_catalog.specs.IdSet.{texts, has_id, has_some}
+use Rattle.osb_catalog.specs.IdSet.{texts, has_id}
 use denote.Ref.{Bor}
 
 -- how the code compares two borrowed texts
@@ -16,6 +17,10 @@ text_cmp x y = slice_cmp nat_cmp x.now y.now
 -- the id at a place, where there is one
 abbrev pub id_at : List (Bor (List ℕ)) → ℕ → Bor (List ℕ)
 id_at ids i = slice_index_or ids i (record { ref_ptr = (0, 0); now = [] })
+
+-- the set has one of the ids
+abbrev pub has_some : BTreeSet (Bor (List ℕ)) → List (List ℕ) → Bool
+has_some set ids = list_any (has_id set) ids
 
 pub texts_push : (ids : List (Bor (List ℕ))) (id : Bor (List ℕ)) → texts (ids ++ id ∷ []) ≡ texts ids ++ id.now ∷ []
 texts_push ids id = map-append (λ (x : Bor (List ℕ)). x.now) ids (id ∷ [])

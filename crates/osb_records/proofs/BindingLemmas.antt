@@ -19,7 +19,7 @@ use Rattle.sqlite_value.specs.declared.keys.Collation.TheVariants.{Binary}
 use Rattle.sqlite_value.proofs.OrderLemmas.{value_cmp-Text}
 use Rattle.sqlite_keyed.specs.Lists.{insert_sorted, update_where, delete_where}
 use Rattle.osb_orders.specs.declared.view.BindingNow.{BindingNow}
-use Rattle.osb_records.specs.Rows.{Stores}
+use Rattle.osb_rows.specs.Rows.{Stores}
 use Rattle.osb_tables.specs.Tables.{binding_columns, record_schema}
 use Rattle.osb_audit.specs.Instances.{InstanceEntry, instance_cmp}
 use Rattle.osb_records.specs.Instances.{instance_cells, instance_row}
@@ -30,11 +30,11 @@ use Rattle.osb_records.specs.BindingRows.{binding_found, first_binding, with_bin
 use Rattle.osb_audit.specs.Orders.{Entry, entry_cmp}
 use Rattle.osb_records.specs.Stored.{entry_row, order_cells, version_row, version_cells, entries_in, instances_in, bindings_in}
 use Rattle.osb_records.specs.Steps.{HasTables}
-use Rattle.osb_records.proofs.AnswerLemmas.{one_answer}
+use Rattle.osb_rows.proofs.AnswerLemmas.{one_answer}
 use Rattle.osb_records.proofs.SortLemmas.{binding_total, binding_back}
 use Rattle.osb_records.proofs.SelectLemmas.{then_equal}
-use Rattle.osb_records.proofs.StatementLemmas.{insert_does, update_does, delete_does}
-use Rattle.osb_records.proofs.TableLemmas.{cast_int, insert_stores, update_stores, delete_stores}
+use Rattle.osb_rows.proofs.StatementLemmas.{insert_does, update_does, delete_does}
+use Rattle.osb_rows.proofs.TableLemmas.{cast_int, insert_stores, update_stores, delete_stores}
 use Rattle.osb_records.proofs.TestLemmas.{same_text, and_true, same_bytes, bytes_itself, bytes_back, text_itself}
 use Rattle.osb_records.proofs.ChangeLemmas.{Gives}
 use Rattle.osb_records.proofs.Texts.{every}

@@ -12,7 +12,7 @@ use Rattle.sqlite_tied.specs.Compute.{everything}
 use Rattle.sqlite.specs.Listing.{understood, reads_listing}
 use Rattle.sqlite.proofs.Callers.{IsPlain, command_of}
 use Rattle.osb_tables.specs.Tables.{record_schema}
-use Rattle.osb_records.proofs.AnswerLemmas.{over}
+use Rattle.osb_rows.proofs.AnswerLemmas.{over}
 use Rattle.osb_records.proofs.Texts.{every, is_at}
 
 -- ---- statements

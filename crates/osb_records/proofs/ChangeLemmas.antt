@@ -14,7 +14,7 @@ use Rattle.sqlite.proofs.Callers.{runs_as, statement_of}
 use Rattle.sqlite_keyed.specs.Lists.{insert_sorted, update_where}
 use Rattle.osb_orders.specs.declared.order.Outcome.{Outcome}
 use Rattle.osb_orders.specs.Orders.{kind_number, state_number}
-use Rattle.osb_records.specs.Rows.{Stores}
+use Rattle.osb_rows.specs.Rows.{Stores}
 use Rattle.osb_tables.specs.Tables.{order_columns, record_schema}
 use Rattle.osb_audit.specs.Instances.{InstanceEntry, instance_cmp}
 use Rattle.osb_records.specs.Instances.{instance_cells, instance_row}
@@ -22,12 +22,12 @@ use Rattle.osb_audit.specs.declared.entry.BindingEntry.{BindingEntry}
 use Rattle.osb_audit.specs.Bindings.{binding_cmp}
 use Rattle.osb_records.specs.Bindings.{binding_cells, binding_row}
 use Rattle.osb_audit.specs.Orders.{Entry, entry_cmp}
-use Rattle.osb_records.specs.Stored.{Holds, entry_row, order_cells, version_row, version_cells, is_keyed}
+use Rattle.osb_records.specs.Stored.{Holds, entry_row, order_cells, version_row, version_cells}
 use Rattle.osb_records.proofs.SortLemmas.{entry_total}
 use Rattle.osb_records.proofs.Texts.{insert_order, insert_order_terms, insert_order_is, finish_order, finish_query, finished_cells, finish_order_is, is_at}
-use Rattle.osb_records.proofs.StatementLemmas.{insert_does, update_does}
-use Rattle.osb_records.proofs.TableLemmas.{cast_int, insert_stores, update_stores}
-use Rattle.osb_records.proofs.TestLemmas.{at_key, one_keyed, entry_ended, ended_keeps}
+use Rattle.osb_rows.proofs.StatementLemmas.{insert_does, update_does}
+use Rattle.osb_rows.proofs.TableLemmas.{cast_int, insert_stores, update_stores}
+use Rattle.osb_records.proofs.TestLemmas.{is_keyed, at_key, one_keyed, entry_ended, ended_keeps}
 
 -- the schema stays, and the trees hold these entries
 abbrev pub Gives : State → List Entry → List InstanceEntry → List BindingEntry → Type 0

@@ -19,11 +19,13 @@ use Rattle.osb_orders.specs.IsLife.{IsNext, IsLifeAfter, IsWorded, IsLife, IsIns
 use Rattle.osb_orders.specs.Allowed.{IsFinishable}
 use Rattle.osb_standing.specs.Written.{order_written, IsWritten}
 use Rattle.osb_standing.proofs.ReadLemmas.{life_found}
-use Rattle.osb_records.specs.Stored.{content_in, lives_stored, with_lives}
+use Rattle.osb_records.specs.Stored.{content_in, lives_stored}
+use Rattle.osb_records.specs.Inside.{with_lives, Steps, Writes}
 use Rattle.osb_records.specs.Standing.{IsStanding}
-use Rattle.osb_records.specs.Steps.{Steps, Writes, stored, content}
+use Rattle.osb_records.specs.Steps.{stored, content}
 use Rattle.osb_records.proofs.TestLemmas.{bytes_itself}
 use Rattle.osb_records.proofs.LivesLemmas.{IsNumberedFrom, numbered, length_one_more, same_number_is, other_number, key_is}
+use Rattle.osb_records.proofs.StepLemmas.{within_then, within_later}
 
 -- ---- the order that is written
 
@@ -76,15 +78,11 @@ last_found lives id number whole is = last_numbered 0 number (life_of lives id) 
 pub written_after : (first mid new : State) (id : List ℕ) (change : Change) → Steps first mid (with_lives (stored first) (content mid)) → IsStanding (with_lives (lives_changed change id (stored first)) (content mid))
     → Steps mid new (with_lives (lives_changed change id (stored mid)) (content mid)) → Writes first new (lives_changed change id (stored first))
 written_after first mid new id change rows standing order = record {
-  was_inside = rows.was_inside;
-  inside = order.inside;
-  was_open = rows.was_open;
-  is_open = order.is_open;
+  within = within_then first mid new rows.within order.within;
   tables = order.tables;
   lives_are = lives;
   standing = subst IsStanding (sym is) standing;
   sound = order.sound;
-  committed = order.committed ∙ rows.committed;
 }
   where
     lives : stored new ≡ lives_changed change id (stored first)
@@ -101,15 +99,11 @@ written_later first read mid new id order change same written standing rows stan
     let trees : read.now.trees ≡ first.now.trees = ap (λ (d : Database). d.trees) same.0.now_is in
     let stands_first = subst (λ db. (any : Change) → IsWritten (life_of (lives_stored db) id) any order → IsStanding (content_in db) → IsStanding (with_lives (lives_changed any id (lives_stored db)) (content mid))) trees stands in
     let rows_first : Steps first mid (with_lives (stored first) (content mid)) = record {
-      was_inside = sym same.0.mode ∙ rows.was_inside;
-      inside = rows.inside;
-      was_open = same.0.was_open;
-      is_open = rows.is_open;
+      within = within_later first read mid same rows.within;
       tables = rows.tables;
       lives_are = rows.lives_are ∙ ap lives_stored trees;
       instances_are = refl;
       bindings_are = refl;
       sound = rows.sound;
-      committed = rows.committed ∙ same.0.committed_is;
     } in
     written_after first mid new id change rows_first (stands_first change written standing) ended

@@ -13,18 +13,18 @@ use Rattle.sqlite.specs.Listing.{understood}
 use Rattle.sqlite.specs.Effect.{Database}
 use Rattle.sqlite.specs.State.{State, Writes, Executes, mode_of}
 use Rattle.sqlite.proofs.Callers.{statement_of, runs_as}
-use Rattle.osb_records.specs.Rows.{Stores}
+use Rattle.osb_rows.specs.Rows.{Stores}
 use Rattle.osb_tables.specs.Tables.{format_table, format_columns, no_schema, format_schema, orders_schema, instances_schema, tables_schema, record_schema}
 use Rattle.osb_audit.specs.Instances.{instance_cmp}
 use Rattle.osb_records.specs.Instances.{instance_row, instance_cells}
 use Rattle.osb_audit.specs.Bindings.{binding_cmp}
 use Rattle.osb_records.specs.Bindings.{binding_row, binding_cells}
-use Rattle.osb_records.specs.Steps.{AreBlank}
+use Rattle.osb_records.specs.Inside.{AreBlank}
 use Rattle.osb_audit.specs.Orders.{entry_cmp}
 use Rattle.osb_records.specs.Stored.{entry_row, order_cells, version_row, version_cells}
 use Rattle.osb_records.proofs.Texts.{create_format, create_format_is, create_format_plain, create_orders, create_orders_is, create_orders_plain, orders_made, orders_placed, create_instances, create_instances_is, create_instances_plain, instances_made, instances_placed, create_bindings, create_bindings_is, create_bindings_plain, bindings_made, bindings_placed, insert_version, insert_version_terms, insert_version_is}
-use Rattle.osb_records.proofs.StatementLemmas.{went, same_value, insert_does}
-use Rattle.osb_records.proofs.TableLemmas.{cast_int, insert_stores}
+use Rattle.osb_rows.proofs.StatementLemmas.{went, same_value, insert_does}
+use Rattle.osb_rows.proofs.TableLemmas.{cast_int, insert_stores}
 use Rattle.osb_records.proofs.ChangeLemmas.{Gives}
 
 pub makes_format : (old new : State) (count : ℕ) → old.now.schema ≡ no_schema → AreBlank [] old.now.trees → Executes create_format [] old new (Ok count)

@@ -32,12 +32,14 @@ use Rattle.osb_standing.proofs.RowLemmas.{bindings_are, bindings_stand}
 use Rattle.osb_audit.specs.declared.entry.BindingEntry.{BindingEntry}
 use Rattle.osb_audit.specs.Bindings.{binding_entry, binding_now, binding_cmp, is_bound, is_binding, BindingsStand}
 use Rattle.osb_records.specs.BindingRows.{binding_found, with_binding, binding_put, bindings_edited, PutsBindings, FollowsOrder}
-use Rattle.osb_records.specs.Stored.{with_bindings, lives_stored, instances_in, bindings_in}
-use Rattle.osb_records.specs.Steps.{HasTables, Steps, content}
+use Rattle.osb_records.specs.Inside.{with_bindings, Steps}
+use Rattle.osb_records.specs.Stored.{lives_stored, instances_in, bindings_in}
+use Rattle.osb_records.specs.Steps.{HasTables, content}
 use Rattle.osb_records.proofs.TestLemmas.{same_bytes, bytes_itself, text_itself}
 use Rattle.osb_records.proofs.SortLemmas.{binding_total}
-use Rattle.osb_records.proofs.StoresLemmas.{none_changed, none_deleted}
+use Rattle.osb_rows.proofs.StoresLemmas.{none_changed, none_deleted}
 use Rattle.osb_records.proofs.LivesLemmas.{key_is, insert_other, filter_update}
+use Rattle.osb_records.proofs.StepLemmas.{within_later}
 
 abbrev Kept : Type 0
 Kept = List (List ℕ × BindingNow)
@@ -329,16 +331,12 @@ module _ (old mid new : State) (id : List ℕ) (order : Order) (edit : BindingEd
   pub follows_by : FollowsOrder old new id order
   follows_by = record {
     steps = record {
-      was_inside = sym same.0.mode ∙ steps.was_inside;
-      inside = steps.inside;
-      was_open = same.0.was_open;
-      is_open = steps.is_open;
+      within = within_later old mid new same steps.within;
       tables = steps.tables;
       lives_are = steps.lives_are ∙ ap (λ (db : Database). lives_stored db.trees) now;
       instances_are = steps.instances_are ∙ ap (λ (db : Database). instances_in db.trees) now;
       bindings_are = refl;
       sound = steps.sound;
-      committed = steps.committed ∙ same.0.committed_is;
     };
     puts = rows_follow;
   }

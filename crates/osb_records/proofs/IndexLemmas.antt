@@ -1,6 +1,5 @@
 -- The indexes beside the tables.
 use Rattle.std.proofs.Common.{◌≡◌, inl, inr, Bool, true, false, ℕ, List, [], ◌∷◌, slice_get, IsTrue, None, Some, Ok, Err, Result, OnOk, refl, sym, ap, subst, ◌∙◌}
-use Rattle.std.proofs.lemmas.Bool.{cases_Bool}
 use Rattle.sqlite.specs.Tree.{Trees}
 use Rattle.sqlite.specs.Schema.{Schema}
 use Rattle.sqlite.specs.Table.{Table}
@@ -16,17 +15,12 @@ use Rattle.osb_orders.specs.IsLife.{IsLives}
 use Rattle.osb_tables.specs.Tables.{tables_schema, record_schema}
 use Rattle.osb_records.specs.Stored.{lives_stored, content_in}
 use Rattle.osb_records.specs.Standing.{IsStanding}
-use Rattle.osb_records.specs.Opened.{StoreLives, HoldsSame, HasAll, Indexes, lacking}
-use Rattle.osb_records.specs.Steps.{ShowsSchema, Makes, Writes, HasTables, stored}
-use Rattle.osb_records.proofs.StatementLemmas.{went, same_value}
-use Rattle.osb_records.proofs.StepLemmas.{IsOver, clean_before, committed_lives}
+use Rattle.osb_records.specs.Opened.{StoreLives, HoldsSame, HasAll}
+use Rattle.osb_records.specs.Inside.{Indexes, lacking, ShowsSchema, Makes, Writes, Within}
+use Rattle.osb_records.specs.Steps.{HasTables, stored}
+use Rattle.osb_rows.proofs.StatementLemmas.{went, same_value}
+use Rattle.osb_records.proofs.StepLemmas.{IsOver, was_inside, within_then, within_still, clean_before, committed_lives}
 use Rattle.osb_records.proofs.Texts.{MakesOn}
-
-was_inside : (old : State) (count : ℕ) (why : Error) → IsOver old (Ok count) why → IsTrue old.in_transaction
-was_inside old count why ended = elim (cases_Bool old.in_transaction) [
-  | inl inside ↦ inside
-  | inr over ↦ absurd (let e = ended over in cc)
-]
 
 -- the text makes the index on that table, beside the tables
 module _ (text : List ℕ) (before : Schema) (place : ℕ) (table : Table) (index : Index) (makes : MakesOn text before place table index) (there : slice_get before.tables place ≡ Some table) (tables : before.tables ≡ (tables_schema).tables) where
@@ -50,31 +44,24 @@ module _ (text : List ℕ) (before : Schema) (place : ℕ) (table : Table) (inde
       let inside = was_inside old count why over in
       let ran = run inside in
       let did = makes_index old new count (has (clean_before old new _ survives clean) ran.1.was_open) ran.0 in
-      record { was_inside = inside; inside = ran.1.mode; was_open = ran.1.was_open; is_open = ran.1.is_open; schema_is = did.0; kept = did.1; sound = did.2; committed = ran.1.committed_is }
+      let within : Within old new = record { was_inside = inside; inside = ran.1.mode; was_open = ran.1.was_open; is_open = ran.1.is_open; committed = ran.1.committed_is } in
+      record { within = within; schema_is = did.0; kept = did.1; sound = did.2 }
 
 -- one index after another
 pub indexes_then : (schema mid_schema : Schema) (old mid new : State) → Indexes mid_schema old mid → Indexes schema mid new → Indexes schema old new
 indexes_then schema mid_schema old mid new first it = record {
-  was_inside = first.was_inside;
-  inside = it.inside;
-  was_open = first.was_open;
-  is_open = it.is_open;
+  within = within_then old mid new first.within it.within;
   schema_is = it.schema_is;
   kept = (it.kept.0 ∙ first.kept.0, (it.kept.1.0 ∙ first.kept.1.0, (it.kept.1.1.0 ∙ first.kept.1.1.0, (it.kept.1.1.1.0 ∙ first.kept.1.1.1.0, tt))));
   sound = it.sound;
-  committed = it.committed ∙ first.committed;
 }
 
 -- the indexes beside tables without rows
 pub indexed_makes : (old mid new : State) → Makes old mid tables_schema (5 ∷ 3 ∷ 1 ∷ 0 ∷ []) → Indexes record_schema mid new → Makes old new record_schema (5 ∷ 3 ∷ 1 ∷ 0 ∷ [])
 indexed_makes old mid new makes it = record {
-  was_inside = makes.was_inside;
-  inside = it.inside;
-  was_open = makes.was_open;
-  is_open = it.is_open;
+  within = within_then old mid new makes.within it.within;
   schema_is = it.schema_is;
   blank = (it.kept.1.1.1.0 ∙ makes.blank.0, (it.kept.1.1.0 ∙ makes.blank.1.0, (it.kept.1.0 ∙ makes.blank.1.1.0, (it.kept.0 ∙ makes.blank.1.1.1.0, tt))));
-  committed = it.committed ∙ makes.committed;
 }
 
 -- ---- beside tables with rows
@@ -121,15 +108,11 @@ module _ (a b : Trees) (kept : KeepsRows (tables_schema).tables a b) where
 pub index_writes : (old mid new : State) → Indexes record_schema old mid → IsUnchanged mid new → StoreLives mid.now.trees → Writes old new (stored old)
 index_writes old mid new it same whole =
     let now = same.0.now_is in record {
-      was_inside = it.was_inside;
-      inside = same.0.mode ∙ it.inside;
-      was_open = it.was_open;
-      is_open = same.0.is_open;
+      within = within_still old mid new it.within same;
       tables = subst HasTables (sym now) (record { schema = it.schema_is; holds = whole.holds });
       lives_are = ap (λ (d : Database). lives_stored d.trees) now ∙ lives_along old.now.trees mid.now.trees it.kept;
       standing = subst (λ (d : Database). IsStanding (content_in d.trees)) (sym now) whole.standing;
       sound = subst IsDatabase (sym now) it.sound;
-      committed = same.0.committed_is ∙ it.committed;
     }
 
 pub completed_same : (old new : State) (db : Trees) → HasAll old.now.schema → StoreLives old.now.trees → Writes old new (stored old) → db ≡ new.now.trees → HoldsSame old.now db

@@ -18,22 +18,24 @@ use Rattle.sqlite_value.specs.declared.keys.Collation.TheVariants.{Binary}
 use Rattle.sqlite_value.proofs.OrderLemmas.{value_cmp-Text}
 use Rattle.sqlite_keyed.specs.Lists.{insert_sorted, update_where}
 use Rattle.osb_standing.specs.declared.row.InstanceRow.{InstanceRow}
-use Rattle.osb_records.specs.Rows.{Stores}
+use Rattle.osb_rows.specs.Rows.{Stores}
 use Rattle.osb_tables.specs.Tables.{instance_columns, record_schema}
 use Rattle.osb_audit.specs.Instances.{InstanceEntry, instance_cmp, is_instance, IsRowOf}
-use Rattle.osb_records.specs.Instances.{instance_row, instance_cells, instance_row_told, with_row, standing_number, attributes_shown, busy_number, first_told}
+use Rattle.osb_records.specs.Instances.{instance_row, instance_cells, instance_row_told, standing_number, attributes_shown, busy_number}
+use Rattle.osb_records.specs.Inside.{with_row}
+use Rattle.osb_records.specs.Read.{first_told}
 use Rattle.osb_audit.specs.declared.entry.BindingEntry.{BindingEntry}
 use Rattle.osb_audit.specs.Bindings.{binding_cmp}
 use Rattle.osb_records.specs.Bindings.{binding_cells, binding_row}
 use Rattle.osb_audit.specs.Orders.{Entry, entry_cmp}
 use Rattle.osb_records.specs.Stored.{entry_row, order_cells, version_row, version_cells, entries_in, instances_in, bindings_in}
 use Rattle.osb_records.specs.Steps.{HasTables}
-use Rattle.osb_records.proofs.AnswerLemmas.{one_answer}
+use Rattle.osb_rows.proofs.AnswerLemmas.{one_answer}
 use Rattle.osb_records.proofs.SortLemmas.{instance_total, instance_back}
 use Rattle.osb_records.proofs.SelectLemmas.{then_equal}
-use Rattle.osb_records.proofs.StatementLemmas.{insert_does, update_does}
-use Rattle.osb_records.proofs.StoresLemmas.{one_hit}
-use Rattle.osb_records.proofs.TableLemmas.{cast_int, insert_stores, update_stores}
+use Rattle.osb_rows.proofs.StatementLemmas.{insert_does, update_does}
+use Rattle.osb_rows.proofs.StoresLemmas.{one_hit}
+use Rattle.osb_rows.proofs.TableLemmas.{cast_int, insert_stores, update_stores}
 use Rattle.osb_records.proofs.TestLemmas.{same_text, and_true, same_bytes, bytes_back, text_itself}
 use Rattle.osb_records.proofs.ChangeLemmas.{Gives}
 use Rattle.osb_records.proofs.Texts.{insert_instance, insert_instance_terms, insert_instance_is, update_instance, update_instance_query, update_instance_is, updated_cells, select_instance, select_instance_is, instance_cells_read, by_instance, every, is_at}

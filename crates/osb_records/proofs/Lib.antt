@@ -1,11 +1,4 @@
-pub mod RowLemmas
-pub mod StoresLemmas
-pub mod AnswerLemmas
 pub mod Texts
-pub mod StatementLemmas
-pub mod TableLemmas
-pub mod QueryLemmas
-pub mod ResultLemmas
 pub mod SortLemmas
 pub mod TestLemmas
 pub mod ChangeLemmas
@@ -38,3 +31,4 @@ pub mod OpenedLemmas
 pub mod PlanLemmas
 pub mod IndexLemmas
 pub mod NoRowLemmas
+pub mod ReadsLemmas

@@ -31,7 +31,7 @@ use Rattle.osb_records.specs.Instances.{instance_cells, instance_row, busy_numbe
 use Rattle.osb_records.specs.Stored.{instances_in, lives_stored}
 use Rattle.osb_records.specs.Queries.{ShowsRecords, busy_row, order_for}
 use Rattle.osb_records.specs.Steps.{HasTables, stored}
-use Rattle.osb_records.proofs.AnswerLemmas.{one_answer}
+use Rattle.osb_rows.proofs.AnswerLemmas.{one_answer}
 use Rattle.osb_records.proofs.InstanceLemmas.{by_id}
 use Rattle.osb_records.proofs.LivesLemmas.{key_is}
 use Rattle.osb_records.proofs.ReadLemmas.{told_more}
@@ -189,6 +189,7 @@ listing_found law lives after limit instances rows found whole up stand are name
 pub record HasListed (old now : State) (rows : List Row) (count : ℕ) (found : List (List ℕ × Order)) : Type 0 where
   pub shows : ShowsRecords now
   pub survives : Survives old now (λ _. ⊥)
+  pub was_open : HasCleanDisk now → IsTrue now.is_open → IsTrue old.is_open
   pub same : HasCleanDisk now → IsTrue old.is_open → IsUnchanged old now
   pub named : HasCleanDisk now → IsTrue old.is_open → map Some found ≡ map (order_for (stored old)) (take count rows)
 
@@ -196,6 +197,7 @@ pub none_listed : (s : State) (rows : List Row) (found : List (List ℕ × Order
 none_listed s rows found none shows = record {
   shows = shows;
   survives = record { clean = omega arith; shield = λ shielded. shielded; counts = omega arith; limit = refl; closes = λ _ live. inl live; crash = λ _ db left. inl left };
+  was_open = λ _ live. live;
   same = λ _ live. unchanged s live;
   named = λ _ _. ap (map Some) none;
 }
@@ -205,6 +207,7 @@ pub next_listed : (old now next : State) (rows : List Row) (at : ℕ) (row : Row
 next_listed old now next rows at row found more pair so_far survives same shows tells low is grown = record {
   shows = shows;
   survives = survives_then old now next (λ _. ⊥) (λ _. ⊥) (λ _. ⊥) (λ _ db none. none) (λ _ db none. none) so_far.survives survives;
+  was_open = λ clean live. so_far.was_open (clean_before now next _ survives clean) (same clean).0.was_open;
   same = λ clean live. unchanged_then old now next (so_far.same (clean_before now next _ survives clean) live) (same clean);
   named = λ clean live.
       let before = clean_before now next _ survives clean in

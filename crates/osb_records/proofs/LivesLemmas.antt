@@ -19,8 +19,7 @@ use Rattle.osb_orders.specs.Lives.{Lives, life_of}
 use Rattle.osb_orders.specs.Changed.{with_outcome, with_last_ended}
 use Rattle.osb_orders.specs.IsLife.{IsLifeAfter, IsInstance, IsLives}
 use Rattle.osb_audit.specs.Orders.{Entry, entry_cmp, lives_in, is_of}
-use Rattle.osb_records.specs.Stored.{is_keyed}
-use Rattle.osb_records.proofs.TestLemmas.{same_bytes, bytes_itself, bytes_back, text_itself, entry_ended}
+use Rattle.osb_records.proofs.TestLemmas.{is_keyed, same_bytes, bytes_itself, bytes_back, text_itself, entry_ended}
 use Rattle.osb_records.proofs.SortLemmas.{entry_total}
 
 -- ---- reading a life

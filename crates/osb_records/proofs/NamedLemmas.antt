@@ -1,5 +1,5 @@
 -- The order of a name is that of its number.
-use Rattle.std.proofs.Common.{◌≡◌, ℕ, ◌+◌, ◌<◌, ◌≤◌, ◌==◌, List, [], ◌∷◌, length, filter, find, bytes_eq, Bool, true, false, cond, ◌&&◌, true≢false, Some, None, Option, Ok, Err, Result, OnOk, refl, sym, ap, subst, ◌∙◌, arith}
+use Rattle.std.proofs.Common.{◌≡◌, ℕ, ◌+◌, ◌<◌, ◌≤◌, ◌==◌, List, [], ◌∷◌, length, filter, find, bytes_eq, Bool, true, false, cond, ◌&&◌, true≢false, Some, None, Option, refl, sym, ap, subst, ◌∙◌, arith}
 use Rattle.std.specs.Prelude.{unwrap_or, IfSome}
 use Rattle.std.specs.List.{AllByRecursion}
 use Rattle.std.specs.FinMap.{get}
@@ -19,14 +19,8 @@ use Rattle.osb_records.proofs.LivesLemmas.{IsNumberedFrom, numbered}
 
 -- ---- a query leaves the records
 
-unchanged_records : (old new : State) → Survives old new (λ _. ⊥) → ShowsRecords old → HasCleanDisk new → IsUnchanged old new → AreRecords new.now
+pub unchanged_records : (old new : State) → Survives old new (λ _. ⊥) → ShowsRecords old → HasCleanDisk new → IsUnchanged old new → AreRecords new.now
 unchanged_records old new survives shows clean same = subst AreRecords (sym same.0.now_is) (shows (clean_before old new _ survives clean) same.0.was_open)
-
-pub shows_again : {V E : Type 0} (old new : State) (result : Result V E) → Survives old new (λ _. ⊥) → (HasCleanDisk new → OnOk result (IsUnchanged old new)) → ShowsRecords old → OnOk result (ShowsRecords new)
-shows_again old new result survives same shows = elim result as (λ r. (HasCleanDisk new → OnOk r (IsUnchanged old new)) → OnOk r (ShowsRecords new)) [
-  | Ok value ↦ λ unchanged clean live. unchanged_records old new survives shows clean (unchanged clean)
-  | Err e ↦ λ _. tt
-] same
 
 -- ---- numbers
 

@@ -16,8 +16,9 @@ use Rattle.osb_audit.specs.Orders.{Entry, entry_cmp, lives_in}
 use Rattle.osb_audit.specs.Instances.{InstanceEntry, instance_cmp}
 use Rattle.osb_audit.specs.Bindings.{binding_cmp}
 use Rattle.osb_audit.specs.Audit.{AreRowsOfLives}
-use Rattle.osb_records.specs.Rows.{Stores, IsListOf}
-use Rattle.osb_records.specs.Stored.{Holds, content_in, lives_stored, entries_in, instances_in, bindings_in, AreVersionsOf, AreOrdersOf, AreInstancesOf, AreBindingsOf}
+use Rattle.osb_rows.specs.Rows.{Stores}
+use Rattle.osb_records.specs.Read.{IsListOf, AreVersionsOf, AreOrdersOf, AreInstancesOf, AreBindingsOf}
+use Rattle.osb_records.specs.Stored.{Holds, content_in, lives_stored, entries_in, instances_in, bindings_in}
 use Rattle.osb_records.specs.Standing.{IsStanding}
 use Rattle.osb_records.specs.Opened.{StoreLives, StandIn, HoldsSame}
 use Rattle.osb_records.specs.Steps.{HasTables, HoldsLives, IsSettled, IsReady}

@@ -17,12 +17,12 @@ use Rattle.osb_orders.specs.Lives.{life_of}
 use Rattle.osb_orders.specs.Named.{order_numbered}
 use Rattle.osb_tables.specs.Tables.{record_schema}
 use Rattle.osb_audit.specs.Orders.{Entry, entry_cmp, is_of}
-use Rattle.osb_records.specs.Stored.{entry_row, order_cells, entries_in, is_keyed}
+use Rattle.osb_records.specs.Stored.{entry_row, order_cells, entries_in}
 use Rattle.osb_records.specs.Steps.{HasTables, stored}
 use Rattle.osb_records.specs.Queries.{first_order, is_kind_of}
-use Rattle.osb_records.proofs.TestLemmas.{same_text, same_number, and_true, at_key}
+use Rattle.osb_records.proofs.TestLemmas.{is_keyed, same_text, same_number, and_true, at_key}
 use Rattle.osb_records.proofs.SortLemmas.{entry_total, told_back}
-use Rattle.osb_records.proofs.AnswerLemmas.{one_answer}
+use Rattle.osb_rows.proofs.AnswerLemmas.{one_answer}
 use Rattle.osb_records.proofs.SelectLemmas.{by_both}
 use Rattle.osb_records.proofs.LivesLemmas.{life_in, life_of_lives}
 use Rattle.osb_records.proofs.BackLemmas.{back, stores_back, filter_back, first_back, last_map}

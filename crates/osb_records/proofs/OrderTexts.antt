@@ -10,7 +10,7 @@ use Rattle.sqlite_tied.specs.Compute.{everything}
 use Rattle.sqlite.specs.Listing.{understood, reads_listing}
 use Rattle.sqlite.proofs.Callers.{IsPlain, command_of}
 use Rattle.osb_tables.specs.Tables.{record_schema}
-use Rattle.osb_records.proofs.AnswerLemmas.{over}
+use Rattle.osb_rows.proofs.AnswerLemmas.{over}
 use Rattle.osb_records.proofs.Texts.{all_cells, all_names, by_key, every, is_at}
 
 -- what is known of a query's text

@@ -5,7 +5,8 @@ use Rattle.sqlite.specs.State.{State}
 use Rattle.osb_audit.specs.Instances.{InstanceEntry, instance_cmp, InstancesStand}
 use Rattle.osb_tables.specs.Tables.{record_schema}
 use Rattle.osb_records.specs.Queries.{AreRecords, ShowsRecords}
-use Rattle.osb_records.specs.Steps.{ShowsSchema, content, stored}
+use Rattle.osb_records.specs.Inside.{ShowsSchema}
+use Rattle.osb_records.specs.Steps.{content, stored}
 use Rattle.osb_records.proofs.OpenedLemmas.{rises}
 
 pub records_schema : (s : State) → ShowsRecords s → ShowsSchema record_schema s

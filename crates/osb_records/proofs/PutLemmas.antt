@@ -18,11 +18,10 @@ use Rattle.osb_standing.specs.declared.row.InstanceRow.{InstanceRow}
 use Rattle.osb_standing.specs.Rows.{row_of}
 use Rattle.osb_standing.specs.Written.{IsWritten}
 use Rattle.osb_audit.specs.Instances.{InstanceEntry, instance_cmp, is_instance, IsRowOf, InstancesStand}
-use Rattle.osb_records.specs.Instances.{with_row}
+use Rattle.osb_records.specs.Inside.{with_row, with_instances, Puts, Steps, PutsInstance}
 use Rattle.sqlite.specs.Tree.{Trees}
-use Rattle.osb_records.specs.Stored.{with_instances, instances_in, lives_stored}
-use Rattle.osb_records.specs.Standing.{Puts}
-use Rattle.osb_records.specs.Steps.{HasTables, Steps, PutsInstance, content}
+use Rattle.osb_records.specs.Stored.{instances_in, lives_stored}
+use Rattle.osb_records.specs.Steps.{HasTables, content}
 use Rattle.osb_records.proofs.TestLemmas.{same_bytes, bytes_itself, bytes_back}
 use Rattle.osb_records.proofs.SortLemmas.{instance_total}
 use Rattle.osb_records.proofs.LivesLemmas.{insert_other, insert_last, filter_update, key_is}
@@ -69,16 +68,12 @@ module _ (old new : State) (id : List ℕ) (row : InstanceRow) where
   puts_by : (instances : List InstanceEntry) → Steps old new (with_instances instances (content old)) → Puts id row (content old).instances instances → PutsInstance old new id row
   puts_by instances steps puts = record {
     steps = record {
-      was_inside = steps.was_inside;
-      inside = steps.inside;
-      was_open = steps.was_open;
-      is_open = steps.is_open;
+      within = steps.within;
       tables = steps.tables;
       lives_are = steps.lives_are;
       instances_are = refl;
       bindings_are = steps.bindings_are;
       sound = steps.sound;
-      committed = steps.committed;
     };
     puts = subst (Puts id row (content old).instances) (sym steps.instances_are) puts;
   }

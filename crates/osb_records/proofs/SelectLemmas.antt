@@ -20,7 +20,7 @@ use Rattle.osb_records.specs.Stored.{entry_row, order_cells, entries_in}
 use Rattle.osb_records.specs.Steps.{HasTables}
 use Rattle.osb_records.proofs.TestLemmas.{at_instance, number_cmp}
 use Rattle.osb_records.proofs.SortLemmas.{entry_total}
-use Rattle.osb_records.proofs.AnswerLemmas.{one_answer}
+use Rattle.osb_rows.proofs.AnswerLemmas.{one_answer}
 use Rattle.osb_records.proofs.Texts.{select_life, select_life_is, all_cells, by_key, every, is_at}
 
 module _ (sql : List ℕ) (params : Row) (old new : State) where

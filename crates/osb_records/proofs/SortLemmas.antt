@@ -23,7 +23,7 @@ use Rattle.osb_orders.specs.declared.view.BindingPhase.{BindingPhase}
 use Rattle.osb_orders.specs.declared.view.BindingPhase.TheVariants as binding
 use Rattle.osb_orders.specs.declared.view.BindingPhase.TheVariants.{Binding, Bound, Unbinding}
 use Rattle.osb_orders.specs.Orders.{kind_number, state_number}
-use Rattle.osb_records.specs.Rows.{Stores}
+use Rattle.osb_rows.specs.Rows.{Stores}
 use Rattle.osb_audit.specs.Instances.{InstanceEntry, instance_cmp}
 use Rattle.osb_records.specs.Instances.{instance_row, instance_told, instance_cells, instance_phase_number, standing_number, standing_told, attributes_shown, busy_number}
 use Rattle.osb_audit.specs.declared.entry.BindingEntry.{BindingEntry}
@@ -31,7 +31,7 @@ use Rattle.osb_audit.specs.Bindings.{binding_cmp}
 use Rattle.osb_records.specs.Bindings.{binding_row, binding_told, binding_cells, binding_phase_number, binding_phase_numbered}
 use Rattle.osb_audit.specs.Orders.{Entry, entry_cmp}
 use Rattle.osb_records.specs.Stored.{Holds, HoldsEntries, entry_row, entry_told, order_cells, kind_numbered, state_numbered, entries_in, instances_in, bindings_in}
-use Rattle.osb_records.proofs.RowLemmas.{ascending_permuted, untied_back}
+use Rattle.osb_rows.proofs.RowLemmas.{ascending_permuted, untied_back}
 
 pub entry_total : IsTotalOrder entry_cmp
 entry_total = then_total (on_total (λ (entry : Entry). entry.0) nat_list_cmp_total) (on_total (λ (entry : Entry). entry.1.number) nat_cmp_total)

@@ -10,13 +10,14 @@ use Rattle.osb_standing.specs.Rows.{bindings_of}
 use Rattle.osb_standing.specs.Written.{IsWritten}
 use Rattle.osb_audit.specs.declared.entry.BindingEntry.{BindingEntry}
 use Rattle.osb_records.specs.BindingRows.{PutsBindings, FollowsOrder}
-use Rattle.osb_records.specs.Stored.{with_lives, with_instances}
+use Rattle.osb_records.specs.Inside.{with_lives, with_instances, Steps}
 use Rattle.osb_audit.specs.Bindings.{BindingsStand, AllBindingsStand}
 use Rattle.osb_audit.specs.Instances.{InstancesStand}
 use Rattle.osb_records.specs.Standing.{IsStanding}
-use Rattle.osb_records.specs.Steps.{Steps, content, stored}
+use Rattle.osb_records.specs.Steps.{content, stored}
 use Rattle.osb_records.proofs.TestLemmas.{same_bytes}
 use Rattle.osb_records.proofs.PutLemmas.{life_changed}
+use Rattle.osb_records.proofs.StepLemmas.{within_then}
 
 bindings_stand : (lives : Lives) (id : List ℕ) (change : Change) (order : Order) (before after : List BindingEntry) → IsWritten (life_of lives id) change order
     → PutsBindings id (bindings_of (changed change (life_of lives id))) before after → AllBindingsStand lives before → AllBindingsStand (lives_changed change id lives) after
@@ -33,16 +34,12 @@ bindings_stand lives id change order before after written puts stood other = go 
 module _ (first mid new : State) (id : List ℕ) (order : Order) (instance : Steps first mid (with_instances (content mid).instances (content first))) (bindings : FollowsOrder mid new id order) where
   pub both_written : Steps first new (with_lives (stored first) (content new))
   both_written = record {
-    was_inside = instance.was_inside;
-    inside = bindings.steps.inside;
-    was_open = instance.was_open;
-    is_open = bindings.steps.is_open;
+    within = within_then first mid new instance.within bindings.steps.within;
     tables = bindings.steps.tables;
     lives_are = bindings.steps.lives_are ∙ instance.lives_are;
     instances_are = refl;
     bindings_are = refl;
     sound = bindings.steps.sound;
-    committed = bindings.steps.committed ∙ instance.committed;
   }
 
   pub both_stand : (change : Change) → IsWritten (life_of (stored first) id) change order → IsStanding (content first) → InstancesStand (lives_changed change id (stored first)) (content mid).instances

@@ -6,7 +6,7 @@ use Rattle.sqlite.specs.Tree.{Trees}
 use Rattle.sqlite.specs.Schema.{Schema}
 use Rattle.sqlite.specs.Effect.{Database, IsDatabase}
 use Rattle.sqlite.specs.declared.error.Error.{Error}
-use Rattle.sqlite.specs.State.{State, HasCleanDisk, Executes, ExecutesInside, Survives}
+use Rattle.sqlite.specs.State.{State, HasCleanDisk, IsUnchanged, Executes, ExecutesInside, Survives}
 use Rattle.osb_orders.specs.Lives.{Lives}
 use Rattle.osb_orders.specs.IsLife.{IsLives}
 use Rattle.osb_tables.specs.Tables.{record_schema}
@@ -15,7 +15,8 @@ use Rattle.osb_audit.specs.declared.entry.BindingEntry.{BindingEntry}
 use Rattle.osb_audit.specs.Orders.{Entry, lives_in}
 use Rattle.osb_records.specs.Stored.{Content, content_in}
 use Rattle.osb_records.specs.Standing.{IsStanding}
-use Rattle.osb_records.specs.Steps.{HasTables, ShowsSchema, ShowsBlank, AreBlank, HoldsLives, IsReady, Steps, Writes, Makes, stored, content}
+use Rattle.osb_records.specs.Steps.{HasTables, HoldsLives, IsReady, stored, content}
+use Rattle.osb_records.specs.Inside.{ShowsSchema, ShowsBlank, AreBlank, Within, Steps, Writes, Makes}
 use Rattle.osb_records.proofs.SortLemmas.{entries_are, instances_are, bindings_are, held_again}
 use Rattle.osb_records.proofs.ChangeLemmas.{Gives}
 
@@ -31,6 +32,18 @@ was_inside old count why ended = elim (cases_Bool old.in_transaction) [
 
 pub clean_before : (old new : State) (P : Trees → Type 0) → Survives old new P → HasCleanDisk new → HasCleanDisk old
 clean_before old new P s clean = omega (arith, s.clean)
+
+-- one step after another
+pub within_then : (old mid new : State) → Within old mid → Within mid new → Within old new
+within_then old mid new first next = record { was_inside = first.was_inside; inside = next.inside; was_open = first.was_open; is_open = next.is_open; committed = next.committed ∙ first.committed }
+
+-- a step after a query
+pub within_later : (old mid new : State) → IsUnchanged old mid → Within mid new → Within old new
+within_later old mid new same step = record { was_inside = sym same.0.mode ∙ step.was_inside; inside = step.inside; was_open = same.0.was_open; is_open = step.is_open; committed = step.committed ∙ same.0.committed_is }
+
+-- a query after a step
+pub within_still : (old mid new : State) → Within old mid → IsUnchanged mid new → Within old new
+within_still old mid new step same = record { was_inside = step.was_inside; inside = same.0.mode ∙ step.inside; was_open = step.was_open; is_open = same.0.is_open; committed = same.0.committed_is ∙ step.committed }
 
 module _ (text : List ℕ) (params : Row) (old new : State) (result : Result ℕ Error) (why : Error) (over : IsOver old result why) (survives : Survives old new (λ _. ⊥)) (clean : HasCleanDisk new) where
   -- a statement whose meaning is known takes one step
@@ -48,32 +61,30 @@ module _ (text : List ℕ) (params : Row) (old new : State) (result : Result ℕ
             let did = does count before ran.1.was_open (has before ran.1.was_open) ran.0 in
             let gives = did.0 in
             record {
-              was_inside = inside;
-              inside = ran.1.mode;
-              was_open = ran.1.was_open;
-              is_open = ran.1.is_open;
+              within = record { was_inside = inside; inside = ran.1.mode; was_open = ran.1.was_open; is_open = ran.1.is_open; committed = ran.1.committed_is };
               tables = record { schema = gives.0; holds = held_again new.now.trees entries instances bindings gives.1 };
               lives_are = ap lives_in (entries_are new.now.trees entries gives.1.orders) ∙ did.1;
               instances_are = instances_are new.now.trees instances gives.1.instances;
               bindings_are = bindings_are new.now.trees bindings gives.1.bindings;
               sound = gives.2;
-              committed = ran.1.committed_is;
             }
       ] over h
 
   -- a statement that makes a table beside those that have no rows
-  pub makes_by : (before after : Schema) (had has_now : List ℕ) → ShowsSchema before old → ShowsBlank had old
+  pub makes_by : (before after : Schema) (had has_now : List ℕ) → ShowsBlank before had old
       → ((count : ℕ) → old.now.schema ≡ before → AreBlank had old.now.trees → Executes text params old new (Ok count) → (new.now.schema ≡ after) × AreBlank has_now new.now.trees)
       → (IsTrue old.in_transaction → ExecutesInside 0 text params old new result) → OnOk result (Makes old new after has_now)
-  makes_by before after had has_now has blank does h =
+  makes_by before after had has_now blank does h =
       elim result as (λ r. IsOver old r why → (IsTrue old.in_transaction → ExecutesInside 0 text params old new r) → OnOk r (Makes old new after has_now)) [
         | Err e ↦ λ _ _. tt
         | Ok count ↦ λ ended run.
             let inside = was_inside old count why ended in
             let ran = run inside in
             let earlier = clean_before old new _ survives clean in
-            let did = does count (has earlier ran.1.was_open) (blank earlier ran.1.was_open) ran.0 in
-            record { was_inside = inside; inside = ran.1.mode; was_open = ran.1.was_open; is_open = ran.1.is_open; schema_is = did.0; blank = did.1; committed = ran.1.committed_is }
+            let found = blank earlier ran.1.was_open in
+            let did = does count found.0 found.1 ran.0 in
+            let within : Within old new = record { was_inside = inside; inside = ran.1.mode; was_open = ran.1.was_open; is_open = ran.1.is_open; committed = ran.1.committed_is } in
+            record { within = within; schema_is = did.0; blank = did.1 }
       ] over h
 
 -- what a commit may leave, where its transaction took these steps

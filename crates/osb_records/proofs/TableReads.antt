@@ -16,11 +16,12 @@ use Rattle.osb_audit.specs.Orders.{Entry, entry_cmp}
 use Rattle.osb_audit.specs.Instances.{InstanceEntry, instance_cmp}
 use Rattle.osb_audit.specs.Bindings.{binding_cmp}
 use Rattle.osb_records.specs.Columns.{number_in}
-use Rattle.osb_records.specs.Rows.{Stores, IsListOf, AreRowids}
-use Rattle.osb_records.specs.Instances.{instance_cells, instance_row, instance_told, instance_columns}
-use Rattle.osb_records.specs.Bindings.{binding_cells, binding_row, binding_told, binding_columns}
-use Rattle.osb_records.specs.Stored.{order_cells, entry_row, entry_told, entry_columns, version_cells, version_row, version_columns}
-use Rattle.osb_records.proofs.AnswerLemmas.{over}
+use Rattle.osb_rows.specs.Rows.{Stores}
+use Rattle.osb_records.specs.Read.{IsListOf, AreRowids, instance_columns, binding_columns, entry_columns, version_columns}
+use Rattle.osb_records.specs.Instances.{instance_cells, instance_row, instance_told}
+use Rattle.osb_records.specs.Bindings.{binding_cells, binding_row, binding_told}
+use Rattle.osb_records.specs.Stored.{order_cells, entry_row, entry_told, version_cells, version_row}
+use Rattle.osb_rows.proofs.AnswerLemmas.{over}
 use Rattle.osb_records.proofs.BindingLemmas.{by_both_ids}
 use Rattle.osb_records.proofs.BindingTexts.{binding_cells_read, by_ids}
 use Rattle.osb_records.proofs.InstanceLemmas.{by_id}

@@ -17,8 +17,12 @@ use Rattle.sqlite.specs.Term.{holds}
 use Rattle.osb_orders.specs.declared.order.Outcome.{Outcome}
 use Rattle.osb_orders.specs.Changed.{with_outcome}
 use Rattle.osb_audit.specs.Orders.{Entry, entry_cmp, is_of}
-use Rattle.osb_records.specs.Stored.{entry_row, is_keyed}
+use Rattle.osb_records.specs.Stored.{entry_row}
 use Rattle.osb_records.proofs.Texts.{is_at}
+
+-- the entry has this key
+abbrev pub is_keyed : List ℕ → ℕ → Entry → Bool
+is_keyed id number entry = bytes_eq entry.0 id && (entry.1.number == number)
 
 pub truth_back : (b : Bool) → is_true (from_truth (Some b)) ≡ b
 truth_back true = refl

@@ -16,7 +16,7 @@ use Rattle.sqlite_tied.specs.Compute.{everything}
 use Rattle.sqlite.specs.Listing.{understood, reads_listing}
 use Rattle.sqlite.proofs.Callers.{IsPlain, command_of, statement_of}
 use Rattle.osb_tables.specs.Tables.{format_table, orders_table, instances_table, busy_index, subject_index, no_schema, format_schema, orders_schema, instances_schema, tables_schema, listed_schema, record_schema, plain_table, order_columns, instance_columns, binding_columns}
-use Rattle.osb_records.proofs.AnswerLemmas.{over}
+use Rattle.osb_rows.proofs.AnswerLemmas.{over}
 use Rattle.sqlite.specs.Change.{created}
 use Rattle.sqlite.specs.Table.{Table}
 use Rattle.sqlite.specs.Schema.{Schema}

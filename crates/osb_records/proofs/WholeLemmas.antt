@@ -1,5 +1,5 @@
 -- What is read of a whole table.
-use Rattle.std.proofs.Common.{◌≡◌, ℕ, List, [], ◌∷◌, map, filter, Bool, true, false, Ok, Err, Result, OnOk, Ordering, Less, is_eq, nat_cmp, nat_lt, refl, arith, sym, ap, subst, subst₂, ◌∙◌, IsPermutation}
+use Rattle.std.proofs.Common.{◌≡◌, ℕ, List, [], ◌∷◌, map, filter, Bool, true, false, Ordering, Less, is_eq, nat_cmp, nat_lt, refl, arith, sym, ap, subst, subst₂, ◌∙◌, IsPermutation}
 use Rattle.std.specs.List.{AllByRecursion, IsAllAdjacentAnswer}
 use Rattle.std.specs.List.Sorted.{IsStrictlySortedBy}
 use Rattle.std.specs.Cmp.{IsTotalOrder}
@@ -9,13 +9,10 @@ use Rattle.std.proofs.lemmas.Map.Keys.{sorted_from_all_adjacent}
 use Rattle.std.proofs.lemmas.List.Sorted.{IsPermutation-sym, IsPermutation-map}
 use Rattle.sqlite.specs.declared.types.Value.TheVariants.{Null}
 use Rattle.sqlite.specs.Order.{Row}
-use Rattle.sqlite.specs.Effect.{Database}
 use Rattle.sqlite.specs.Program.{overlay}
 use Rattle.sqlite.specs.Query.{Output, IsAnswer, output_cmp}
-use Rattle.sqlite.specs.Schema.{Schema}
 use Rattle.sqlite.specs.Term.{Term, col}
 use Rattle.sqlite.specs.Tree.{Trees}
-use Rattle.sqlite.specs.State.{State, HasCleanDisk, IsUnchanged, Survives}
 use Rattle.sqlite_value.specs.Order.{value_cmp}
 use Rattle.sqlite_value.specs.declared.keys.Key.{Key}
 use Rattle.sqlite_value.proofs.OrderLemmas.{value_cmp_total}
@@ -23,21 +20,13 @@ use Rattle.sqlite_trees.specs.Tree.{rowid, IsAscending}
 use Rattle.sqlite_trees.specs.View.{is_int}
 use Rattle.sqlite_trees.proofs.ListLemmas.{all-permutation}
 use Rattle.sqlite_keyed.proofs.ListLemmas.{map-map, map_same, map_back, ascending_from_map, all_unmap}
-use Rattle.osb_records.specs.Rows.{Apart, Stores, IsListOf, AreRowids, rowid_shown}
-use Rattle.osb_records.specs.Steps.{ShowsSchema}
-use Rattle.osb_records.proofs.AnswerLemmas.{over, out, answered, one_answer}
-use Rattle.osb_records.proofs.RowLemmas.{ascending_permuted, untied_back}
-use Rattle.osb_records.proofs.StepLemmas.{clean_before}
+use Rattle.osb_rows.specs.Rows.{Apart, Stores}
+use Rattle.osb_records.specs.Read.{IsListOf, AreRowids, rowid_shown}
+use Rattle.osb_rows.proofs.AnswerLemmas.{over, out, answered, one_answer}
+use Rattle.osb_rows.proofs.RowLemmas.{ascending_permuted, untied_back}
 use Rattle.osb_records.proofs.TestLemmas.{number_cmp}
 use Rattle.osb_records.proofs.Texts.{every}
 use Rattle.osb_records.proofs.WholeTexts.{rowids_of, by_rowid}
-
--- a query leaves the schema
-pub schema_again : {V E : Type 0} (schema : Schema) (old new : State) (result : Result V E) → Survives old new (λ _. ⊥) → (HasCleanDisk new → OnOk result (IsUnchanged old new)) → ShowsSchema schema old → OnOk result (ShowsSchema schema new)
-schema_again schema old new result survives same shows = elim result as (λ r. (HasCleanDisk new → OnOk r (IsUnchanged old new)) → OnOk r (ShowsSchema schema new)) [
-  | Ok value ↦ λ unchanged clean live. ap (λ (d : Database). d.schema) (unchanged clean).0.now_is ∙ shows (clean_before old new _ survives clean) (unchanged clean).0.was_open
-  | Err e ↦ λ _. tt
-] same
 
 none_left : {A : Type 0} (items : List A) → filter (λ _. true) items ≡ items
 none_left [] = refl

@@ -10,7 +10,7 @@ use Rattle.sqlite_value.specs.declared.keys.Collation.TheVariants.{Binary}
 use Rattle.sqlite_value.specs.declared.keys.Key.{Key}
 use Rattle.sqlite_value.specs.Keys.{ascending}
 use Rattle.osb_tables.specs.Tables.{record_schema}
-use Rattle.osb_records.proofs.AnswerLemmas.{over}
+use Rattle.osb_rows.proofs.AnswerLemmas.{over}
 use Rattle.osb_records.proofs.Texts.{all_cells, all_names, by_key, instance_cells_read, instance_names, by_instance, every}
 use Rattle.osb_records.proofs.BindingTexts.{binding_cells_read, binding_names, by_ids}
 

@@ -24,14 +24,15 @@ use Rattle.osb_audit.specs.Instances.{InstanceEntry}
 use Rattle.osb_audit.specs.declared.entry.BindingEntry.{BindingEntry}
 use Rattle.osb_audit.specs.Bindings.{binding_entry}
 use Rattle.osb_audit.specs.Orders.{Entry, entry_cmp, lives_in}
-use Rattle.osb_records.specs.Stored.{entry_row, is_keyed, entries_in, instances_in, bindings_in}
+use Rattle.osb_records.specs.Stored.{Content, entry_row, entries_in, instances_in, bindings_in}
 use Rattle.osb_standing.specs.declared.row.InstanceRow.{InstanceRow}
 use Rattle.osb_orders.specs.declared.view.BindingNow.{BindingNow}
 use Rattle.osb_standing.specs.Rows.{row_of, bindings_of}
 use Rattle.osb_records.specs.Standing.{IsStanding}
-use Rattle.osb_records.specs.Steps.{HasTables, IsReady, Steps, Writes, no_content, stored, content}
+use Rattle.osb_records.specs.Steps.{HasTables, IsReady, stored, content}
+use Rattle.osb_records.specs.Inside.{Steps, Writes}
 use Rattle.osb_records.proofs.Texts.{insert_order, finish_order}
-use Rattle.osb_records.proofs.TestLemmas.{entry_ended}
+use Rattle.osb_records.proofs.TestLemmas.{is_keyed, entry_ended}
 use Rattle.osb_records.proofs.ChangeLemmas.{Gives, adds_order, ends_order}
 use Rattle.osb_records.proofs.LivesLemmas.{life_of_lives, numbered, append_above, entries_below, key_new, append_lives, end_lives}
 
@@ -45,6 +46,10 @@ no_bindings id = none _ (sym (len-entries empty) ∙ len-empty (slice_cmp nat_cm
     none [] e = refl
     none (row ∷ rows) e = absurd (omega (arith, e))
 
+-- the content of new tables
+abbrev no_content : Content
+no_content = record { lives = empty; instances = []; bindings = [] }
+
 -- tables without rows stand for no lives
 no_standing : IsStanding no_content
 no_standing = record {
@@ -54,15 +59,11 @@ no_standing = record {
 
 pub writes_nothing : (old new : State) → Steps old new no_content → Writes old new empty
 writes_nothing old new steps = record {
-  was_inside = steps.was_inside;
-  inside = steps.inside;
-  was_open = steps.was_open;
-  is_open = steps.is_open;
+  within = steps.within;
   tables = steps.tables;
   lives_are = steps.lives_are;
   standing = subst IsStanding (sym is) no_standing;
   sound = steps.sound;
-  committed = steps.committed;
 }
   where
     is : content new ≡ no_content

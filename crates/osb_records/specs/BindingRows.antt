@@ -1,4 +1,4 @@
--- One binding among the rows, and what an order makes of the rows of its instance's bindings.
+-- One binding among the rows, and what an order makes of the rows of its instance's bindings. For contracts inside the crate.
 use Rattle.std.specs.Prelude.{◌≡◌, false, ℕ, List, Option, None, Some, map, filter, option_map, slice_get, bytes_eq}
 use Rattle.std.specs.FinMap.{entries}
 use Rattle.sqlite.specs.Order.{Row}
@@ -16,8 +16,8 @@ use Rattle.osb_standing.specs.Written.{IsWritten}
 use Rattle.osb_audit.specs.declared.entry.BindingEntry.{BindingEntry}
 use Rattle.osb_audit.specs.Bindings.{binding_entry, binding_now, binding_cmp, is_bound, is_binding, BindingsStand}
 use Rattle.osb_records.specs.Bindings.{binding_told}
-use Rattle.osb_records.specs.Stored.{with_bindings}
-use Rattle.osb_records.specs.Steps.{Steps, content}
+use Rattle.osb_records.specs.Inside.{with_bindings, Steps}
+use Rattle.osb_records.specs.Steps.{content}
 
 -- the row of the binding, if it has one
 abbrev pub binding_found : List ℕ → List ℕ → List BindingEntry → Option BindingNow

@@ -1,10 +1,10 @@
 -- The rows of the table of bindings.
-use Rattle.osb_audit.specs.declared.entry.BindingEntry.{BindingEntry}
 use Rattle.std.specs.Prelude.{◌==◌, if◌then◌else◌, ℕ, pos, [], ◌∷◌}
 use Rattle.sqlite.specs.declared.types.Value.TheVariants.{Int, Text as Words}
 use Rattle.sqlite.specs.Order.{Row, column, bytes}
 use Rattle.osb_orders.specs.declared.view.BindingPhase.{BindingPhase}
 use Rattle.osb_orders.specs.declared.view.BindingPhase.TheVariants.{Binding, Bound, Failed, Unbinding}
+use Rattle.osb_audit.specs.declared.entry.BindingEntry.{BindingEntry}
 use Rattle.osb_records.specs.Columns.{number_in}
 
 -- ---- what the columns of an entry hold
@@ -49,20 +49,6 @@ binding_told cells = record {
   parameters = bytes (column cells 7);
   credentials = bytes (column cells 8);
 }
-
--- the columns of a binding in a row that was read
-abbrev pub binding_columns : Row → Row
-binding_columns cells =
-    column cells 0
-    ∷ column cells 1
-    ∷ column cells 2
-    ∷ column cells 3
-    ∷ column cells 4
-    ∷ column cells 5
-    ∷ column cells 6
-    ∷ column cells 7
-    ∷ column cells 8
-    ∷ []
 
 -- the columns of a stored row, which has its rowid first
 abbrev pub binding_cells : Row → Row

@@ -1,7 +1,7 @@
--- What single columns tell.
-use Rattle.std.specs.Prelude.{◌≡◌, ℕ, pos}
+-- What single columns tell, and what reading them gives.
+use Rattle.std.specs.Prelude.{ℕ, pos}
 use Rattle.sqlite.specs.declared.types.Value.{Value}
-use Rattle.sqlite.specs.declared.types.Value.TheVariants.{Int, Text as Words}
+use Rattle.sqlite.specs.declared.types.Value.TheVariants.{Int}
 use Rattle.sqlite.specs.Order.{Row, column, bytes}
 use Rattle.osb_orders.specs.declared.order.Attributes.{Attributes}
 
@@ -19,13 +19,3 @@ attributes_told cells = record {
   parameters = bytes (column cells 8);
   maintenance = bytes (column cells 9);
 }
-
--- the columns hold these attributes
-abbrev pub HoldAttributes : Row → Attributes → Type 0
-HoldAttributes cells attributes =
-    (column cells 4 ≡ Words attributes.service)
-    × (column cells 5 ≡ Words attributes.plan)
-    × (column cells 6 ≡ Words attributes.place)
-    × (column cells 7 ≡ Words attributes.spot)
-    × (column cells 8 ≡ Words attributes.parameters)
-    × (column cells 9 ≡ Words attributes.maintenance)

@@ -1,6 +1,5 @@
 -- The rows of the table of instances.
-use Rattle.osb_audit.specs.Instances.{InstanceEntry}
-use Rattle.std.specs.Prelude.{Bool, ◌==◌, if◌then◌else◌, ℕ, pos, List, [], ◌∷◌, ◌++◌, Option, None, Some, option_map, slice_get}
+use Rattle.std.specs.Prelude.{Bool, ◌==◌, if◌then◌else◌, ℕ, pos, [], ◌∷◌, ◌++◌, Option, None, Some}
 use Rattle.sqlite.specs.declared.types.Value.TheVariants.{Int, Text as Words}
 use Rattle.sqlite.specs.Order.{Row, column, bytes}
 use Rattle.osb_orders.specs.declared.order.Attributes.{Attributes}
@@ -8,11 +7,8 @@ use Rattle.osb_orders.specs.declared.view.InstancePhase.{InstancePhase}
 use Rattle.osb_orders.specs.declared.view.InstancePhase.TheVariants.{Creating, Ready, Failed, Updating, Deleting}
 use Rattle.osb_orders.specs.declared.view.Standing.{Standing}
 use Rattle.osb_standing.specs.declared.row.InstanceRow.{InstanceRow}
+use Rattle.osb_audit.specs.Instances.{InstanceEntry}
 use Rattle.osb_records.specs.Columns.{number_in, attributes_told}
-
--- the entry with another row
-abbrev pub with_row : InstanceRow → InstanceEntry → InstanceEntry
-with_row row entry = (entry.0, row)
 
 -- ---- what the columns of an entry hold
 
@@ -94,14 +90,6 @@ standing_columns cells =
     ∷ column cells 9
     ∷ []
 
--- with its id
-abbrev pub instance_columns : Row → Row
-instance_columns cells = column cells 0 ∷ standing_columns cells
-
 -- the columns of a stored row, which has its rowid first
 abbrev pub instance_cells : Row → Row
 instance_cells cells = standing_columns cells ++ column cells 10 ∷ []
-
--- the row that the first cells tell, if there are any
-abbrev pub first_told : List Row → Option InstanceRow
-first_told rows = option_map instance_row_told (slice_get rows 0)

@@ -1,4 +1,4 @@
--- What a connection shows to queries, and what the rows of an answer tell.
+-- What a connection shows to queries, and what the rows of an answer tell. For contracts inside the crate.
 use Rattle.std.specs.Prelude.{IsTrue, ℕ, pos, Bool, false, ◌&&◌, ◌||◌, nat_lt, List, [], ◌∷◌, bytes_eq, Option, None, Some, option_map, slice_get, if◌then◌else◌}
 use Rattle.sqlite.specs.declared.types.Value.TheVariants.{Int, Text as Words}
 use Rattle.sqlite.specs.Order.{Row, column, bytes}
@@ -12,8 +12,8 @@ use Rattle.osb_orders.specs.Facts.{Facts}
 use Rattle.osb_orders.specs.Lives.{Lives, life_of}
 use Rattle.osb_orders.specs.Named.{order_numbered}
 use Rattle.osb_orders.specs.IsLife.{IsLives}
-use Rattle.osb_records.specs.Columns.{number_in}
 use Rattle.osb_audit.specs.Instances.{InstanceEntry}
+use Rattle.osb_records.specs.Columns.{number_in}
 use Rattle.osb_records.specs.Stored.{order_told, lives_stored, content_in}
 use Rattle.osb_records.specs.Standing.{IsStanding}
 use Rattle.osb_records.specs.Steps.{HasTables}

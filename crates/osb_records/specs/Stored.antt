@@ -1,6 +1,5 @@
 -- The orders in the tables, and the lives that they make up.
-use Rattle.osb_audit.specs.Orders.{Entry, entry_cmp, lives_in}
-use Rattle.std.specs.Prelude.{Bool, ◌&&◌, ◌==◌, if◌then◌else◌, ℕ, pos, List, [], ◌∷◌, ◌++◌, map, bytes_eq}
+use Rattle.std.specs.Prelude.{◌==◌, if◌then◌else◌, ℕ, pos, List, [], ◌∷◌, ◌++◌, map}
 use Rattle.std.specs.Ordering.{nat_cmp}
 use Rattle.sqlite.specs.declared.types.Value.TheVariants.{Int, Text as Words}
 use Rattle.sqlite.specs.Order.{Row, column, bytes}
@@ -13,12 +12,13 @@ use Rattle.osb_orders.specs.declared.order.OrderState.TheVariants.{Running, Succ
 use Rattle.osb_orders.specs.declared.order.Order.{Order}
 use Rattle.osb_orders.specs.Orders.{kind_number, state_number}
 use Rattle.osb_orders.specs.Lives.{Lives}
-use Rattle.osb_records.specs.Rows.{Stores, IsListOf}
-use Rattle.osb_records.specs.Columns.{number_in, attributes_told}
+use Rattle.osb_audit.specs.Orders.{Entry, entry_cmp, lives_in}
 use Rattle.osb_audit.specs.Instances.{InstanceEntry, instance_cmp}
-use Rattle.osb_records.specs.Instances.{instance_row, instance_told, instance_cells}
 use Rattle.osb_audit.specs.declared.entry.BindingEntry.{BindingEntry}
 use Rattle.osb_audit.specs.Bindings.{binding_cmp}
+use Rattle.osb_rows.specs.Rows.{Stores}
+use Rattle.osb_records.specs.Columns.{number_in, attributes_told}
+use Rattle.osb_records.specs.Instances.{instance_row, instance_told, instance_cells}
 use Rattle.osb_records.specs.Bindings.{binding_row, binding_told, binding_cells}
 
 -- ---- rows
@@ -90,19 +90,12 @@ order_columns cells =
     ∷ column cells 12
     ∷ []
 
--- with the id of its instance
-abbrev pub entry_columns : Row → Row
-entry_columns cells = column cells 0 ∷ order_columns cells
-
 -- the columns of a stored row, which has its rowid first
 abbrev pub order_cells : Row → Row
 order_cells cells = order_columns cells ++ column cells 13 ∷ []
 
 abbrev pub version_row : ℕ → Row
 version_row version = Int (pos version) ∷ []
-
-abbrev pub version_columns : Row → Row
-version_columns cells = column cells 0 ∷ []
 
 abbrev pub version_cells : Row → Row
 version_cells cells = column cells 1 ∷ []
@@ -115,19 +108,6 @@ pub record Holds (entries : List Entry) (instance_entries : List InstanceEntry) 
   pub orders : Stores order_cells entry_row entry_cmp (db 1) entries
   pub instances : Stores instance_cells instance_row instance_cmp (db 3) instance_entries
   pub bindings : Stores binding_cells binding_row binding_cmp (db 5) binding_entries
-
--- what was read of each table
-abbrev pub AreVersionsOf : Trees → List ℕ → Type 0
-AreVersionsOf db versions = IsListOf version_cells version_row nat_cmp (db 0) versions
-
-abbrev pub AreOrdersOf : Trees → List Entry → Type 0
-AreOrdersOf db entries = IsListOf order_cells entry_row entry_cmp (db 1) entries
-
-abbrev pub AreInstancesOf : Trees → List InstanceEntry → Type 0
-AreInstancesOf db entries = IsListOf instance_cells instance_row instance_cmp (db 3) entries
-
-abbrev pub AreBindingsOf : Trees → List BindingEntry → Type 0
-AreBindingsOf db entries = IsListOf binding_cells binding_row binding_cmp (db 5) entries
 
 -- the entries in the order of their keys, whatever the order of the rows
 abbrev pub entries_in : Trees → List Entry
@@ -154,19 +134,5 @@ pub record Content : Type 0 where
   pub instances : List InstanceEntry
   pub bindings : List BindingEntry
 
--- one of its parts is this
-abbrev pub with_lives : Lives → Content → Content
-with_lives lives content = record content { lives = lives }
-
-abbrev pub with_instances : List InstanceEntry → Content → Content
-with_instances instances content = record content { instances = instances }
-
-abbrev pub with_bindings : List BindingEntry → Content → Content
-with_bindings bindings content = record content { bindings = bindings }
-
 abbrev pub content_in : Trees → Content
 content_in db = record { lives = lives_stored db; instances = instances_in db; bindings = bindings_in db }
-
--- the entry has this key
-abbrev pub is_keyed : List ℕ → ℕ → Entry → Bool
-is_keyed id number entry = bytes_eq entry.0 id && (entry.1.number == number)

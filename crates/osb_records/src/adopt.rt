@@ -1,14 +1,16 @@
 //! Taking over a database.
 
-ghost use Rattle.std.specs.Prelude.{◌≡◌, ◌≢◌, ◌↔◌, true, false, Err, IsTrue, IfOk, IfErr, OnOk, OnErr};
+ghost use Rattle.std.specs.Prelude.{◌≡◌, ◌≢◌, ◌↔◌, true, false, Err, IsTrue, IfOk};
 ghost use Rattle.std.specs.FinMap.{empty};
 ghost use Rattle.sqlite.specs.Held.{state};
-ghost use Rattle.sqlite.specs.State.{HasCleanDisk, KeepsCommit, Survives};
-ghost use Rattle.osb_orders.specs.Lives.{Lives};
+ghost use Rattle.sqlite.specs.State.{HasCleanDisk, Survives};
 ghost use Rattle.osb_tables.specs.Tables.{no_schema, record_schema};
 ghost use Rattle.osb_records.specs.declared.fault.StoreFault.TheVariants as faults;
-ghost use Rattle.osb_records.specs.Opened.{StoreLives, StandIn, HoldsSame, lacking};
-ghost use Rattle.osb_records.specs.Steps.{ShowsSchema, HoldsLives, IsSettled, IsReady, Writes, stored};
+ghost use Rattle.osb_records.specs.Opened.{StoreLives, HoldsSame};
+ghost use Rattle.osb_records.specs.Transactions.{TakesOver};
+ghost use Rattle.osb_records.specs.Inside.{lacking, ShowsSchema, Writes};
+ghost use Rattle.osb_records.specs.Steps.{HoldsLives, IsSettled, stored};
+ghost use Rattle.osb_records.specs.Reads.{StaysInside, Does, behind};
 
 use crate::fault::StoreFault;
 use crate::tables::{add_indexes, make_tables};
@@ -20,12 +22,14 @@ use std::alloc::Global;
 /// Whether the tables are those of well-formed lives.
 fn check_tables<S: Alter>(conn: &mut Connection<S>, alloc: Global) -> Result<bool, StoreFault>
     requires settled { IsSettled (state S.Store conn.old) }
-    requires schema { ShowsSchema record_schema (state S.Store conn.old) }
+    requires schema { (state S.Store conn.old).now.schema ≡ record_schema }
     ensures settled { IsSettled (state S.Store conn.new) }
-    ensures ok { HasCleanDisk (state S.Store conn.new) → IfOk result (λ whole. (whole ≡ true) ↔ StoreLives (state S.Store conn.old).now.trees) }
-    ensures schema { HasCleanDisk (state S.Store conn.new) → OnOk result ((state S.Store conn.old).now.schema ≡ record_schema) }
-    ensures same { HasCleanDisk (state S.Store conn.new) → IsTrue (state S.Store conn.new).is_open → (state S.Store conn.new).now ≡ (state S.Store conn.old).now }
-    ensures known { HasCleanDisk (state S.Store conn.new) → StoreLives (state S.Store conn.old).now.trees → result ≢ Err faults.NotOurs }
+    ensures ok { HasCleanDisk (state S.Store conn.new) →
+        IfOk result (λ whole. (whole ≡ true) ↔ StoreLives (state S.Store conn.old).now.trees) }
+    ensures same { HasCleanDisk (state S.Store conn.new) → IsTrue (state S.Store conn.new).is_open →
+        (state S.Store conn.new).now ≡ (state S.Store conn.old).now }
+    ensures known { HasCleanDisk (state S.Store conn.new) →
+        StoreLives (state S.Store conn.old).now.trees → result ≢ Err faults.NotOurs }
     ensures crash { Survives (state S.Store conn.old) (state S.Store conn.new) (λ _. ⊥) }
 {
     let mut tx = conn.transaction();
@@ -38,13 +42,9 @@ fn check_tables<S: Alter>(conn: &mut Connection<S>, alloc: Global) -> Result<boo
 #[tactic(auto, using(crate::proofs::OpenedLemmas::ready_by))]
 fn take_tables<S: Alter>(conn: &mut Connection<S>, alloc: Global) -> Result<(), StoreFault>
     requires settled { IsSettled (state S.Store conn.old) }
-    requires schema { ShowsSchema record_schema (state S.Store conn.old) }
+    requires schema { (state S.Store conn.old).now.schema ≡ record_schema }
     ensures settled { IsSettled (state S.Store conn.new) }
-    ensures ready { OnOk result (IsReady (state S.Store conn.new)) }
-    ensures ok { HasCleanDisk (state S.Store conn.new) → OnOk result (StoreLives (state S.Store conn.old).now.trees) }
-    ensures schema { HasCleanDisk (state S.Store conn.new) → OnOk result ((state S.Store conn.old).now.schema ≡ record_schema) }
-    ensures not_ours { HasCleanDisk (state S.Store conn.new) → result ≡ Err faults.NotOurs → ¬ StoreLives (state S.Store conn.old).now.trees }
-    ensures same { HasCleanDisk (state S.Store conn.new) → IsTrue (state S.Store conn.new).is_open → (state S.Store conn.new).now ≡ (state S.Store conn.old).now }
+    ensures takes { TakesOver (state S.Store conn.old) (state S.Store conn.new) result }
     ensures crash { Survives (state S.Store conn.old) (state S.Store conn.new) (λ _. ⊥) }
 {
     match check_tables(conn, alloc) {
@@ -60,13 +60,13 @@ fn index_tables<S: Alter>(
     alloc: Global,
     is_listed: bool,
 ) -> Result<(), StoreFault>
-    requires { ShowsSchema (lacking is_listed) (state S.Store tx.old.conn.now) }
-    ensures same_reference { tx.new.conn.ghost_name ≡ tx.old.conn.ghost_name }
-    ensures ok { HasCleanDisk (state S.Store tx.new.conn.now) → OnOk result (Writes (state S.Store tx.old.conn.now) (state S.Store tx.new.conn.now) (stored (state S.Store tx.old.conn.now))) }
-    ensures lives { HasCleanDisk (state S.Store tx.new.conn.now) → OnOk result (((state S.Store tx.old.conn.now).now.schema ≡ lacking is_listed) × StoreLives (state S.Store tx.old.conn.now).now.trees) }
-    ensures not_ours { HasCleanDisk (state S.Store tx.new.conn.now) → result ≡ Err faults.NotOurs → ¬ StoreLives (state S.Store tx.old.conn.now).now.trees }
-    ensures kept { HasCleanDisk (state S.Store tx.new.conn.now) → IsTrue (state S.Store tx.old.conn.now).in_transaction → KeepsCommit (state S.Store tx.old.conn.now) (state S.Store tx.new.conn.now) }
-    ensures survives { Survives (state S.Store tx.old.conn.now) (state S.Store tx.new.conn.now) (λ _. ⊥) }
+    requires { ShowsSchema (lacking is_listed) (behind S.Store tx.old) }
+    ensures ok { Does S.Store tx.old tx.new result (λ old new. Writes old new (stored old)) }
+    ensures lives { Does S.Store tx.old tx.new result (λ old new.
+        (old.now.schema ≡ lacking is_listed) × StoreLives old.now.trees) }
+    ensures not_ours { HasCleanDisk (behind S.Store tx.new) → result ≡ Err faults.NotOurs →
+        ¬ StoreLives (behind S.Store tx.old).now.trees }
+    ensures inside { StaysInside S.Store tx.old tx.new }
 {
     add_indexes(tx, is_listed)?;
     match are_tables_whole(tx, alloc) {
@@ -85,13 +85,11 @@ fn complete_tables<S: Alter>(
     is_listed: bool,
 ) -> Result<(), StoreFault>
     requires settled { IsSettled (state S.Store conn.old) }
-    requires schema { ShowsSchema (lacking is_listed) (state S.Store conn.old) }
+    requires schema { (state S.Store conn.old).now.schema ≡ lacking is_listed }
     ensures settled { IsSettled (state S.Store conn.new) }
-    ensures ready { OnOk result (IsReady (state S.Store conn.new)) }
-    ensures ok { HasCleanDisk (state S.Store conn.new) → OnOk result (StandIn (state S.Store conn.old).now (stored (state S.Store conn.new))) }
-    ensures err { HasCleanDisk (state S.Store conn.new) → IsTrue (state S.Store conn.new).is_open → OnErr result ((state S.Store conn.new).now ≡ (state S.Store conn.old).now) }
-    ensures not_ours { HasCleanDisk (state S.Store conn.new) → result ≡ Err faults.NotOurs → ¬ StoreLives (state S.Store conn.old).now.trees }
-    ensures crash { Survives (state S.Store conn.old) (state S.Store conn.new) (HoldsSame (state S.Store conn.old).now) }
+    ensures takes { TakesOver (state S.Store conn.old) (state S.Store conn.new) result }
+    ensures crash { Survives (state S.Store conn.old) (state S.Store conn.new) (HoldsSame
+        (state S.Store conn.old).now) }
 {
     let mut tx = conn.transaction();
     index_tables(&mut tx, alloc, is_listed)?;
@@ -103,12 +101,9 @@ fn complete_tables<S: Alter>(
 #[tactic(auto, using(crate::proofs::OpenedLemmas::empty_same))]
 fn make<S: Alter>(conn: &mut Connection<S>) -> Result<(), StoreFault>
     requires settled { IsSettled (state S.Store conn.old) }
-    requires blank { ShowsSchema no_schema (state S.Store conn.old) }
+    requires blank { (state S.Store conn.old).now.schema ≡ no_schema }
     ensures settled { IsSettled (state S.Store conn.new) }
-    ensures ready { OnOk result (IsReady (state S.Store conn.new)) }
-    ensures ok { HasCleanDisk (state S.Store conn.new) → OnOk result (stored (state S.Store conn.new) ≡ empty) }
-    ensures err { HasCleanDisk (state S.Store conn.new) → IsTrue (state S.Store conn.new).is_open → OnErr result ((state S.Store conn.new).now ≡ (state S.Store conn.old).now) }
-    ensures refused { IfErr result (λ fault. fault ≡ faults.Refused) }
+    ensures takes { TakesOver (state S.Store conn.old) (state S.Store conn.new) result }
     ensures crash { Survives (state S.Store conn.old) (state S.Store conn.new) (HoldsLives empty) }
 {
     make_tables(conn)?;
@@ -119,11 +114,9 @@ fn make<S: Alter>(conn: &mut Connection<S>) -> Result<(), StoreFault>
 fn take_settled<S: Alter>(conn: &mut Connection<S>, alloc: Global) -> Result<(), StoreFault>
     requires { IsSettled (state S.Store conn.old) }
     ensures settled { IsSettled (state S.Store conn.new) }
-    ensures ready { OnOk result (IsReady (state S.Store conn.new)) }
-    ensures ok { HasCleanDisk (state S.Store conn.new) → IsTrue (state S.Store conn.new).is_open → OnOk result (StandIn (state S.Store conn.old).now (stored (state S.Store conn.new))) }
-    ensures err { HasCleanDisk (state S.Store conn.new) → IsTrue (state S.Store conn.new).is_open → OnErr result ((state S.Store conn.new).now ≡ (state S.Store conn.old).now) }
-    ensures not_ours { HasCleanDisk (state S.Store conn.new) → result ≡ Err faults.NotOurs → (lives : Lives) → ¬ StandIn (state S.Store conn.old).now lives }
-    ensures crash { Survives (state S.Store conn.old) (state S.Store conn.new) (HoldsSame (state S.Store conn.old).now) }
+    ensures takes { TakesOver (state S.Store conn.old) (state S.Store conn.new) result }
+    ensures crash { Survives (state S.Store conn.old) (state S.Store conn.new) (HoldsSame
+        (state S.Store conn.old).now) }
 {
     match find(conn.schema()) {
         Found::Nothing => make(conn),
@@ -136,13 +129,13 @@ fn take_settled<S: Alter>(conn: &mut Connection<S>, alloc: Global) -> Result<(),
 
 /// The same, where a transaction may be open.
 pub(crate) fn take_over<S: Alter>(conn: &mut Connection<S>, alloc: Global) -> Result<(), StoreFault>
-    ensures ready { OnOk result (IsReady (state S.Store conn.new)) }
-    ensures ok { HasCleanDisk (state S.Store conn.new) → IsTrue (state S.Store conn.new).is_open → OnOk result (StandIn (state S.Store conn.old).now (stored (state S.Store conn.new))) }
-    ensures err { HasCleanDisk (state S.Store conn.new) → IsTrue (state S.Store conn.new).is_open → OnErr result ((state S.Store conn.new).now ≡ (state S.Store conn.old).now) }
-    ensures not_ours { HasCleanDisk (state S.Store conn.new) → result ≡ Err faults.NotOurs → (lives : Lives) → ¬ StandIn (state S.Store conn.old).now lives }
-    ensures settled { (state S.Store conn.old).in_transaction ≡ false → IsSettled (state S.Store conn.new) }
-    ensures open_transaction { IsTrue (state S.Store conn.old).in_transaction → (result ≡ Err faults.Refused) × (conn.new ≡ conn.old) }
-    ensures crash { Survives (state S.Store conn.old) (state S.Store conn.new) (HoldsSame (state S.Store conn.old).now) }
+    ensures takes { TakesOver (state S.Store conn.old) (state S.Store conn.new) result }
+    ensures settled { (state S.Store conn.old).in_transaction ≡ false →
+        IsSettled (state S.Store conn.new) }
+    ensures open_transaction { IsTrue (state S.Store conn.old).in_transaction →
+        (result ≡ Err faults.Refused) × (conn.new ≡ conn.old) }
+    ensures crash { Survives (state S.Store conn.old) (state S.Store conn.new) (HoldsSame
+        (state S.Store conn.old).now) }
 {
     if conn.is_autocommit() {
         take_settled(conn, alloc)

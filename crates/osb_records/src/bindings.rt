@@ -1,35 +1,46 @@
-//! The rows that say how bindings stand, inside a transaction.
+//! The table of what stands of bindings: its columns, its rows, and the statements on it.
 
-ghost use Rattle.std.specs.Prelude.{◌≡◌, ◌==◌, [], filter, not, length, true, false, is_some, IsTrue, IfOk, OnOk, Err};
+ghost use Rattle.std.specs.Prelude.{◌≡◌, ◌≢◌, ◌==◌, List, map, Err, IfOk, [], ◌∷◌, IsTrue, filter, false, not, length};
 ghost use Rattle.std.specs.List.{list_any};
-ghost use Rattle.sqlite.specs.Held.{state};
-ghost use Rattle.sqlite.specs.State.{HasCleanDisk, ExecutesInside, IsUnchanged, KeepsCommit, Survives};
+ghost use Rattle.sqlite.specs.State.{HasCleanDisk, ExecutesInside};
 ghost use Rattle.sqlite.specs.declared.error.Error.TheVariants as fault;
 ghost use Rattle.sqlite.specs.declared.error.ErrorCode.TheVariants as code;
-ghost use Rattle.sqlite.specs.Effect.{IsDatabase};
 ghost use Rattle.sqlite_keyed.specs.Lists.{insert_sorted, update_where, delete_where};
-ghost use Rattle.std.specs.FinMap.{get};
-ghost use Rattle.osb_orders.specs.declared.order.Change.{Change};
-ghost use Rattle.osb_orders.specs.declared.view.BindingNow.{BindingNow};
-ghost use Rattle.osb_orders.specs.Changed.{changed};
-ghost use Rattle.osb_orders.specs.Life.{Life};
-ghost use Rattle.osb_standing.specs.Binding.{edited};
-ghost use Rattle.osb_standing.specs.Rows.{bindings_of};
-ghost use Rattle.osb_standing.specs.Written.{IsWritten};
-ghost use Rattle.osb_standing.specs.declared.row.BindingEdit.TheVariants.{Put};
+ghost use Rattle.osb_audit.specs.declared.entry.BindingEntry.{BindingEntry};
+ghost use Rattle.osb_audit.specs.Bindings.{binding_now, binding_cmp, binding_entry, is_binding, is_bound};
+ghost use Rattle.osb_tables.specs.Tables.{record_schema, instances_schema, tables_schema};
+ghost use Rattle.osb_records.specs.declared.fault.StoreFault.TheVariants as faults;
+ghost use Rattle.osb_rows.specs.Rows.{Stores};
+ghost use Rattle.osb_records.specs.Read.{IsReadAs, IsEntryOf, AreBindingsOf, binding_columns};
+ghost use Rattle.osb_records.specs.Inside.{with_bindings, ShowsSchema, ShowsBlank, Makes, Steps};
+ghost use Rattle.osb_records.specs.Bindings.{binding_phase_number, binding_phase_numbered, binding_told, binding_row, binding_cells};
+ghost use Rattle.osb_records.specs.Steps.{ShowsTables, content};
+ghost use Rattle.osb_records.specs.Reads.{Reads, Finds, behind, StaysInside, Does};
 ghost use Rattle.osb_records.specs.Bindings as spec;
-ghost use Rattle.osb_audit.specs.Bindings.{binding_cmp, binding_entry, is_binding, is_bound};
-ghost use Rattle.osb_records.specs.Bindings.{binding_row};
-ghost use Rattle.osb_records.specs.BindingRows.{binding_found, first_binding, with_binding, bindings_edited, FollowsOrder};
-ghost use Rattle.osb_records.specs.Stored.{with_bindings};
-ghost use Rattle.osb_records.specs.Steps.{ShowsTables, Steps, content};
+ghost use Rattle.osb_records.specs.BindingRows.{binding_found, first_binding, with_binding};
 
+use crate::cells::{check_rowids, number_in, text_in};
 use crate::fault::StoreFault;
-use crate::row::binding_in;
-use osb_orders::{BindingNow, BindingPhase, Order};
-use osb_standing::{BindingEdit, binding_edit};
+use crate::sql::{execute, select};
+use osb_audit::BindingEntry;
+use osb_orders::{Attributes, BindingNow, BindingPhase};
+use osb_text::Text;
 use sqlite::{Alter, Error, Row, Transaction, params};
 use std::alloc::Global;
+
+/// Makes the table of the bindings' current state.
+pub(crate) fn create_bindings<S: Alter>(tx: &mut Transaction<'_, S>) -> Result<usize, Error>
+    requires { ShowsBlank instances_schema (3 ∷ 1 ∷ 0 ∷ []) (behind S.Store tx.old) }
+    ensures ok { Does S.Store tx.old tx.new result (λ old new.
+        Makes old new tables_schema (5 ∷ 3 ∷ 1 ∷ 0 ∷ [])) }
+    ensures inside { StaysInside S.Store tx.old tx.new }
+{
+    execute(
+        tx,
+        "CREATE TABLE bindings (instance_id TEXT NOT NULL, binding_id TEXT NOT NULL, phase INTEGER NOT NULL, service_id TEXT NOT NULL, plan_id TEXT NOT NULL, app_guid TEXT NOT NULL, bind_resource TEXT NOT NULL, params TEXT NOT NULL, credentials TEXT NOT NULL, PRIMARY KEY (instance_id, binding_id)) STRICT",
+        &[],
+    )
+}
 
 fn phase_number(phase: BindingPhase) -> u32
     ensures { result ≡ spec.binding_phase_number phase }
@@ -42,6 +53,83 @@ fn phase_number(phase: BindingPhase) -> u32
     }
 }
 
+fn binding_phase_numbered(number: u32) -> Result<BindingPhase, StoreFault>
+    ensures { IsReadAs binding_phase_number binding_phase_numbered number result }
+{
+    match number {
+        1 => Ok(BindingPhase::Binding),
+        2 => Ok(BindingPhase::Bound),
+        3 => Ok(BindingPhase::Failed),
+        4 => Ok(BindingPhase::Unbinding),
+        _ => Err(StoreFault::NotOurs),
+    }
+}
+
+/// The attributes of a binding, which has no maintenance version.
+fn binding_attributes_in(alloc: Global, row: &Row) -> Result<Attributes, StoreFault>
+    ensures { IfOk result (λ attributes.
+        attributes ≡ (binding_now (binding_told row.now)).attributes) }
+{
+    Ok(Attributes {
+        service: text_in(row, 3)?,
+        plan: text_in(row, 4)?,
+        place: text_in(row, 5)?,
+        spot: text_in(row, 6)?,
+        parameters: text_in(row, 7)?,
+        maintenance: Text::new(alloc),
+    })
+}
+
+/// How the binding of the row stands.
+fn binding_in(alloc: Global, row: &Row) -> Result<BindingNow, StoreFault>
+    ensures { IfOk result (λ binding. binding ≡ binding_now (binding_told row.now)) }
+{
+    Ok(BindingNow {
+        phase: binding_phase_numbered(number_in(row, 2)?)?,
+        credentials: text_in(row, 8)?,
+        attributes: binding_attributes_in(alloc, row)?,
+    })
+}
+
+fn first_in(alloc: Global, rows: &[Row]) -> Result<Option<BindingNow>, StoreFault>
+    ensures { IfOk result (λ row. row ≡ first_binding rows.now) }
+{
+    match rows.first() {
+        None => Ok(None),
+        Some(row) => Ok(Some(binding_in(alloc, row)?)),
+    }
+}
+
+fn binding_entry_in(row: &Row) -> Result<BindingEntry, StoreFault>
+    ensures { IsEntryOf binding_row binding_columns row.now result }
+{
+    Ok(BindingEntry {
+        phase: binding_phase_numbered(number_in(row, 2)?)?,
+        instance: text_in(row, 0)?,
+        binding: text_in(row, 1)?,
+        service: text_in(row, 3)?,
+        plan: text_in(row, 4)?,
+        app_guid: text_in(row, 5)?,
+        bind_resource: text_in(row, 6)?,
+        parameters: text_in(row, 7)?,
+        credentials: text_in(row, 8)?,
+    })
+}
+
+/// The bindings of the rows.
+fn bindings_in(alloc: Global, rows: &[Row]) -> Result<Vec<BindingEntry>, StoreFault>
+    ensures told { IfOk result (λ entries.
+        map binding_row entries.items ≡ map binding_columns rows.now) }
+    ensures known { (entries : List BindingEntry) → rows.now ≡ map binding_row entries →
+        result ≢ Err faults.NotOurs }
+{
+    let mut entries = Vec::new(alloc);
+    for row in rows {
+        entries.push(binding_entry_in(row)?)?;
+    }
+    Ok(entries)
+}
+
 /// Runs a statement whose parameters are the columns of the row.
 fn execute_with<S: Alter>(
     tx: &mut Transaction<'_, S>,
@@ -50,12 +138,16 @@ fn execute_with<S: Alter>(
     binding: &str,
     row: &BindingNow,
 ) -> Result<usize, Error>
-    ensures same_reference { tx.new.conn.ghost_name ≡ tx.old.conn.ghost_name }
-    ensures ended { (state S.Store tx.old.conn.now).in_transaction ≡ false → result ≡ Err (fault.SqliteFailure code.TransactionState) }
-    ensures runs { HasCleanDisk (state S.Store tx.new.conn.now) → IsTrue (state S.Store tx.old.conn.now).in_transaction → ExecutesInside 0 sql.now (binding_row (binding_entry instance.now (binding.now, row.now))) (state S.Store tx.old.conn.now) (state S.Store tx.new.conn.now) result }
-    ensures survives { Survives (state S.Store tx.old.conn.now) (state S.Store tx.new.conn.now) (λ _. ⊥) }
+    ensures ended { (behind S.Store tx.old).in_transaction ≡ false →
+        result ≡ Err (fault.SqliteFailure code.TransactionState) }
+    ensures runs { HasCleanDisk (behind S.Store tx.new) →
+        IsTrue (behind S.Store tx.old).in_transaction →
+        ExecutesInside 0 sql.now (binding_row (binding_entry instance.now
+        (binding.now, row.now))) (behind S.Store tx.old) (behind S.Store tx.new) result }
+    ensures inside { StaysInside S.Store tx.old tx.new }
 {
-    tx.execute(
+    execute(
+        tx,
         sql,
         params![
             instance,
@@ -78,12 +170,16 @@ pub(crate) fn insert_binding<S: Alter>(
     binding: &str,
     row: &BindingNow,
 ) -> Result<usize, Error>
-    requires tables { ShowsTables (state S.Store tx.old.conn.now) }
-    requires no_row { HasCleanDisk (state S.Store tx.old.conn.now) → IsTrue (state S.Store tx.old.conn.now).is_open → filter (is_binding instance.now binding.now) (content (state S.Store tx.old.conn.now)).bindings ≡ [] }
-    ensures same_reference { tx.new.conn.ghost_name ≡ tx.old.conn.ghost_name }
-    ensures ok { HasCleanDisk (state S.Store tx.new.conn.now) → OnOk result (Steps (state S.Store tx.old.conn.now) (state S.Store tx.new.conn.now) (with_bindings (insert_sorted binding_cmp (binding_entry instance.now (binding.now, row.now)) (content (state S.Store tx.old.conn.now)).bindings) (content (state S.Store tx.old.conn.now)))) }
-    ensures kept { HasCleanDisk (state S.Store tx.new.conn.now) → IsTrue (state S.Store tx.old.conn.now).in_transaction → KeepsCommit (state S.Store tx.old.conn.now) (state S.Store tx.new.conn.now) }
-    ensures survives { Survives (state S.Store tx.old.conn.now) (state S.Store tx.new.conn.now) (λ _. ⊥) }
+    requires tables { ShowsTables (behind S.Store tx.old) }
+    requires no_row { HasCleanDisk (behind S.Store tx.old) →
+        IsTrue (behind S.Store tx.old).is_open →
+        filter (is_binding instance.now binding.now) (content (behind S.Store tx.old)).bindings ≡
+        [] }
+    ensures ok { Does S.Store tx.old tx.new result (λ old new.
+        Steps old new (with_bindings (insert_sorted binding_cmp
+        (binding_entry instance.now (binding.now, row.now)) (content old).bindings)
+        (content old))) }
+    ensures inside { StaysInside S.Store tx.old tx.new }
 {
     execute_with(
         tx,
@@ -101,11 +197,11 @@ pub(crate) fn update_binding<S: Alter>(
     binding: &str,
     row: &BindingNow,
 ) -> Result<usize, Error>
-    requires { ShowsTables (state S.Store tx.old.conn.now) }
-    ensures same_reference { tx.new.conn.ghost_name ≡ tx.old.conn.ghost_name }
-    ensures ok { HasCleanDisk (state S.Store tx.new.conn.now) → OnOk result (Steps (state S.Store tx.old.conn.now) (state S.Store tx.new.conn.now) (with_bindings (update_where (is_binding instance.now binding.now) (with_binding row.now) (content (state S.Store tx.old.conn.now)).bindings) (content (state S.Store tx.old.conn.now)))) }
-    ensures kept { HasCleanDisk (state S.Store tx.new.conn.now) → IsTrue (state S.Store tx.old.conn.now).in_transaction → KeepsCommit (state S.Store tx.old.conn.now) (state S.Store tx.new.conn.now) }
-    ensures survives { Survives (state S.Store tx.old.conn.now) (state S.Store tx.new.conn.now) (λ _. ⊥) }
+    requires { ShowsTables (behind S.Store tx.old) }
+    ensures ok { Does S.Store tx.old tx.new result (λ old new.
+        Steps old new (with_bindings (update_where (is_binding instance.now binding.now)
+        (with_binding row.now) (content old).bindings) (content old))) }
+    ensures inside { StaysInside S.Store tx.old tx.new }
 {
     execute_with(
         tx,
@@ -122,13 +218,14 @@ pub(crate) fn delete_binding<S: Alter>(
     instance: &str,
     binding: &str,
 ) -> Result<usize, Error>
-    requires { ShowsTables (state S.Store tx.old.conn.now) }
-    ensures same_reference { tx.new.conn.ghost_name ≡ tx.old.conn.ghost_name }
-    ensures ok { HasCleanDisk (state S.Store tx.new.conn.now) → OnOk result (Steps (state S.Store tx.old.conn.now) (state S.Store tx.new.conn.now) (with_bindings (delete_where (is_binding instance.now binding.now) (content (state S.Store tx.old.conn.now)).bindings) (content (state S.Store tx.old.conn.now)))) }
-    ensures kept { HasCleanDisk (state S.Store tx.new.conn.now) → IsTrue (state S.Store tx.old.conn.now).in_transaction → KeepsCommit (state S.Store tx.old.conn.now) (state S.Store tx.new.conn.now) }
-    ensures survives { Survives (state S.Store tx.old.conn.now) (state S.Store tx.new.conn.now) (λ _. ⊥) }
+    requires { ShowsTables (behind S.Store tx.old) }
+    ensures ok { Does S.Store tx.old tx.new result (λ old new.
+        Steps old new (with_bindings (delete_where (is_binding instance.now binding.now)
+        (content old).bindings) (content old))) }
+    ensures inside { StaysInside S.Store tx.old tx.new }
 {
-    tx.execute(
+    execute(
+        tx,
         "DELETE FROM bindings WHERE instance_id = ?1 AND binding_id = ?2",
         params![instance, binding],
     )
@@ -139,13 +236,14 @@ pub(crate) fn delete_bindings<S: Alter>(
     tx: &mut Transaction<'_, S>,
     instance: &str,
 ) -> Result<usize, Error>
-    requires { ShowsTables (state S.Store tx.old.conn.now) }
-    ensures same_reference { tx.new.conn.ghost_name ≡ tx.old.conn.ghost_name }
-    ensures ok { HasCleanDisk (state S.Store tx.new.conn.now) → OnOk result (Steps (state S.Store tx.old.conn.now) (state S.Store tx.new.conn.now) (with_bindings (delete_where (is_bound instance.now) (content (state S.Store tx.old.conn.now)).bindings) (content (state S.Store tx.old.conn.now)))) }
-    ensures kept { HasCleanDisk (state S.Store tx.new.conn.now) → IsTrue (state S.Store tx.old.conn.now).in_transaction → KeepsCommit (state S.Store tx.old.conn.now) (state S.Store tx.new.conn.now) }
-    ensures survives { Survives (state S.Store tx.old.conn.now) (state S.Store tx.new.conn.now) (λ _. ⊥) }
+    requires { ShowsTables (behind S.Store tx.old) }
+    ensures ok { Does S.Store tx.old tx.new result (λ old new.
+        Steps old new (with_bindings (delete_where (is_bound instance.now)
+        (content old).bindings) (content old))) }
+    ensures inside { StaysInside S.Store tx.old tx.new }
 {
-    tx.execute(
+    execute(
+        tx,
         "DELETE FROM bindings WHERE instance_id = ?1",
         params![instance],
     )
@@ -156,40 +254,16 @@ fn select_binding<S: Alter>(
     instance: &str,
     binding: &str,
 ) -> Result<Vec<Row>, Error>
-    requires { ShowsTables (state S.Store tx.old.conn.now) }
-    ensures same_reference { tx.new.conn.ghost_name ≡ tx.old.conn.ghost_name }
-    ensures ok { HasCleanDisk (state S.Store tx.new.conn.now) → IfOk result (λ rows. first_binding rows.items ≡ binding_found instance.now binding.now (content (state S.Store tx.old.conn.now)).bindings) }
-    ensures same { HasCleanDisk (state S.Store tx.new.conn.now) → OnOk result (IsUnchanged (state S.Store tx.old.conn.now) (state S.Store tx.new.conn.now)) }
-    ensures kept { HasCleanDisk (state S.Store tx.new.conn.now) → IsTrue (state S.Store tx.old.conn.now).in_transaction → KeepsCommit (state S.Store tx.old.conn.now) (state S.Store tx.new.conn.now) }
-    ensures survives { Survives (state S.Store tx.old.conn.now) (state S.Store tx.new.conn.now) (λ _. ⊥) }
+    requires { ShowsTables (behind S.Store tx.old) }
+    ensures ok { Finds S.Store tx.old tx.new result (λ s rows.
+        first_binding rows.items ≡ binding_found instance.now binding.now (content s).bindings) }
+    ensures reads { Reads S.Store tx.old tx.new result }
 {
-    tx.query_all(
+    select(
+        tx,
         "SELECT instance_id, binding_id, phase, service_id, plan_id, app_guid, bind_resource, params, credentials FROM bindings WHERE instance_id = ?1 AND binding_id = ?2 ORDER BY instance_id, binding_id",
         params![instance, binding],
     )
-}
-
-fn select_bound<S: Alter>(tx: &mut Transaction<'_, S>, instance: &str) -> Result<Vec<Row>, Error>
-    requires { ShowsTables (state S.Store tx.old.conn.now) }
-    ensures same_reference { tx.new.conn.ghost_name ≡ tx.old.conn.ghost_name }
-    ensures ok { HasCleanDisk (state S.Store tx.new.conn.now) → IfOk result (λ rows. (length rows.items == 0) ≡ not (list_any (is_bound instance.now) (content (state S.Store tx.old.conn.now)).bindings)) }
-    ensures same { HasCleanDisk (state S.Store tx.new.conn.now) → OnOk result (IsUnchanged (state S.Store tx.old.conn.now) (state S.Store tx.new.conn.now)) }
-    ensures kept { HasCleanDisk (state S.Store tx.new.conn.now) → IsTrue (state S.Store tx.old.conn.now).in_transaction → KeepsCommit (state S.Store tx.old.conn.now) (state S.Store tx.new.conn.now) }
-    ensures survives { Survives (state S.Store tx.old.conn.now) (state S.Store tx.new.conn.now) (λ _. ⊥) }
-{
-    tx.query_all(
-        "SELECT instance_id, binding_id, phase, service_id, plan_id, app_guid, bind_resource, params, credentials FROM bindings WHERE instance_id = ?1 ORDER BY instance_id, binding_id LIMIT 1",
-        params![instance],
-    )
-}
-
-fn first_in(alloc: Global, rows: &[Row]) -> Result<Option<BindingNow>, StoreFault>
-    ensures { IfOk result (λ row. row ≡ first_binding rows.now) }
-{
-    match rows.first() {
-        None => Ok(None),
-        Some(row) => Ok(Some(binding_in(alloc, row)?)),
-    }
 }
 
 /// The row of the binding.
@@ -199,15 +273,26 @@ pub(crate) fn read_binding<S: Alter>(
     instance: &str,
     binding: &str,
 ) -> Result<Option<BindingNow>, StoreFault>
-    requires { ShowsTables (state S.Store tx.old.conn.now) }
-    ensures same_reference { tx.new.conn.ghost_name ≡ tx.old.conn.ghost_name }
-    ensures ok { HasCleanDisk (state S.Store tx.new.conn.now) → IfOk result (λ row. row ≡ binding_found instance.now binding.now (content (state S.Store tx.old.conn.now)).bindings) }
-    ensures same { HasCleanDisk (state S.Store tx.new.conn.now) → OnOk result (IsUnchanged (state S.Store tx.old.conn.now) (state S.Store tx.new.conn.now)) }
-    ensures kept { HasCleanDisk (state S.Store tx.new.conn.now) → IsTrue (state S.Store tx.old.conn.now).in_transaction → KeepsCommit (state S.Store tx.old.conn.now) (state S.Store tx.new.conn.now) }
-    ensures survives { Survives (state S.Store tx.old.conn.now) (state S.Store tx.new.conn.now) (λ _. ⊥) }
+    requires { ShowsTables (behind S.Store tx.old) }
+    ensures ok { Finds S.Store tx.old tx.new result (λ s row.
+        row ≡ binding_found instance.now binding.now (content s).bindings) }
+    ensures reads { Reads S.Store tx.old tx.new result }
 {
     let rows = select_binding(tx, instance, binding)?;
     first_in(alloc, &rows)
+}
+
+fn select_bound<S: Alter>(tx: &mut Transaction<'_, S>, instance: &str) -> Result<Vec<Row>, Error>
+    requires { ShowsTables (behind S.Store tx.old) }
+    ensures ok { Finds S.Store tx.old tx.new result (λ s rows.
+        (length rows.items == 0) ≡ not (list_any (is_bound instance.now) (content s).bindings)) }
+    ensures reads { Reads S.Store tx.old tx.new result }
+{
+    select(
+        tx,
+        "SELECT instance_id, binding_id, phase, service_id, plan_id, app_guid, bind_resource, params, credentials FROM bindings WHERE instance_id = ?1 ORDER BY instance_id, binding_id LIMIT 1",
+        params![instance],
+    )
 }
 
 /// Whether a binding of the instance has a row.
@@ -215,96 +300,34 @@ pub(crate) fn is_bound<S: Alter>(
     tx: &mut Transaction<'_, S>,
     instance: &str,
 ) -> Result<bool, StoreFault>
-    requires { ShowsTables (state S.Store tx.old.conn.now) }
-    ensures same_reference { tx.new.conn.ghost_name ≡ tx.old.conn.ghost_name }
-    ensures ok { HasCleanDisk (state S.Store tx.new.conn.now) → IfOk result (λ bound. bound ≡ list_any (is_bound instance.now) (content (state S.Store tx.old.conn.now)).bindings) }
-    ensures same { HasCleanDisk (state S.Store tx.new.conn.now) → OnOk result (IsUnchanged (state S.Store tx.old.conn.now) (state S.Store tx.new.conn.now)) }
-    ensures kept { HasCleanDisk (state S.Store tx.new.conn.now) → IsTrue (state S.Store tx.old.conn.now).in_transaction → KeepsCommit (state S.Store tx.old.conn.now) (state S.Store tx.new.conn.now) }
-    ensures survives { Survives (state S.Store tx.old.conn.now) (state S.Store tx.new.conn.now) (λ _. ⊥) }
+    requires { ShowsTables (behind S.Store tx.old) }
+    ensures ok { Finds S.Store tx.old tx.new result (λ s bound.
+        bound ≡ list_any (is_bound instance.now) (content s).bindings) }
+    ensures reads { Reads S.Store tx.old tx.new result }
 {
     let rows = select_bound(tx, instance)?;
     Ok(!rows.is_empty())
 }
 
-/// Makes the statement that the edit asks for, if any. `had` says whether the binding has a row.
-fn apply_edit<S: Alter>(
-    tx: &mut Transaction<'_, S>,
-    instance: &str,
-    binding: &str,
-    had: bool,
-    edit: &BindingEdit,
-) -> Result<usize, Error>
-    requires tables { ShowsTables (state S.Store tx.old.conn.now) }
-    requires had { HasCleanDisk (state S.Store tx.old.conn.now) → IsTrue (state S.Store tx.old.conn.now).is_open → (row : BindingNow) → edit.now ≡ Put row → had ≡ is_some (binding_found instance.now binding.now (content (state S.Store tx.old.conn.now)).bindings) }
-    ensures same_reference { tx.new.conn.ghost_name ≡ tx.old.conn.ghost_name }
-    ensures ok { HasCleanDisk (state S.Store tx.new.conn.now) → IsTrue (state S.Store tx.old.conn.now).is_open → IsTrue (state S.Store tx.old.conn.now).in_transaction → IsDatabase (state S.Store tx.old.conn.now).now → OnOk result (Steps (state S.Store tx.old.conn.now) (state S.Store tx.new.conn.now) (with_bindings (bindings_edited edit.now instance.now binding.now (content (state S.Store tx.old.conn.now)).bindings) (content (state S.Store tx.old.conn.now)))) }
-    ensures kept { HasCleanDisk (state S.Store tx.new.conn.now) → IsTrue (state S.Store tx.old.conn.now).in_transaction → KeepsCommit (state S.Store tx.old.conn.now) (state S.Store tx.new.conn.now) }
-    ensures survives { Survives (state S.Store tx.old.conn.now) (state S.Store tx.new.conn.now) (λ _. ⊥) }
-{
-    match edit {
-        BindingEdit::Keep => Ok(0),
-        BindingEdit::Put(row) if had => update_binding(tx, instance, binding, row),
-        BindingEdit::Put(row) => insert_binding(tx, instance, binding, row),
-        BindingEdit::Remove => delete_binding(tx, instance, binding),
-        BindingEdit::Clear => delete_bindings(tx, instance),
-    }
-}
-
-/// What the order does to the row of the binding that it is about, and whether that row is there.
-fn edit_from(
-    alloc: Global,
-    order: &Order,
-    old: Option<BindingNow>,
-) -> Result<(bool, BindingEdit), StoreFault>
-    ensures had { IfOk result (λ found. found.0 ≡ is_some old) }
-    ensures follows { (life : Life) (change : Change) → IsWritten life change order.now → old ≡ get (bindings_of life) order.now.binding →
-        IfOk result (λ found. bindings_of (changed change life) ≡ edited found.1 order.now.binding (bindings_of life)) }
-{
-    let edit = binding_edit(alloc, order, old.as_ref())?;
-    Ok((old.is_some(), edit))
-}
-
-/// Lets the row of the binding that the order is about follow it.
-fn write_binding<S: Alter>(
+/// The rows of the bindings, by their keys.
+pub(crate) fn read_bindings<S: Alter>(
     tx: &mut Transaction<'_, S>,
     alloc: Global,
-    instance: &str,
-    order: &Order,
-) -> Result<(), StoreFault>
-    requires { ShowsTables (state S.Store tx.old.conn.now) }
-    ensures same_reference { tx.new.conn.ghost_name ≡ tx.old.conn.ghost_name }
-    ensures ok { HasCleanDisk (state S.Store tx.new.conn.now) → IsTrue (state S.Store tx.old.conn.now).is_open → IsTrue (state S.Store tx.old.conn.now).in_transaction → IsDatabase (state S.Store tx.old.conn.now).now → OnOk result (FollowsOrder (state S.Store tx.old.conn.now) (state S.Store tx.new.conn.now) instance.now order.now) }
-    ensures kept { HasCleanDisk (state S.Store tx.new.conn.now) → IsTrue (state S.Store tx.old.conn.now).in_transaction → KeepsCommit (state S.Store tx.old.conn.now) (state S.Store tx.new.conn.now) }
-    ensures survives { Survives (state S.Store tx.old.conn.now) (state S.Store tx.new.conn.now) (λ _. ⊥) }
+) -> Result<Vec<BindingEntry>, StoreFault>
+    requires { ShowsSchema record_schema (behind S.Store tx.old) }
+    ensures ok { Finds S.Store tx.old tx.new result (λ s entries.
+        AreBindingsOf s.now.trees entries.items) }
+    ensures reads { Reads S.Store tx.old tx.new result }
+    ensures known { HasCleanDisk (behind S.Store tx.new) → (bindings : List BindingEntry) →
+        Stores binding_cells binding_row binding_cmp
+        ((behind S.Store tx.old).now.trees 5) bindings → result ≢ Err faults.NotOurs }
 {
-    let binding = order.binding.as_str();
-    let old = read_binding(tx, alloc, instance, binding)?;
-    let (had, edit) = edit_from(alloc, order, old)?;
-    let applied = apply_edit(tx, instance, binding, had, &edit);
-    drop(edit);
-    applied?;
-    Ok(())
-}
-
-/// Lets the rows of the instance's bindings follow the written order, by one statement at most.
-pub(crate) fn write_bindings<S: Alter>(
-    tx: &mut Transaction<'_, S>,
-    alloc: Global,
-    instance: &str,
-    order: &Order,
-) -> Result<(), StoreFault>
-    requires { ShowsTables (state S.Store tx.old.conn.now) }
-    ensures same_reference { tx.new.conn.ghost_name ≡ tx.old.conn.ghost_name }
-    ensures ok { HasCleanDisk (state S.Store tx.new.conn.now) → IsTrue (state S.Store tx.old.conn.now).is_open → IsTrue (state S.Store tx.old.conn.now).in_transaction → IsDatabase (state S.Store tx.old.conn.now).now → OnOk result (FollowsOrder (state S.Store tx.old.conn.now) (state S.Store tx.new.conn.now) instance.now order.now) }
-    ensures kept { HasCleanDisk (state S.Store tx.new.conn.now) → IsTrue (state S.Store tx.old.conn.now).in_transaction → KeepsCommit (state S.Store tx.old.conn.now) (state S.Store tx.new.conn.now) }
-    ensures survives { Survives (state S.Store tx.old.conn.now) (state S.Store tx.new.conn.now) (λ _. ⊥) }
-{
-    if order.kind.is_about_binding() {
-        return write_binding(tx, alloc, instance, order);
-    }
-    let edit = binding_edit(alloc, order, None)?;
-    let applied = apply_edit(tx, instance, order.binding.as_str(), false, &edit);
-    drop(edit);
-    applied?;
-    Ok(())
+    let ids = select(tx, "SELECT rowid FROM bindings ORDER BY rowid", &[])?;
+    let rows = select(
+        tx,
+        "SELECT instance_id, binding_id, phase, service_id, plan_id, app_guid, bind_resource, params, credentials FROM bindings ORDER BY instance_id, binding_id",
+        &[],
+    )?;
+    check_rowids(alloc, &ids)?;
+    bindings_in(alloc, &rows)
 }

@@ -1,15 +1,15 @@
 //! Changes of a life, each one transaction.
 
-ghost use Rattle.std.specs.Prelude.{◌≡◌, IsTrue, OnOk, OnErr};
+ghost use Rattle.std.specs.Prelude.{IsTrue};
 ghost use Rattle.sqlite.specs.Held.{state};
-ghost use Rattle.sqlite.specs.State.{HasCleanDisk, Survives};
+ghost use Rattle.sqlite.specs.State.{HasCleanDisk};
 ghost use Rattle.osb_orders.specs.declared.order.Change.TheVariants.{Append, Finish};
 ghost use Rattle.osb_orders.specs.Lives.{life_of};
 ghost use Rattle.osb_orders.specs.Changed.{lives_changed};
 ghost use Rattle.osb_orders.specs.IsLife.{IsLives};
 ghost use Rattle.osb_orders.specs.Allowed.{IsFinishable};
-ghost use Rattle.osb_records.specs.Steps.{IsReady, LeavesOnly, stored};
-ghost use Rattle.osb_records.specs.Commit.{Commits};
+ghost use Rattle.osb_records.specs.Steps.{IsReady, stored};
+ghost use Rattle.osb_records.specs.Transactions.{BecomesLives};
 
 use crate::fault::StoreFault;
 use crate::writing::{append_order, end_order};
@@ -25,14 +25,12 @@ pub(crate) fn append<S: Alter>(
     order: &Order,
 ) -> Result<(), StoreFault>
     requires ready { IsReady (state S.Store conn.old) }
-    requires whole { HasCleanDisk (state S.Store conn.old) → IsTrue (state S.Store conn.old).is_open → IsLives (lives_changed (Append order.now) instance.now (stored (state S.Store conn.old))) }
+    requires whole { HasCleanDisk (state S.Store conn.old) →
+        IsTrue (state S.Store conn.old).is_open →
+        IsLives (lives_changed (Append order.now) instance.now (stored (state S.Store conn.old))) }
     ensures ready { IsReady (state S.Store conn.new) }
-    ensures ok { HasCleanDisk (state S.Store conn.new) → OnOk result (stored (state S.Store conn.new) ≡ lives_changed (Append order.now) instance.now (stored (state S.Store conn.old))) }
-    ensures err { HasCleanDisk (state S.Store conn.new) → IsTrue (state S.Store conn.new).is_open → OnErr result (stored (state S.Store conn.new) ≡ stored (state S.Store conn.old)) }
-    ensures crash { Survives (state S.Store conn.old) (state S.Store conn.new) (Commits (state S.Store conn.old) (lives_changed (Append order.now) instance.now (stored (state S.Store conn.old)))) }
-    ensures was_open { HasCleanDisk (state S.Store conn.new) → IsTrue (state S.Store conn.new).is_open → IsTrue (state S.Store conn.old).is_open }
-    ensures open { HasCleanDisk (state S.Store conn.new) → OnOk result (IsTrue (state S.Store conn.old).is_open) }
-    ensures durable { HasCleanDisk (state S.Store conn.new) → OnOk result (LeavesOnly (state S.Store conn.new) (stored (state S.Store conn.new))) }
+    ensures becomes { BecomesLives (state S.Store conn.old) (state S.Store conn.new) result
+        (lives_changed (Append order.now) instance.now (stored (state S.Store conn.old))) }
 {
     let mut tx = conn.transaction();
     append_order(&mut tx, alloc, instance, order)?;
@@ -48,15 +46,16 @@ pub(crate) fn finish<S: Alter>(
     outcome: &Outcome,
 ) -> Result<(), StoreFault>
     requires ready { IsReady (state S.Store conn.old) }
-    requires whole { HasCleanDisk (state S.Store conn.old) → IsTrue (state S.Store conn.old).is_open → IsLives (lives_changed (Finish number outcome.now) instance.now (stored (state S.Store conn.old))) }
-    requires last { HasCleanDisk (state S.Store conn.old) → IsTrue (state S.Store conn.old).is_open → IsFinishable (life_of (stored (state S.Store conn.old)) instance.now) number outcome.now }
+    requires whole { HasCleanDisk (state S.Store conn.old) →
+        IsTrue (state S.Store conn.old).is_open →
+        IsLives (lives_changed (Finish number outcome.now) instance.now (stored
+        (state S.Store conn.old))) }
+    requires last { HasCleanDisk (state S.Store conn.old) →
+        IsTrue (state S.Store conn.old).is_open →
+        IsFinishable (life_of (stored (state S.Store conn.old)) instance.now) number outcome.now }
     ensures ready { IsReady (state S.Store conn.new) }
-    ensures ok { HasCleanDisk (state S.Store conn.new) → OnOk result (stored (state S.Store conn.new) ≡ lives_changed (Finish number outcome.now) instance.now (stored (state S.Store conn.old))) }
-    ensures err { HasCleanDisk (state S.Store conn.new) → IsTrue (state S.Store conn.new).is_open → OnErr result (stored (state S.Store conn.new) ≡ stored (state S.Store conn.old)) }
-    ensures crash { Survives (state S.Store conn.old) (state S.Store conn.new) (Commits (state S.Store conn.old) (lives_changed (Finish number outcome.now) instance.now (stored (state S.Store conn.old)))) }
-    ensures was_open { HasCleanDisk (state S.Store conn.new) → IsTrue (state S.Store conn.new).is_open → IsTrue (state S.Store conn.old).is_open }
-    ensures open { HasCleanDisk (state S.Store conn.new) → OnOk result (IsTrue (state S.Store conn.old).is_open) }
-    ensures durable { HasCleanDisk (state S.Store conn.new) → OnOk result (LeavesOnly (state S.Store conn.new) (stored (state S.Store conn.new))) }
+    ensures becomes { BecomesLives (state S.Store conn.old) (state S.Store conn.new) result
+        (lives_changed (Finish number outcome.now) instance.now (stored (state S.Store conn.old))) }
 {
     let mut tx = conn.transaction();
     end_order(&mut tx, alloc, instance, number, outcome)?;

@@ -1,30 +1,65 @@
-//! The row that says how an instance stands, inside a transaction.
+//! The table of what stands of instances: its columns, its rows, and the statements on it.
 
-ghost use Rattle.std.specs.Prelude.{◌≡◌, [], filter, true, false, IsTrue, IfOk, OnOk, Err, None, Some, option_copied};
-ghost use Rattle.sqlite.specs.Held.{state};
-ghost use Rattle.sqlite.specs.State.{HasCleanDisk, ExecutesInside, IsUnchanged, KeepsCommit, Survives};
+ghost use Rattle.std.specs.Prelude.{◌≡◌, ◌≢◌, ◌↔◌, ◌==◌, true, List, map, Option, Err, IfOk, [], ◌∷◌, IsTrue, filter, ℕ, Some, take, false};
+ghost use Rattle.sqlite.specs.Order.{column, bytes};
+ghost use Rattle.sqlite.specs.State.{HasCleanDisk, ExecutesInside};
 ghost use Rattle.sqlite.specs.declared.error.Error.TheVariants as fault;
 ghost use Rattle.sqlite.specs.declared.error.ErrorCode.TheVariants as code;
 ghost use Rattle.sqlite_keyed.specs.Lists.{insert_sorted, update_where};
-ghost use Rattle.osb_orders.specs.declared.order.Change.{Change};
-ghost use Rattle.osb_orders.specs.Lives.{life_of};
-ghost use Rattle.osb_orders.specs.Changed.{changed, lives_changed};
-ghost use Rattle.osb_standing.specs.Rows as rows;
-ghost use Rattle.osb_standing.specs.Instance.{is_failed_deletion};
-ghost use Rattle.osb_standing.specs.Written.{IsWritten};
+ghost use Rattle.osb_orders.specs.declared.view.Standing.{Standing};
+ghost use Rattle.osb_orders.specs.declared.order.Order.{Order};
+ghost use Rattle.osb_orders.specs.Listing.{listing};
+ghost use Rattle.osb_standing.specs.Listing.{is_listed};
+ghost use Rattle.osb_audit.specs.Instances.{InstanceEntry, instance_cmp, is_instance, IsRowOf};
+ghost use Rattle.osb_tables.specs.Tables.{record_schema, orders_schema, instances_schema, tables_schema, listed_schema};
+ghost use Rattle.osb_records.specs.declared.fault.StoreFault.TheVariants as faults;
+ghost use Rattle.osb_records.specs.Queries.{ShowsRecords, busy_row, order_for};
+ghost use Rattle.osb_rows.specs.Rows.{Stores};
+ghost use Rattle.osb_records.specs.Columns.{number_in};
+ghost use Rattle.osb_records.specs.Read.{IsReadAs, IsEntryOf, AreInstancesOf, instance_columns, first_told};
+ghost use Rattle.osb_records.specs.Inside.{with_instances, with_row, Indexes, ShowsSchema, ShowsBlank, Makes, Steps};
+ghost use Rattle.osb_records.specs.Instances.{no_attributes, instance_phase_number, instance_phase_numbered, standing_number, standing_told, attributes_shown, busy_number, instance_row_told, standing_row, standing_columns, instance_row, instance_cells};
+ghost use Rattle.osb_records.specs.Steps.{stored, ShowsTables, content};
+ghost use Rattle.osb_records.specs.Reads.{Reads, Finds, behind, StaysInside, Does};
 ghost use Rattle.osb_records.specs.Instances as spec;
-ghost use Rattle.osb_audit.specs.Instances.{is_instance, instance_cmp, IsRowOf, InstancesStand};
-ghost use Rattle.osb_records.specs.Instances.{instance_row, with_row};
-ghost use Rattle.osb_records.specs.Stored.{with_instances};
-ghost use Rattle.osb_records.specs.Queries.{ShowsRecords};
-ghost use Rattle.osb_records.specs.Steps.{ShowsTables, Steps, PutsInstance, content, stored};
+ghost use Rattle.osb_records.specs.Shown.{AreColumnsOf};
 
+use crate::cells::{attributes_in, check_rowids, number_in, text_in};
 use crate::fault::StoreFault;
-use crate::queries::birth_failed;
-use crate::row::first_instance_in;
-use osb_orders::{InstancePhase, Order, Standing};
-use osb_standing::{InstanceRow, instance_row_after, is_failed_deletion};
+use crate::sql::{execute, select};
+use osb_orders::{Attributes, InstancePhase, Standing};
+use osb_standing::InstanceRow;
+use osb_standing::laws::listing_by_rows;
+use osb_text::Text;
 use sqlite::{Alter, Error, Row, Transaction, params};
+use std::alloc::Global;
+
+/// Makes the table of the instances' current state.
+pub(crate) fn create_instances<S: Alter>(tx: &mut Transaction<'_, S>) -> Result<usize, Error>
+    requires { ShowsBlank orders_schema (1 ∷ 0 ∷ []) (behind S.Store tx.old) }
+    ensures ok { Does S.Store tx.old tx.new result (λ old new.
+        Makes old new instances_schema (3 ∷ 1 ∷ 0 ∷ [])) }
+    ensures inside { StaysInside S.Store tx.old tx.new }
+{
+    execute(
+        tx,
+        "CREATE TABLE instances (instance_id TEXT NOT NULL, phase INTEGER NOT NULL, busy INTEGER NOT NULL, last_seq INTEGER NOT NULL, service_id TEXT NOT NULL, plan_id TEXT NOT NULL, organization TEXT NOT NULL, space TEXT NOT NULL, params TEXT NOT NULL, maint TEXT NOT NULL, PRIMARY KEY (instance_id)) STRICT",
+        &[],
+    )
+}
+
+/// Makes the index of the running orders' instances beside the tables.
+pub(crate) fn create_busy_index<S: Alter>(tx: &mut Transaction<'_, S>) -> Result<usize, Error>
+    requires { ShowsSchema tables_schema (behind S.Store tx.old) }
+    ensures ok { Does S.Store tx.old tx.new result (λ old new. Indexes listed_schema old new) }
+    ensures inside { StaysInside S.Store tx.old tx.new }
+{
+    execute(
+        tx,
+        "CREATE INDEX busy_instances ON instances (busy, instance_id)",
+        &[],
+    )
+}
 
 fn phase_number(phase: InstancePhase) -> u32
     ensures { result ≡ spec.instance_phase_number phase }
@@ -38,10 +73,33 @@ fn phase_number(phase: InstancePhase) -> u32
     }
 }
 
+fn instance_phase_numbered(number: u32) -> Result<InstancePhase, StoreFault>
+    ensures { IsReadAs instance_phase_number instance_phase_numbered number result }
+{
+    match number {
+        1 => Ok(InstancePhase::Creating),
+        2 => Ok(InstancePhase::Ready),
+        3 => Ok(InstancePhase::Failed),
+        4 => Ok(InstancePhase::Updating),
+        5 => Ok(InstancePhase::Deleting),
+        _ => Err(StoreFault::NotOurs),
+    }
+}
+
 fn busy_number(busy: bool) -> u32
     ensures { result ≡ spec.busy_number busy }
 {
     if busy { 1 } else { 0 }
+}
+
+fn busy_numbered(number: u32) -> Result<bool, StoreFault>
+    ensures { IsReadAs busy_number (λ n. n == 1) number result }
+{
+    match number {
+        0 => Ok(false),
+        1 => Ok(true),
+        _ => Err(StoreFault::NotOurs),
+    }
 }
 
 /// How an instance stands, as the columns show it.
@@ -57,13 +115,7 @@ struct StandingColumns<'a> {
 }
 
 fn columns_of(standing: &Option<Standing>) -> StandingColumns<'_>
-    ensures phase { result.phase ≡ spec.standing_number standing.now }
-    ensures service { result.service.now ≡ (spec.attributes_shown standing.now).service }
-    ensures plan { result.plan.now ≡ (spec.attributes_shown standing.now).plan }
-    ensures organization { result.organization.now ≡ (spec.attributes_shown standing.now).place }
-    ensures space { result.space.now ≡ (spec.attributes_shown standing.now).spot }
-    ensures parameters { result.parameters.now ≡ (spec.attributes_shown standing.now).parameters }
-    ensures maintenance { result.maintenance.now ≡ (spec.attributes_shown standing.now).maintenance }
+    ensures { AreColumnsOf standing.now result }
 {
     match standing {
         None => StandingColumns {
@@ -87,6 +139,91 @@ fn columns_of(standing: &Option<Standing>) -> StandingColumns<'_>
     }
 }
 
+/// Whether each of the texts is empty.
+fn are_blank(attributes: &Attributes) -> bool
+    ensures { (result ≡ true) ↔ (attributes.now ≡ no_attributes) }
+{
+    attributes.service.is_empty()
+        && attributes.plan.is_empty()
+        && attributes.place.is_empty()
+        && attributes.spot.is_empty()
+        && attributes.parameters.is_empty()
+        && attributes.maintenance.is_empty()
+}
+
+fn standing_told(number: u32, attributes: Attributes) -> Result<Option<Standing>, StoreFault>
+    ensures told { IfOk result (λ standing. standing ≡ standing_told number attributes) }
+    ensures held { IfOk result (λ standing.
+        (number ≡ standing_number standing) × (attributes ≡ attributes_shown standing)) }
+    ensures known { (standing : Option Standing) → number ≡ standing_number standing →
+        attributes ≡ attributes_shown standing → result ≢ Err faults.NotOurs }
+{
+    if number == 0 {
+        return if are_blank(&attributes) {
+            Ok(None)
+        } else {
+            Err(StoreFault::NotOurs)
+        };
+    }
+    Ok(Some(Standing {
+        phase: instance_phase_numbered(number)?,
+        attributes,
+    }))
+}
+
+/// How the instance of the row stands.
+fn instance_row_in(row: &Row) -> Result<InstanceRow, StoreFault>
+    ensures told { IfOk result (λ found. found ≡ instance_row_told row.now) }
+    ensures held { IfOk result (λ found. standing_row found ≡ standing_columns row.now) }
+    ensures known { (entry : InstanceEntry) → row.now ≡ instance_row entry →
+        result ≢ Err faults.NotOurs }
+{
+    Ok(InstanceRow {
+        busy: busy_numbered(number_in(row, 2)?)?,
+        last_number: number_in(row, 3)?,
+        standing: standing_told(number_in(row, 1)?, attributes_in(row)?)?,
+    })
+}
+
+/// How the instance of the first row stands.
+fn first_instance_in(rows: &[Row]) -> Result<Option<InstanceRow>, StoreFault>
+    ensures { IfOk result (λ found. found ≡ first_told rows.now) }
+{
+    match rows.first() {
+        None => Ok(None),
+        Some(row) => Ok(Some(instance_row_in(row)?)),
+    }
+}
+
+/// The row with the id of its instance.
+fn instance_in(row: &Row) -> Result<(Text, InstanceRow), StoreFault>
+    ensures { IsEntryOf instance_row instance_columns row.now result }
+{
+    Ok((text_in(row, 0)?, instance_row_in(row)?))
+}
+
+/// The instances of the rows, each with its id.
+fn instances_in(alloc: Global, rows: &[Row]) -> Result<Vec<(Text, InstanceRow)>, StoreFault>
+    ensures told { IfOk result (λ entries.
+        map instance_row entries.items ≡ map instance_columns rows.now) }
+    ensures known { (entries : List InstanceEntry) → rows.now ≡ map instance_row entries →
+        result ≢ Err faults.NotOurs }
+{
+    let mut entries = Vec::new(alloc);
+    for row in rows {
+        entries.push(instance_in(row)?)?;
+    }
+    Ok(entries)
+}
+
+/// The instance that the row names, and the number of its order.
+pub(crate) fn named_in(row: &Row) -> Result<(Text, u32), StoreFault>
+    ensures { IfOk result (λ named.
+        (named.0 ≡ bytes (column row.now 0)) × (named.1 ≡ number_in (column row.now 1))) }
+{
+    Ok((text_in(row, 0)?, number_in(row, 1)?))
+}
+
 /// Runs a statement whose parameters are the columns of the row.
 fn execute_with<S: Alter>(
     tx: &mut Transaction<'_, S>,
@@ -94,13 +231,17 @@ fn execute_with<S: Alter>(
     instance: &str,
     row: &InstanceRow,
 ) -> Result<usize, Error>
-    ensures same_reference { tx.new.conn.ghost_name ≡ tx.old.conn.ghost_name }
-    ensures ended { (state S.Store tx.old.conn.now).in_transaction ≡ false → result ≡ Err (fault.SqliteFailure code.TransactionState) }
-    ensures runs { HasCleanDisk (state S.Store tx.new.conn.now) → IsTrue (state S.Store tx.old.conn.now).in_transaction → ExecutesInside 0 sql.now (instance_row (instance.now, row.now)) (state S.Store tx.old.conn.now) (state S.Store tx.new.conn.now) result }
-    ensures survives { Survives (state S.Store tx.old.conn.now) (state S.Store tx.new.conn.now) (λ _. ⊥) }
+    ensures ended { (behind S.Store tx.old).in_transaction ≡ false →
+        result ≡ Err (fault.SqliteFailure code.TransactionState) }
+    ensures runs { HasCleanDisk (behind S.Store tx.new) →
+        IsTrue (behind S.Store tx.old).in_transaction →
+        ExecutesInside 0 sql.now (instance_row (instance.now, row.now)) (behind S.Store tx.old)
+        (behind S.Store tx.new) result }
+    ensures inside { StaysInside S.Store tx.old tx.new }
 {
     let columns = columns_of(&row.standing);
-    tx.execute(
+    execute(
+        tx,
         sql,
         params![
             instance,
@@ -118,17 +259,19 @@ fn execute_with<S: Alter>(
 }
 
 /// Inserts the row of an instance that has none.
-fn insert_instance<S: Alter>(
+pub(crate) fn insert_instance<S: Alter>(
     tx: &mut Transaction<'_, S>,
     instance: &str,
     row: &InstanceRow,
 ) -> Result<usize, Error>
-    requires tables { ShowsTables (state S.Store tx.old.conn.now) }
-    requires no_row { HasCleanDisk (state S.Store tx.old.conn.now) → IsTrue (state S.Store tx.old.conn.now).is_open → filter (is_instance instance.now) (content (state S.Store tx.old.conn.now)).instances ≡ [] }
-    ensures same_reference { tx.new.conn.ghost_name ≡ tx.old.conn.ghost_name }
-    ensures ok { HasCleanDisk (state S.Store tx.new.conn.now) → OnOk result (Steps (state S.Store tx.old.conn.now) (state S.Store tx.new.conn.now) (with_instances (insert_sorted instance_cmp (instance.now, row.now) (content (state S.Store tx.old.conn.now)).instances) (content (state S.Store tx.old.conn.now)))) }
-    ensures kept { HasCleanDisk (state S.Store tx.new.conn.now) → IsTrue (state S.Store tx.old.conn.now).in_transaction → KeepsCommit (state S.Store tx.old.conn.now) (state S.Store tx.new.conn.now) }
-    ensures survives { Survives (state S.Store tx.old.conn.now) (state S.Store tx.new.conn.now) (λ _. ⊥) }
+    requires tables { ShowsTables (behind S.Store tx.old) }
+    requires no_row { HasCleanDisk (behind S.Store tx.old) →
+        IsTrue (behind S.Store tx.old).is_open →
+        filter (is_instance instance.now) (content (behind S.Store tx.old)).instances ≡ [] }
+    ensures ok { Does S.Store tx.old tx.new result (λ old new.
+        Steps old new (with_instances (insert_sorted instance_cmp (instance.now, row.now)
+        (content old).instances) (content old))) }
+    ensures inside { StaysInside S.Store tx.old tx.new }
 {
     execute_with(
         tx,
@@ -139,16 +282,16 @@ fn insert_instance<S: Alter>(
 }
 
 /// Gives the instance another row, where it has one.
-fn update_instance<S: Alter>(
+pub(crate) fn update_instance<S: Alter>(
     tx: &mut Transaction<'_, S>,
     instance: &str,
     row: &InstanceRow,
 ) -> Result<usize, Error>
-    requires { ShowsTables (state S.Store tx.old.conn.now) }
-    ensures same_reference { tx.new.conn.ghost_name ≡ tx.old.conn.ghost_name }
-    ensures ok { HasCleanDisk (state S.Store tx.new.conn.now) → OnOk result (Steps (state S.Store tx.old.conn.now) (state S.Store tx.new.conn.now) (with_instances (update_where (is_instance instance.now) (with_row row.now) (content (state S.Store tx.old.conn.now)).instances) (content (state S.Store tx.old.conn.now)))) }
-    ensures kept { HasCleanDisk (state S.Store tx.new.conn.now) → IsTrue (state S.Store tx.old.conn.now).in_transaction → KeepsCommit (state S.Store tx.old.conn.now) (state S.Store tx.new.conn.now) }
-    ensures survives { Survives (state S.Store tx.old.conn.now) (state S.Store tx.new.conn.now) (λ _. ⊥) }
+    requires { ShowsTables (behind S.Store tx.old) }
+    ensures ok { Does S.Store tx.old tx.new result (λ old new.
+        Steps old new (with_instances (update_where (is_instance instance.now) (with_row row.now)
+        (content old).instances) (content old))) }
+    ensures inside { StaysInside S.Store tx.old tx.new }
 {
     execute_with(
         tx,
@@ -159,14 +302,13 @@ fn update_instance<S: Alter>(
 }
 
 fn select_instance<S: Alter>(tx: &mut Transaction<'_, S>, instance: &str) -> Result<Vec<Row>, Error>
-    requires { ShowsTables (state S.Store tx.old.conn.now) }
-    ensures same_reference { tx.new.conn.ghost_name ≡ tx.old.conn.ghost_name }
-    ensures ok { HasCleanDisk (state S.Store tx.new.conn.now) → IfOk result (λ rows. IsRowOf instance.now (spec.first_told rows.items) (content (state S.Store tx.old.conn.now)).instances) }
-    ensures same { HasCleanDisk (state S.Store tx.new.conn.now) → OnOk result (IsUnchanged (state S.Store tx.old.conn.now) (state S.Store tx.new.conn.now)) }
-    ensures kept { HasCleanDisk (state S.Store tx.new.conn.now) → IsTrue (state S.Store tx.old.conn.now).in_transaction → KeepsCommit (state S.Store tx.old.conn.now) (state S.Store tx.new.conn.now) }
-    ensures survives { Survives (state S.Store tx.old.conn.now) (state S.Store tx.new.conn.now) (λ _. ⊥) }
+    requires { ShowsTables (behind S.Store tx.old) }
+    ensures ok { Finds S.Store tx.old tx.new result (λ s rows.
+        IsRowOf instance.now (first_told rows.items) (content s).instances) }
+    ensures reads { Reads S.Store tx.old tx.new result }
 {
-    tx.query_all(
+    select(
+        tx,
         "SELECT instance_id, phase, busy, last_seq, service_id, plan_id, organization, space, params, maint FROM instances WHERE instance_id = ?1 ORDER BY instance_id",
         params![instance],
     )
@@ -177,141 +319,70 @@ pub(crate) fn read_instance<S: Alter>(
     tx: &mut Transaction<'_, S>,
     instance: &str,
 ) -> Result<Option<InstanceRow>, StoreFault>
-    requires { ShowsTables (state S.Store tx.old.conn.now) }
-    ensures same_reference { tx.new.conn.ghost_name ≡ tx.old.conn.ghost_name }
-    ensures ok { HasCleanDisk (state S.Store tx.new.conn.now) → IfOk result (λ row. IsRowOf instance.now row (content (state S.Store tx.old.conn.now)).instances) }
-    ensures same { HasCleanDisk (state S.Store tx.new.conn.now) → OnOk result (IsUnchanged (state S.Store tx.old.conn.now) (state S.Store tx.new.conn.now)) }
-    ensures kept { HasCleanDisk (state S.Store tx.new.conn.now) → IsTrue (state S.Store tx.old.conn.now).in_transaction → KeepsCommit (state S.Store tx.old.conn.now) (state S.Store tx.new.conn.now) }
-    ensures survives { Survives (state S.Store tx.old.conn.now) (state S.Store tx.new.conn.now) (λ _. ⊥) }
+    requires { ShowsTables (behind S.Store tx.old) }
+    ensures ok { Finds S.Store tx.old tx.new result (λ s row.
+        IsRowOf instance.now row (content s).instances) }
+    ensures reads { Reads S.Store tx.old tx.new result }
 {
     let rows = select_instance(tx, instance)?;
     first_instance_in(&rows)
 }
 
-/// Gives the instance the row, in place of the old one if it has one.
-fn put_instance<S: Alter>(
+/// The first so many instances whose last order runs and whose id is greater, each with the number
+/// of that order.
+fn select_busy<S: Alter>(
     tx: &mut Transaction<'_, S>,
-    instance: &str,
-    old: Option<&InstanceRow>,
-    row: &InstanceRow,
-) -> Result<usize, Error>
-    requires tables { ShowsTables (state S.Store tx.old.conn.now) }
-    requires there { HasCleanDisk (state S.Store tx.old.conn.now) → IsTrue (state S.Store tx.old.conn.now).is_open → IsRowOf instance.now (option_copied old) (content (state S.Store tx.old.conn.now)).instances }
-    ensures same_reference { tx.new.conn.ghost_name ≡ tx.old.conn.ghost_name }
-    ensures ok { HasCleanDisk (state S.Store tx.new.conn.now) → OnOk result (PutsInstance (state S.Store tx.old.conn.now) (state S.Store tx.new.conn.now) instance.now row.now) }
-    ensures kept { HasCleanDisk (state S.Store tx.new.conn.now) → IsTrue (state S.Store tx.old.conn.now).in_transaction → KeepsCommit (state S.Store tx.old.conn.now) (state S.Store tx.new.conn.now) }
-    ensures survives { Survives (state S.Store tx.old.conn.now) (state S.Store tx.new.conn.now) (λ _. ⊥) }
+    after: &str,
+    limit: u32,
+) -> Result<Vec<Row>, Error>
+    requires { ShowsTables (behind S.Store tx.old) }
+    ensures ok { Finds S.Store tx.old tx.new result (λ s rows.
+        rows.items ≡
+        map busy_row (take limit (filter (is_listed after.now) (content s).instances))) }
+    ensures reads { Reads S.Store tx.old tx.new result }
 {
-    match old {
-        None => insert_instance(tx, instance, row),
-        Some(_) => update_instance(tx, instance, row),
-    }
+    select(
+        tx,
+        "SELECT instance_id, last_seq FROM instances WHERE busy = 1 AND instance_id > ?1 ORDER BY instance_id LIMIT ?2",
+        params![after, limit],
+    )
 }
 
-/// Whether the birth of the instance failed. It is looked up only where the order makes it matter.
-fn birth_failed_for<S: Alter>(
+/// The busy rows, whose instances and numbers are those of the lives.
+pub(crate) fn read_busy<S: Alter>(
     tx: &mut Transaction<'_, S>,
-    instance: &str,
-    order: &Order,
-) -> Result<bool, StoreFault>
-    requires { ShowsRecords (state S.Store tx.old.conn.now) }
-    ensures same_reference { tx.new.conn.ghost_name ≡ tx.old.conn.ghost_name }
-    ensures ok { HasCleanDisk (state S.Store tx.new.conn.now) → IfOk result (λ failed. is_failed_deletion order.now ≡ true → failed ≡ rows.birth_failed (life_of (stored (state S.Store tx.old.conn.now)) instance.now)) }
-    ensures same { HasCleanDisk (state S.Store tx.new.conn.now) → IsTrue (state S.Store tx.old.conn.now).is_open → OnOk result (IsUnchanged (state S.Store tx.old.conn.now) (state S.Store tx.new.conn.now)) }
-    ensures kept { HasCleanDisk (state S.Store tx.new.conn.now) → IsTrue (state S.Store tx.old.conn.now).in_transaction → KeepsCommit (state S.Store tx.old.conn.now) (state S.Store tx.new.conn.now) }
-    ensures survives { Survives (state S.Store tx.old.conn.now) (state S.Store tx.new.conn.now) (λ _. ⊥) }
+    after: &str,
+    limit: u32,
+) -> Result<Vec<Row>, Error>
+    requires { ShowsRecords (behind S.Store tx.old) }
+    ensures ok { Finds S.Store tx.old tx.new result (λ s rows.
+        (found : List (List ℕ × Order)) → map Some found ≡ map (order_for (stored s)) rows.items →
+        found ≡ listing (stored s) after.now limit) }
+    ensures reads { Reads S.Store tx.old tx.new result }
 {
-    if is_failed_deletion(order) {
-        birth_failed(tx, instance)
-    } else {
-        Ok(false)
-    }
+    listing_by_rows();
+    select_busy(tx, after, limit)
 }
 
-/// The row of the instance once the order is written, from the row before.
-fn next_row<S: Alter>(
+/// The rows of the instances, by their keys.
+pub(crate) fn read_instances<S: Alter>(
     tx: &mut Transaction<'_, S>,
-    instance: &str,
-    order: &Order,
-    old: Option<&InstanceRow>,
-) -> Result<InstanceRow, StoreFault>
-    requires { ShowsRecords (state S.Store tx.old.conn.now) }
-    ensures same_reference { tx.new.conn.ghost_name ≡ tx.old.conn.ghost_name }
-    ensures ok { HasCleanDisk (state S.Store tx.new.conn.now) → (change : Change) → IsWritten (life_of (stored (state S.Store tx.old.conn.now)) instance.now) change order.now → option_copied old.entry ≡ rows.row_of (life_of (stored (state S.Store tx.old.conn.now)) instance.now) →
-        IfOk result (λ row. rows.row_of (changed change (life_of (stored (state S.Store tx.old.conn.now)) instance.now)) ≡ Some row) }
-    ensures same { HasCleanDisk (state S.Store tx.new.conn.now) → IsTrue (state S.Store tx.old.conn.now).is_open → OnOk result (IsUnchanged (state S.Store tx.old.conn.now) (state S.Store tx.new.conn.now)) }
-    ensures kept { HasCleanDisk (state S.Store tx.new.conn.now) → IsTrue (state S.Store tx.old.conn.now).in_transaction → KeepsCommit (state S.Store tx.old.conn.now) (state S.Store tx.new.conn.now) }
-    ensures survives { Survives (state S.Store tx.old.conn.now) (state S.Store tx.new.conn.now) (λ _. ⊥) }
+    alloc: Global,
+) -> Result<Vec<(Text, InstanceRow)>, StoreFault>
+    requires { ShowsSchema record_schema (behind S.Store tx.old) }
+    ensures ok { Finds S.Store tx.old tx.new result (λ s entries.
+        AreInstancesOf s.now.trees entries.items) }
+    ensures reads { Reads S.Store tx.old tx.new result }
+    ensures known { HasCleanDisk (behind S.Store tx.new) → (instances : List InstanceEntry) →
+        Stores instance_cells instance_row instance_cmp
+        ((behind S.Store tx.old).now.trees 3) instances → result ≢ Err faults.NotOurs }
 {
-    let failed = birth_failed_for(tx, instance, order)?;
-    Ok(instance_row_after(failed, order, old)?)
-}
-
-/// Writes the row that an instance without one gets once its first order is written.
-fn write_first_row<S: Alter>(
-    tx: &mut Transaction<'_, S>,
-    instance: &str,
-    order: &Order,
-) -> Result<(), StoreFault>
-    requires records { ShowsRecords (state S.Store tx.old.conn.now) }
-    requires no_row { HasCleanDisk (state S.Store tx.old.conn.now) → IsTrue (state S.Store tx.old.conn.now).is_open → IsRowOf instance.now None (content (state S.Store tx.old.conn.now)).instances }
-    ensures same_reference { tx.new.conn.ghost_name ≡ tx.old.conn.ghost_name }
-    ensures ok { HasCleanDisk (state S.Store tx.new.conn.now) → OnOk result (Steps (state S.Store tx.old.conn.now) (state S.Store tx.new.conn.now) (with_instances (content (state S.Store tx.new.conn.now)).instances (content (state S.Store tx.old.conn.now)))) }
-    ensures stands { HasCleanDisk (state S.Store tx.new.conn.now) → (change : Change) → IsWritten (life_of (stored (state S.Store tx.old.conn.now)) instance.now) change order.now → InstancesStand (stored (state S.Store tx.old.conn.now)) (content (state S.Store tx.old.conn.now)).instances →
-        OnOk result (InstancesStand (lives_changed change instance.now (stored (state S.Store tx.old.conn.now))) (content (state S.Store tx.new.conn.now)).instances) }
-    ensures kept { HasCleanDisk (state S.Store tx.new.conn.now) → IsTrue (state S.Store tx.old.conn.now).in_transaction → KeepsCommit (state S.Store tx.old.conn.now) (state S.Store tx.new.conn.now) }
-    ensures survives { Survives (state S.Store tx.old.conn.now) (state S.Store tx.new.conn.now) (λ _. ⊥) }
-{
-    let row = instance_row_after(false, order, None)?;
-    let put = put_instance(tx, instance, None, &row);
-    drop(row);
-    put?;
-    Ok(())
-}
-
-/// Writes the row that the instance has once the order is written, from the row before.
-fn write_next_row<S: Alter>(
-    tx: &mut Transaction<'_, S>,
-    instance: &str,
-    order: &Order,
-) -> Result<(), StoreFault>
-    requires { ShowsRecords (state S.Store tx.old.conn.now) }
-    ensures same_reference { tx.new.conn.ghost_name ≡ tx.old.conn.ghost_name }
-    ensures ok { HasCleanDisk (state S.Store tx.new.conn.now) → OnOk result (Steps (state S.Store tx.old.conn.now) (state S.Store tx.new.conn.now) (with_instances (content (state S.Store tx.new.conn.now)).instances (content (state S.Store tx.old.conn.now)))) }
-    ensures stands { HasCleanDisk (state S.Store tx.new.conn.now) → (change : Change) → IsWritten (life_of (stored (state S.Store tx.old.conn.now)) instance.now) change order.now → InstancesStand (stored (state S.Store tx.old.conn.now)) (content (state S.Store tx.old.conn.now)).instances →
-        OnOk result (InstancesStand (lives_changed change instance.now (stored (state S.Store tx.old.conn.now))) (content (state S.Store tx.new.conn.now)).instances) }
-    ensures kept { HasCleanDisk (state S.Store tx.new.conn.now) → IsTrue (state S.Store tx.old.conn.now).in_transaction → KeepsCommit (state S.Store tx.old.conn.now) (state S.Store tx.new.conn.now) }
-    ensures survives { Survives (state S.Store tx.old.conn.now) (state S.Store tx.new.conn.now) (λ _. ⊥) }
-{
-    let old = read_instance(tx, instance)?;
-    let row = next_row(tx, instance, order, old.as_ref())?;
-    let put = put_instance(tx, instance, old.as_ref(), &row);
-    drop(old);
-    drop(row);
-    put?;
-    Ok(())
-}
-
-/// Writes the row that the instance has once the order is written. One that `is_new` has no row yet,
-/// so none is looked for.
-pub(crate) fn write_instance<S: Alter>(
-    tx: &mut Transaction<'_, S>,
-    instance: &str,
-    order: &Order,
-    is_new: bool,
-) -> Result<(), StoreFault>
-    requires records { ShowsRecords (state S.Store tx.old.conn.now) }
-    requires no_row { HasCleanDisk (state S.Store tx.old.conn.now) → IsTrue (state S.Store tx.old.conn.now).is_open → IsTrue is_new → IsRowOf instance.now None (content (state S.Store tx.old.conn.now)).instances }
-    ensures same_reference { tx.new.conn.ghost_name ≡ tx.old.conn.ghost_name }
-    ensures ok { HasCleanDisk (state S.Store tx.new.conn.now) → OnOk result (Steps (state S.Store tx.old.conn.now) (state S.Store tx.new.conn.now) (with_instances (content (state S.Store tx.new.conn.now)).instances (content (state S.Store tx.old.conn.now)))) }
-    ensures stands { HasCleanDisk (state S.Store tx.new.conn.now) → (change : Change) → IsWritten (life_of (stored (state S.Store tx.old.conn.now)) instance.now) change order.now → InstancesStand (stored (state S.Store tx.old.conn.now)) (content (state S.Store tx.old.conn.now)).instances →
-        OnOk result (InstancesStand (lives_changed change instance.now (stored (state S.Store tx.old.conn.now))) (content (state S.Store tx.new.conn.now)).instances) }
-    ensures kept { HasCleanDisk (state S.Store tx.new.conn.now) → IsTrue (state S.Store tx.old.conn.now).in_transaction → KeepsCommit (state S.Store tx.old.conn.now) (state S.Store tx.new.conn.now) }
-    ensures survives { Survives (state S.Store tx.old.conn.now) (state S.Store tx.new.conn.now) (λ _. ⊥) }
-{
-    if is_new {
-        write_first_row(tx, instance, order)
-    } else {
-        write_next_row(tx, instance, order)
-    }
+    let ids = select(tx, "SELECT rowid FROM instances ORDER BY rowid", &[])?;
+    let rows = select(
+        tx,
+        "SELECT instance_id, phase, busy, last_seq, service_id, plan_id, organization, space, params, maint FROM instances ORDER BY instance_id",
+        &[],
+    )?;
+    check_rowids(alloc, &ids)?;
+    instances_in(alloc, &rows)
 }

@@ -1,19 +1,28 @@
 //! The orders of all instances in a SQL database.
+//!
+//! Five floors, each of which calls the one below it: cells and values (`cells`, `names`); a statement (`sql`, and
+//! in `format`, `orders`, `instances` and `bindings` those on each table, beside its columns and rows); several of
+//! them inside a transaction (`tables`, `queries`, `standing`, `writing`, `view`, `reading`, `plans`, `whole`); a
+//! transaction (`commits`, `adopt`); and the public calls (`records`, `memory`). What stays is said once for each
+//! kind of call (`specs/Reads.antt`).
 #![tactic(auto)]
 
 mod adopt;
 mod bindings;
+mod cells;
 mod commits;
 mod fault;
+mod format;
 mod instances;
 pub mod memory;
 mod names;
+mod orders;
 mod plans;
 mod queries;
 mod reading;
 mod records;
-mod row;
-mod statements;
+mod sql;
+mod standing;
 mod tables;
 mod view;
 mod whole;

@@ -26,7 +26,8 @@ pub fn life(
     alloc: Global,
     instance: &str,
 ) -> Result<Vec<Order>, StoreFault>
-    ensures ok { IfOk result (λ life. life.items ≡ life_of (stored (state over_memory records.old)) instance.now) }
+    ensures ok { IfOk result (λ life.
+        life.items ≡ life_of (stored (state over_memory records.old)) instance.now) }
     ensures same { stored (state over_memory records.new) ≡ stored (state over_memory records.old) }
 {
     records.life(alloc, instance)
@@ -39,7 +40,8 @@ pub fn running(
     after: &str,
     limit: u32,
 ) -> Result<Vec<(Text, Order)>, StoreFault>
-    ensures ok { IfOk result (λ pairs. pairs.items ≡ listing (stored (state over_memory records.old)) after.now limit) }
+    ensures ok { IfOk result (λ pairs.
+        pairs.items ≡ listing (stored (state over_memory records.old)) after.now limit) }
     ensures same { stored (state over_memory records.new) ≡ stored (state over_memory records.old) }
 {
     records.running(alloc, after, limit)
@@ -47,7 +49,8 @@ pub fn running(
 
 /// As `Records::view`; and the lives are well formed.
 pub fn view(records: &mut Records<MemStore>, alloc: Global, ask: &Ask) -> Result<View, StoreFault>
-    ensures ok { IfOk result (λ view. facts view ≡ view_of (stored (state over_memory records.old)) ask.now) }
+    ensures ok { IfOk result (λ view.
+        facts view ≡ view_of (stored (state over_memory records.old)) ask.now) }
     ensures same { stored (state over_memory records.new) ≡ stored (state over_memory records.old) }
     ensures whole { IsLives (stored (state over_memory records.new)) }
 {
@@ -60,7 +63,8 @@ pub fn plans_in_use(
     records: &mut Records<MemStore>,
     alloc: Global,
 ) -> Result<Vec<(Text, Text)>, StoreFault>
-    ensures ok { IfOk result (λ plans. plans.items ≡ spec.plans_in_use (stored (state over_memory records.old))) }
+    ensures ok { IfOk result (λ plans.
+        plans.items ≡ spec.plans_in_use (stored (state over_memory records.old))) }
     ensures same { stored (state over_memory records.new) ≡ stored (state over_memory records.old) }
 {
     records.plans_in_use(alloc)
@@ -72,10 +76,14 @@ pub fn commit(
     instance: &str,
     change: &Change,
 ) -> Result<(), StoreFault>
-    requires whole { IsLives (lives_changed change.now instance.now (stored (state over_memory records.old))) }
-    requires finishes { FinishesLast (life_of (stored (state over_memory records.old)) instance.now) change.now }
-    ensures ok { OnOk result (stored (state over_memory records.new) ≡ lives_changed change.now instance.now (stored (state over_memory records.old))) }
-    ensures err { OnErr result (stored (state over_memory records.new) ≡ stored (state over_memory records.old)) }
+    requires whole { IsLives (lives_changed change.now instance.now
+        (stored (state over_memory records.old))) }
+    requires finishes { FinishesLast (life_of
+        (stored (state over_memory records.old)) instance.now) change.now }
+    ensures ok { OnOk result (stored (state over_memory records.new) ≡
+        lives_changed change.now instance.now (stored (state over_memory records.old))) }
+    ensures err { OnErr result (stored (state over_memory records.new) ≡
+        stored (state over_memory records.old)) }
 {
     records.commit(instance, change)
 }

@@ -6,7 +6,8 @@ ghost use Rattle.osb_orders.specs.Orders.{name_of};
 
 /// The number that an order of this name has.
 pub(crate) fn number_named(name: &str) -> Option<u32>
-    ensures { (order : Order) → order.number < 4294967296 → name_of order ≡ name.now → result ≡ Some order.number }
+    ensures { (order : Order) → order.number < 4294967296 → name_of order ≡ name.now →
+        result ≡ Some order.number }
 {
     let Some((_, digits)) = name.split_once('-') else {
         return None;

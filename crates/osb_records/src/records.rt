@@ -19,13 +19,14 @@ ghost use Rattle.osb_records.specs.Kept.{KeepsLives};
 ghost use Rattle.osb_records.specs.Opened.{StandIn, HoldsSame};
 ghost use Rattle.osb_records.specs.Steps.{IsReady, IsSettled, LeavesOnly, stored};
 ghost use Rattle.osb_records.specs.Commit.{Commits, FinishesLast, Lasts};
+ghost use Rattle.osb_records.specs.Looks.{Looks, MayLook};
 
 use crate::adopt::take_over;
 use crate::commits::{append, finish};
 use crate::fault::StoreFault;
+use crate::orders::orders_in;
 use crate::plans::read_plans;
 use crate::reading::{read_life, read_running};
-use crate::row::orders_in;
 use crate::tables::make_tables;
 use crate::view::{view_of_instance, view_without_instance};
 use osb_asks::Ask;
@@ -73,13 +74,29 @@ impl<S: Alter> Records<S> {
         alloc: Global,
         mut conn: Connection<S>,
     ) -> Result<Records<S>, (StoreFault, Connection<S>)>
-        ensures ok { IfOk result (λ records. HasCleanDisk (state S.Store records) → IsTrue (state S.Store records).is_open → StandIn (state S.Store conn).now (stored (state S.Store records))) }
-        ensures err { IfErr result (λ fault. HasCleanDisk (state S.Store fault.1) → IsTrue (state S.Store fault.1).is_open → (state S.Store fault.1).now ≡ (state S.Store conn).now) }
-        ensures not_ours { IfErr result (λ fault. HasCleanDisk (state S.Store fault.1) → fault.0 ≡ faults.NotOurs → (lives : Lives) → ¬ StandIn (state S.Store conn).now lives) }
-        ensures settled { (state S.Store conn).in_transaction ≡ false → IfErr result (λ fault. IsSettled (state S.Store fault.1)) }
-        ensures open_transaction { IsTrue (state S.Store conn).in_transaction → result ≡ Err (faults.Refused, conn) }
-        ensures crash { IfOk result (λ records. Survives (state S.Store conn) (state S.Store records) (HoldsSame (state S.Store conn).now)) }
-        ensures fault_crash { IfErr result (λ fault. Survives (state S.Store conn) (state S.Store fault.1) (HoldsSame (state S.Store conn).now)) }
+        // The lives are those that stood in the database, and none where it was empty.
+        ensures ok { IfOk result (λ records.
+            HasCleanDisk (state S.Store records) → IsTrue (state S.Store records).is_open →
+            StandIn (state S.Store conn).now (stored (state S.Store records))) }
+        // With a fault the database is as it was, and NotOurs says that no lives stand in it.
+        ensures err { IfErr result (λ fault.
+            HasCleanDisk (state S.Store fault.1) → IsTrue (state S.Store fault.1).is_open →
+            (state S.Store fault.1).now ≡ (state S.Store conn).now) }
+        ensures not_ours { IfErr result (λ fault.
+            HasCleanDisk (state S.Store fault.1) → fault.0 ≡ faults.NotOurs → (lives : Lives) →
+            ¬ StandIn (state S.Store conn).now lives) }
+        // No transaction is left open, and one that was open is refused and stays.
+        ensures settled { (state S.Store conn).in_transaction ≡ false →
+            IfErr result (λ fault. IsSettled (state S.Store fault.1)) }
+        ensures open_transaction { IsTrue (state S.Store conn).in_transaction →
+            result ≡ Err (faults.Refused, conn) }
+        // A crash leaves what it could leave before, or a database of the same lives.
+        ensures crash { IfOk result (λ records.
+            Survives (state S.Store conn) (state S.Store records)
+            (HoldsSame (state S.Store conn).now)) }
+        ensures fault_crash { IfErr result (λ fault.
+            Survives (state S.Store conn) (state S.Store fault.1)
+            (HoldsSame (state S.Store conn).now)) }
     {
         match take_over(&mut conn, alloc) {
             Ok(()) => Ok(Records { conn, alloc }),
@@ -99,8 +116,11 @@ impl<S: Alter> Records<S> {
     /// The lives are well formed, and a crash now leaves a database of these lives and nothing else.
     /// It does nothing when it runs.
     pub fn are_whole(&self)
-        ensures whole { HasCleanDisk (state S.Store self.now) → IsTrue (state S.Store self.now).is_open → IsLives (stored (state S.Store self.now)) }
-        ensures kept { HasCleanDisk (state S.Store self.now) → IsTrue (state S.Store self.now).is_open → KeepsLives (state S.Store self.now) (stored (state S.Store self.now)) }
+        ensures whole { HasCleanDisk (state S.Store self.now) →
+            IsTrue (state S.Store self.now).is_open → IsLives (stored (state S.Store self.now)) }
+        ensures kept { HasCleanDisk (state S.Store self.now) →
+            IsTrue (state S.Store self.now).is_open →
+            KeepsLives (state S.Store self.now) (stored (state S.Store self.now)) }
     {
         let _ = self.conn.schema();
     }
@@ -108,11 +128,10 @@ impl<S: Alter> Records<S> {
     /// All orders of the instance.
     #[tactic(auto, using(crate::proofs::ReadLemmas::life_told))]
     pub fn life(&mut self, alloc: Global, instance: &str) -> Result<Vec<Order>, StoreFault>
-        ensures ok { HasCleanDisk (state S.Store self.new) → IfOk result (λ life. life.items ≡ life_of (stored (state S.Store self.old)) instance.now) }
-        ensures same { HasCleanDisk (state S.Store self.new) → IsTrue (state S.Store self.new).is_open → stored (state S.Store self.new) ≡ stored (state S.Store self.old) }
-        ensures was_open { HasCleanDisk (state S.Store self.new) → IsTrue (state S.Store self.new).is_open → IsTrue (state S.Store self.old).is_open }
-        ensures open { HasCleanDisk (state S.Store self.new) → OnOk result (IsTrue (state S.Store self.old).is_open) }
-        ensures crash { Survives (state S.Store self.old) (state S.Store self.new) (λ _. ⊥) }
+        ensures ok { HasCleanDisk (state S.Store self.new) →
+            IfOk result (λ life.
+            life.items ≡ life_of (stored (state S.Store self.old)) instance.now) }
+        ensures looks { Looks (state S.Store self.old) (state S.Store self.new) result }
     {
         let rows = read_life(&mut self.conn, instance)?;
         orders_in(alloc, &rows)
@@ -126,11 +145,10 @@ impl<S: Alter> Records<S> {
         after: &str,
         limit: u32,
     ) -> Result<Vec<(Text, Order)>, StoreFault>
-        ensures ok { HasCleanDisk (state S.Store self.new) → IfOk result (λ pairs. pairs.items ≡ listing (stored (state S.Store self.old)) after.now limit) }
-        ensures same { HasCleanDisk (state S.Store self.new) → IsTrue (state S.Store self.new).is_open → stored (state S.Store self.new) ≡ stored (state S.Store self.old) }
-        ensures was_open { HasCleanDisk (state S.Store self.new) → IsTrue (state S.Store self.new).is_open → IsTrue (state S.Store self.old).is_open }
-        ensures open { HasCleanDisk (state S.Store self.new) → OnOk result (IsTrue (state S.Store self.old).is_open) }
-        ensures crash { Survives (state S.Store self.old) (state S.Store self.new) (λ _. ⊥) }
+        ensures ok { HasCleanDisk (state S.Store self.new) →
+            IfOk result (λ pairs.
+            pairs.items ≡ listing (stored (state S.Store self.old)) after.now limit) }
+        ensures looks { Looks (state S.Store self.old) (state S.Store self.new) result }
     {
         read_running(&mut self.conn, alloc, after, limit)
     }
@@ -138,22 +156,21 @@ impl<S: Alter> Records<S> {
     /// The pairs of service and plan of the instances that aren't absent and of the Updates that run,
     /// each once, in the order of their bytes.
     pub fn plans_in_use(&mut self, alloc: Global) -> Result<Vec<(Text, Text)>, StoreFault>
-        ensures ok { HasCleanDisk (state S.Store self.new) → IfOk result (λ plans. plans.items ≡ plans_in_use (stored (state S.Store self.old))) }
-        ensures same { HasCleanDisk (state S.Store self.new) → IsTrue (state S.Store self.new).is_open → stored (state S.Store self.new) ≡ stored (state S.Store self.old) }
-        ensures was_open { HasCleanDisk (state S.Store self.new) → IsTrue (state S.Store self.new).is_open → IsTrue (state S.Store self.old).is_open }
-        ensures open { HasCleanDisk (state S.Store self.new) → OnOk result (IsTrue (state S.Store self.old).is_open) }
-        ensures crash { Survives (state S.Store self.old) (state S.Store self.new) (λ _. ⊥) }
+        ensures ok { HasCleanDisk (state S.Store self.new) →
+            IfOk result (λ plans. plans.items ≡ plans_in_use (stored (state S.Store self.old))) }
+        ensures looks { Looks (state S.Store self.old) (state S.Store self.new) result }
     {
         read_plans(&mut self.conn, alloc)
     }
 
     /// What the ask needs to know of the lives.
     pub fn view(&mut self, alloc: Global, ask: &Ask) -> Result<View, StoreFault>
-        ensures ok { HasCleanDisk (state S.Store self.new) → IfOk result (λ view. facts view ≡ view_of (stored (state S.Store self.old)) ask.now) }
-        ensures same { HasCleanDisk (state S.Store self.new) → IsTrue (state S.Store self.new).is_open → stored (state S.Store self.new) ≡ stored (state S.Store self.old) }
-        ensures was_open { HasCleanDisk (state S.Store self.new) → IsTrue (state S.Store self.new).is_open → IsTrue (state S.Store self.old).is_open }
-        ensures open { HasCleanDisk (state S.Store self.new) → is_catalog ask.now ≡ false → OnOk result (IsTrue (state S.Store self.old).is_open) }
-        ensures crash { Survives (state S.Store self.old) (state S.Store self.new) (λ _. ⊥) }
+        ensures ok { HasCleanDisk (state S.Store self.new) →
+            IfOk result (λ view. facts view ≡ view_of (stored (state S.Store self.old)) ask.now) }
+        // For the catalog nothing is read, whatever has become of the store.
+        ensures open { HasCleanDisk (state S.Store self.new) → is_catalog ask.now ≡ false →
+            OnOk result (IsTrue (state S.Store self.old).is_open) }
+        ensures looks { MayLook (state S.Store self.old) (state S.Store self.new) }
     {
         match ask.instance() {
             Some(instance) => view_of_instance(&mut self.conn, alloc, instance.as_str(), ask),
@@ -165,15 +182,35 @@ impl<S: Alter> Records<S> {
     /// nothing is changed; where a failed disk shuts the store, the next opening finds the lives as
     /// they were or as they would be.
     pub fn commit(&mut self, instance: &str, change: &Change) -> Result<(), StoreFault>
-        requires whole { HasCleanDisk (state S.Store self.old) → IsTrue (state S.Store self.old).is_open → IsLives (lives_changed change.now instance.now (stored (state S.Store self.old))) }
-        requires finishes { HasCleanDisk (state S.Store self.old) → IsTrue (state S.Store self.old).is_open → FinishesLast (life_of (stored (state S.Store self.old)) instance.now) change.now }
-        ensures ok { HasCleanDisk (state S.Store self.new) → OnOk result (stored (state S.Store self.new) ≡ lives_changed change.now instance.now (stored (state S.Store self.old))) }
-        ensures err { HasCleanDisk (state S.Store self.new) → IsTrue (state S.Store self.new).is_open → OnErr result (stored (state S.Store self.new) ≡ stored (state S.Store self.old)) }
-        ensures was_open { HasCleanDisk (state S.Store self.new) → IsTrue (state S.Store self.new).is_open → IsTrue (state S.Store self.old).is_open }
-        ensures open { HasCleanDisk (state S.Store self.new) → change.now ≢ Nothing → OnOk result (IsTrue (state S.Store self.old).is_open) }
-        ensures crash { Survives (state S.Store self.old) (state S.Store self.new) (Commits (state S.Store self.old) (lives_changed change.now instance.now (stored (state S.Store self.old)))) }
-        ensures durable { HasCleanDisk (state S.Store self.new) → IsTrue (state S.Store self.new).is_open → OnOk result (LeavesOnly (state S.Store self.new) (stored (state S.Store self.new))) }
-        ensures lasts { HasCleanDisk (state S.Store self.new) → OnOk result ((db : Trees) → (state S.Store self.new).may_leave db → Lasts (state S.Store self.old) change.now instance.now db) }
+        // The changed lives are well formed, and what is finished is a running last order.
+        requires whole { HasCleanDisk (state S.Store self.old) →
+            IsTrue (state S.Store self.old).is_open →
+            IsLives (lives_changed change.now instance.now (stored (state S.Store self.old))) }
+        requires finishes { HasCleanDisk (state S.Store self.old) →
+            IsTrue (state S.Store self.old).is_open →
+            FinishesLast (life_of (stored (state S.Store self.old)) instance.now) change.now }
+        // At `Ok` the change was made, and with an error nothing was.
+        ensures ok { HasCleanDisk (state S.Store self.new) →
+            OnOk result (stored (state S.Store self.new) ≡
+            lives_changed change.now instance.now (stored (state S.Store self.old))) }
+        ensures err { HasCleanDisk (state S.Store self.new) →
+            IsTrue (state S.Store self.new).is_open →
+            OnErr result (stored (state S.Store self.new) ≡ stored (state S.Store self.old)) }
+        // A store that a fault has shut stays shut, and no change is made in it.
+        ensures was_open { HasCleanDisk (state S.Store self.new) →
+            IsTrue (state S.Store self.new).is_open → IsTrue (state S.Store self.old).is_open }
+        ensures open { HasCleanDisk (state S.Store self.new) → change.now ≢ Nothing →
+            OnOk result (IsTrue (state S.Store self.old).is_open) }
+        // A crash of the call leaves what it left before, or the changed lives; a crash after `Ok` leaves these alone.
+        ensures crash { Survives (state S.Store self.old) (state S.Store self.new) (Commits
+            (state S.Store self.old) (lives_changed change.now instance.now (stored
+            (state S.Store self.old)))) }
+        ensures durable { HasCleanDisk (state S.Store self.new) →
+            IsTrue (state S.Store self.new).is_open →
+            OnOk result (LeavesOnly (state S.Store self.new) (stored (state S.Store self.new))) }
+        ensures lasts { HasCleanDisk (state S.Store self.new) →
+            OnOk result ((db : Trees) → (state S.Store self.new).may_leave db →
+            Lasts (state S.Store self.old) change.now instance.now db) }
     {
         match change {
             Change::Nothing => Ok(()),

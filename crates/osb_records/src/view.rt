@@ -3,7 +3,7 @@
 ghost use Rattle.std.specs.Prelude.{◌≡◌, false, [], filter, Some, None, unwrap_or, IsTrue, IfOk, OnOk, option_copied, option_and_then};
 ghost use Rattle.std.specs.FinMap.{get};
 ghost use Rattle.sqlite.specs.Held.{state};
-ghost use Rattle.sqlite.specs.State.{HasCleanDisk, IsUnchanged, KeepsCommit, Survives};
+ghost use Rattle.sqlite.specs.State.{HasCleanDisk};
 ghost use Rattle.osb_orders.specs.Lists.{last_of};
 ghost use Rattle.osb_orders.specs.Orders.{is_of_instance, is_of_binding};
 ghost use Rattle.osb_orders.specs.Lives.{life_of};
@@ -12,15 +12,18 @@ ghost use Rattle.osb_asks.specs.declared.ask.Ask.TheVariants as asks;
 ghost use Rattle.osb_orders.specs.Facts.{facts, view_of};
 ghost use Rattle.osb_orders.specs.Named.{instance_in, binding_in, subject, named_by, named_in};
 ghost use Rattle.osb_standing.specs.Rows.{row_of, bindings_of};
-ghost use Rattle.osb_standing.specs.Laws.{count_in, has_rows};
+ghost use Rattle.osb_standing.specs.Laws.{has_rows};
 ghost use Rattle.osb_standing.specs.Read.{IsReadOf};
 ghost use Rattle.osb_records.specs.Steps.{IsReady, stored};
 ghost use Rattle.osb_records.specs.Queries.{ShowsRecords, only, listed_facts};
+ghost use Rattle.osb_records.specs.Reads.{Reads, MayRead, Finds, MayFind, behind};
+ghost use Rattle.osb_records.specs.Looks.{Looks, MayLook};
 
 use crate::bindings::{is_bound, read_binding};
 use crate::fault::StoreFault;
 use crate::instances::read_instance;
-use crate::queries::{last_of_binding, last_of_instance, order_named, order_numbered};
+use crate::orders::order_numbered;
+use crate::queries::{last_of_binding, last_of_instance, order_named};
 use crate::reading::read_running;
 use osb_asks::{Ask, Orders};
 use osb_orders::{BindingNow, Order, View};
@@ -33,36 +36,29 @@ use std::alloc::Global;
 const LISTED: u32 = 100;
 
 /// The row of the instance.
-#[tactic(auto, using(crate::proofs::NamedLemmas::shows_again))]
 fn read_row<S: Alter>(
     tx: &mut Transaction<'_, S>,
     instance: &str,
 ) -> Result<Option<InstanceRow>, StoreFault>
-    requires { ShowsRecords (state S.Store tx.old.conn.now) }
-    ensures same_reference { tx.new.conn.ghost_name ≡ tx.old.conn.ghost_name }
-    ensures ok { HasCleanDisk (state S.Store tx.new.conn.now) → IfOk result (λ row. row ≡ row_of (life_of (stored (state S.Store tx.old.conn.now)) instance.now)) }
-    ensures same { HasCleanDisk (state S.Store tx.new.conn.now) → OnOk result (IsUnchanged (state S.Store tx.old.conn.now) (state S.Store tx.new.conn.now)) }
-    ensures shows { OnOk result (ShowsRecords (state S.Store tx.new.conn.now)) }
-    ensures kept { HasCleanDisk (state S.Store tx.new.conn.now) → IsTrue (state S.Store tx.old.conn.now).in_transaction → KeepsCommit (state S.Store tx.old.conn.now) (state S.Store tx.new.conn.now) }
-    ensures survives { Survives (state S.Store tx.old.conn.now) (state S.Store tx.new.conn.now) (λ _. ⊥) }
+    requires { ShowsRecords (behind S.Store tx.old) }
+    ensures ok { Finds S.Store tx.old tx.new result (λ s row.
+        row ≡ row_of (life_of (stored s) instance.now)) }
+    ensures reads { Reads S.Store tx.old tx.new result }
 {
     read_instance(tx, instance)
 }
 
 /// The last order of the instance, by its row.
-#[tactic(auto, using(crate::proofs::NamedLemmas::shows_again))]
 fn read_last<S: Alter>(
     tx: &mut Transaction<'_, S>,
     instance: &str,
     row: Option<&InstanceRow>,
 ) -> Result<Option<Order>, StoreFault>
-    requires { ShowsRecords (state S.Store tx.old.conn.now) }
-    ensures same_reference { tx.new.conn.ghost_name ≡ tx.old.conn.ghost_name }
-    ensures ok { HasCleanDisk (state S.Store tx.new.conn.now) → IfOk result (λ order. option_copied row.entry ≡ row_of (life_of (stored (state S.Store tx.old.conn.now)) instance.now) → order ≡ last_of (life_of (stored (state S.Store tx.old.conn.now)) instance.now)) }
-    ensures same { HasCleanDisk (state S.Store tx.new.conn.now) → IsTrue (state S.Store tx.old.conn.now).is_open → OnOk result (IsUnchanged (state S.Store tx.old.conn.now) (state S.Store tx.new.conn.now)) }
-    ensures shows { OnOk result (ShowsRecords (state S.Store tx.new.conn.now)) }
-    ensures kept { HasCleanDisk (state S.Store tx.new.conn.now) → IsTrue (state S.Store tx.old.conn.now).in_transaction → KeepsCommit (state S.Store tx.old.conn.now) (state S.Store tx.new.conn.now) }
-    ensures survives { Survives (state S.Store tx.old.conn.now) (state S.Store tx.new.conn.now) (λ _. ⊥) }
+    requires { ShowsRecords (behind S.Store tx.old) }
+    ensures ok { Finds S.Store tx.old tx.new result (λ s order.
+        option_copied row.entry ≡ row_of (life_of (stored s) instance.now) →
+        order ≡ last_of (life_of (stored s) instance.now)) }
+    ensures reads { MayRead S.Store tx.old tx.new result }
 {
     match row {
         Some(row) => order_numbered(tx, instance, row.last_number),
@@ -71,18 +67,15 @@ fn read_last<S: Alter>(
 }
 
 /// The row of the instance and its last order.
-#[tactic(auto, using(crate::proofs::NamedLemmas::shows_again))]
 fn read_standing<S: Alter>(
     tx: &mut Transaction<'_, S>,
     instance: &str,
 ) -> Result<(Option<InstanceRow>, Option<Order>), StoreFault>
-    requires { ShowsRecords (state S.Store tx.old.conn.now) }
-    ensures same_reference { tx.new.conn.ghost_name ≡ tx.old.conn.ghost_name }
-    ensures ok { HasCleanDisk (state S.Store tx.new.conn.now) → IfOk result (λ found. (found.0 ≡ row_of (life_of (stored (state S.Store tx.old.conn.now)) instance.now)) × (found.1 ≡ last_of (life_of (stored (state S.Store tx.old.conn.now)) instance.now))) }
-    ensures same { HasCleanDisk (state S.Store tx.new.conn.now) → OnOk result (IsUnchanged (state S.Store tx.old.conn.now) (state S.Store tx.new.conn.now)) }
-    ensures shows { OnOk result (ShowsRecords (state S.Store tx.new.conn.now)) }
-    ensures kept { HasCleanDisk (state S.Store tx.new.conn.now) → IsTrue (state S.Store tx.old.conn.now).in_transaction → KeepsCommit (state S.Store tx.old.conn.now) (state S.Store tx.new.conn.now) }
-    ensures survives { Survives (state S.Store tx.old.conn.now) (state S.Store tx.new.conn.now) (λ _. ⊥) }
+    requires { ShowsRecords (behind S.Store tx.old) }
+    ensures ok { Finds S.Store tx.old tx.new result (λ s found.
+        (found.0 ≡ row_of (life_of (stored s) instance.now))
+        × (found.1 ≡ last_of (life_of (stored s) instance.now))) }
+    ensures reads { Reads S.Store tx.old tx.new result }
 {
     let row = read_row(tx, instance)?;
     let last = read_last(tx, instance, row.as_ref())?;
@@ -90,34 +83,27 @@ fn read_standing<S: Alter>(
 }
 
 /// Whether a binding of the instance remains.
-#[tactic(auto, using(crate::proofs::NamedLemmas::shows_again))]
 fn read_bound<S: Alter>(tx: &mut Transaction<'_, S>, instance: &str) -> Result<bool, StoreFault>
-    requires { ShowsRecords (state S.Store tx.old.conn.now) }
-    ensures same_reference { tx.new.conn.ghost_name ≡ tx.old.conn.ghost_name }
-    ensures ok { HasCleanDisk (state S.Store tx.new.conn.now) → IfOk result (λ bound. bound ≡ has_rows (bindings_of (life_of (stored (state S.Store tx.old.conn.now)) instance.now))) }
-    ensures same { HasCleanDisk (state S.Store tx.new.conn.now) → OnOk result (IsUnchanged (state S.Store tx.old.conn.now) (state S.Store tx.new.conn.now)) }
-    ensures shows { OnOk result (ShowsRecords (state S.Store tx.new.conn.now)) }
-    ensures kept { HasCleanDisk (state S.Store tx.new.conn.now) → IsTrue (state S.Store tx.old.conn.now).in_transaction → KeepsCommit (state S.Store tx.old.conn.now) (state S.Store tx.new.conn.now) }
-    ensures survives { Survives (state S.Store tx.old.conn.now) (state S.Store tx.new.conn.now) (λ _. ⊥) }
+    requires { ShowsRecords (behind S.Store tx.old) }
+    ensures ok { Finds S.Store tx.old tx.new result (λ s bound.
+        bound ≡ has_rows (bindings_of (life_of (stored s) instance.now))) }
+    ensures reads { Reads S.Store tx.old tx.new result }
 {
     is_bound(tx, instance)
 }
 
 /// The row of the binding that the ask names.
-#[tactic(auto, using(crate::proofs::NamedLemmas::shows_again))]
 fn read_binding_for<S: Alter>(
     tx: &mut Transaction<'_, S>,
     alloc: Global,
     instance: &str,
     ask: &Ask,
 ) -> Result<Option<BindingNow>, StoreFault>
-    requires { ShowsRecords (state S.Store tx.old.conn.now) }
-    ensures same_reference { tx.new.conn.ghost_name ≡ tx.old.conn.ghost_name }
-    ensures ok { HasCleanDisk (state S.Store tx.new.conn.now) → IsTrue (state S.Store tx.old.conn.now).is_open → IfOk result (λ row. row ≡ option_and_then (λ id. get (bindings_of (life_of (stored (state S.Store tx.old.conn.now)) instance.now)) id) (binding_in ask.now)) }
-    ensures same { HasCleanDisk (state S.Store tx.new.conn.now) → IsTrue (state S.Store tx.old.conn.now).is_open → OnOk result (IsUnchanged (state S.Store tx.old.conn.now) (state S.Store tx.new.conn.now)) }
-    ensures shows { OnOk result (ShowsRecords (state S.Store tx.new.conn.now)) }
-    ensures kept { HasCleanDisk (state S.Store tx.new.conn.now) → IsTrue (state S.Store tx.old.conn.now).in_transaction → KeepsCommit (state S.Store tx.old.conn.now) (state S.Store tx.new.conn.now) }
-    ensures survives { Survives (state S.Store tx.old.conn.now) (state S.Store tx.new.conn.now) (λ _. ⊥) }
+    requires { ShowsRecords (behind S.Store tx.old) }
+    ensures ok { MayFind S.Store tx.old tx.new result (λ s row.
+        row ≡ option_and_then (λ id.
+        get (bindings_of (life_of (stored s) instance.now)) id) (binding_in ask.now)) }
+    ensures reads { MayRead S.Store tx.old tx.new result }
 {
     match ask.binding() {
         Some(binding) => read_binding(tx, alloc, instance, binding.as_str()),
@@ -144,20 +130,17 @@ fn only_of_binding(found: Option<Order>, binding: &str) -> Option<Order>
 }
 
 /// The order of that name among those of the instance.
-#[tactic(auto, using(crate::proofs::NamedLemmas::shows_again))]
 fn named_of_instance<S: Alter>(
     tx: &mut Transaction<'_, S>,
     alloc: Global,
     instance: &str,
     operation: Option<&Text>,
 ) -> Result<Option<Order>, StoreFault>
-    requires { ShowsRecords (state S.Store tx.old.conn.now) }
-    ensures same_reference { tx.new.conn.ghost_name ≡ tx.old.conn.ghost_name }
-    ensures ok { HasCleanDisk (state S.Store tx.new.conn.now) → IsTrue (state S.Store tx.old.conn.now).is_open → IfOk result (λ order. order ≡ named_by (option_copied operation.entry) (filter is_of_instance (life_of (stored (state S.Store tx.old.conn.now)) instance.now))) }
-    ensures same { HasCleanDisk (state S.Store tx.new.conn.now) → IsTrue (state S.Store tx.old.conn.now).is_open → OnOk result (IsUnchanged (state S.Store tx.old.conn.now) (state S.Store tx.new.conn.now)) }
-    ensures shows { OnOk result (ShowsRecords (state S.Store tx.new.conn.now)) }
-    ensures kept { HasCleanDisk (state S.Store tx.new.conn.now) → IsTrue (state S.Store tx.old.conn.now).in_transaction → KeepsCommit (state S.Store tx.old.conn.now) (state S.Store tx.new.conn.now) }
-    ensures survives { Survives (state S.Store tx.old.conn.now) (state S.Store tx.new.conn.now) (λ _. ⊥) }
+    requires { ShowsRecords (behind S.Store tx.old) }
+    ensures ok { MayFind S.Store tx.old tx.new result (λ s order.
+        order ≡ named_by (option_copied operation.entry) (filter is_of_instance (life_of
+        (stored s) instance.now))) }
+    ensures reads { MayRead S.Store tx.old tx.new result }
 {
     let Some(name) = operation else {
         return Ok(None);
@@ -167,7 +150,6 @@ fn named_of_instance<S: Alter>(
 }
 
 /// The order of that name among those of the binding.
-#[tactic(auto, using(crate::proofs::NamedLemmas::shows_again))]
 fn named_of_binding<S: Alter>(
     tx: &mut Transaction<'_, S>,
     alloc: Global,
@@ -175,13 +157,11 @@ fn named_of_binding<S: Alter>(
     binding: &str,
     operation: Option<&Text>,
 ) -> Result<Option<Order>, StoreFault>
-    requires { ShowsRecords (state S.Store tx.old.conn.now) }
-    ensures same_reference { tx.new.conn.ghost_name ≡ tx.old.conn.ghost_name }
-    ensures ok { HasCleanDisk (state S.Store tx.new.conn.now) → IsTrue (state S.Store tx.old.conn.now).is_open → IfOk result (λ order. order ≡ named_by (option_copied operation.entry) (filter (is_of_binding binding.now) (life_of (stored (state S.Store tx.old.conn.now)) instance.now))) }
-    ensures same { HasCleanDisk (state S.Store tx.new.conn.now) → IsTrue (state S.Store tx.old.conn.now).is_open → OnOk result (IsUnchanged (state S.Store tx.old.conn.now) (state S.Store tx.new.conn.now)) }
-    ensures shows { OnOk result (ShowsRecords (state S.Store tx.new.conn.now)) }
-    ensures kept { HasCleanDisk (state S.Store tx.new.conn.now) → IsTrue (state S.Store tx.old.conn.now).in_transaction → KeepsCommit (state S.Store tx.old.conn.now) (state S.Store tx.new.conn.now) }
-    ensures survives { Survives (state S.Store tx.old.conn.now) (state S.Store tx.new.conn.now) (λ _. ⊥) }
+    requires { ShowsRecords (behind S.Store tx.old) }
+    ensures ok { MayFind S.Store tx.old tx.new result (λ s order.
+        order ≡ named_by (option_copied operation.entry)
+        (filter (is_of_binding binding.now) (life_of (stored s) instance.now))) }
+    ensures reads { MayRead S.Store tx.old tx.new result }
 {
     let Some(name) = operation else {
         return Ok(None);
@@ -191,20 +171,16 @@ fn named_of_binding<S: Alter>(
 }
 
 /// The order that the ask names.
-#[tactic(auto, using(crate::proofs::NamedLemmas::shows_again))]
 fn read_named<S: Alter>(
     tx: &mut Transaction<'_, S>,
     alloc: Global,
     instance: &str,
     ask: &Ask,
 ) -> Result<Option<Order>, StoreFault>
-    requires { ShowsRecords (state S.Store tx.old.conn.now) }
-    ensures same_reference { tx.new.conn.ghost_name ≡ tx.old.conn.ghost_name }
-    ensures ok { HasCleanDisk (state S.Store tx.new.conn.now) → IsTrue (state S.Store tx.old.conn.now).is_open → IfOk result (λ order. order ≡ named_in ask.now (life_of (stored (state S.Store tx.old.conn.now)) instance.now)) }
-    ensures same { HasCleanDisk (state S.Store tx.new.conn.now) → IsTrue (state S.Store tx.old.conn.now).is_open → OnOk result (IsUnchanged (state S.Store tx.old.conn.now) (state S.Store tx.new.conn.now)) }
-    ensures shows { OnOk result (ShowsRecords (state S.Store tx.new.conn.now)) }
-    ensures kept { HasCleanDisk (state S.Store tx.new.conn.now) → IsTrue (state S.Store tx.old.conn.now).in_transaction → KeepsCommit (state S.Store tx.old.conn.now) (state S.Store tx.new.conn.now) }
-    ensures survives { Survives (state S.Store tx.old.conn.now) (state S.Store tx.new.conn.now) (λ _. ⊥) }
+    requires { ShowsRecords (behind S.Store tx.old) }
+    ensures ok { MayFind S.Store tx.old tx.new result (λ s order.
+        order ≡ named_in ask.now (life_of (stored s) instance.now)) }
+    ensures reads { MayRead S.Store tx.old tx.new result }
 {
     match ask {
         Ask::InstanceOp(poll) => named_of_instance(tx, alloc, instance, poll.operation.as_ref()),
@@ -229,19 +205,15 @@ fn read_named<S: Alter>(
 }
 
 /// The last of the orders that a poll is about.
-#[tactic(auto, using(crate::proofs::NamedLemmas::shows_again))]
 fn read_subject<S: Alter>(
     tx: &mut Transaction<'_, S>,
     instance: &str,
     ask: &Ask,
 ) -> Result<Option<Order>, StoreFault>
-    requires { ShowsRecords (state S.Store tx.old.conn.now) }
-    ensures same_reference { tx.new.conn.ghost_name ≡ tx.old.conn.ghost_name }
-    ensures ok { HasCleanDisk (state S.Store tx.new.conn.now) → IsTrue (state S.Store tx.old.conn.now).is_open → IfOk result (λ order. order ≡ last_of (subject ask.now (life_of (stored (state S.Store tx.old.conn.now)) instance.now))) }
-    ensures same { HasCleanDisk (state S.Store tx.new.conn.now) → IsTrue (state S.Store tx.old.conn.now).is_open → OnOk result (IsUnchanged (state S.Store tx.old.conn.now) (state S.Store tx.new.conn.now)) }
-    ensures shows { OnOk result (ShowsRecords (state S.Store tx.new.conn.now)) }
-    ensures kept { HasCleanDisk (state S.Store tx.new.conn.now) → IsTrue (state S.Store tx.old.conn.now).in_transaction → KeepsCommit (state S.Store tx.old.conn.now) (state S.Store tx.new.conn.now) }
-    ensures survives { Survives (state S.Store tx.old.conn.now) (state S.Store tx.new.conn.now) (λ _. ⊥) }
+    requires { ShowsRecords (behind S.Store tx.old) }
+    ensures ok { MayFind S.Store tx.old tx.new result (λ s order.
+        order ≡ last_of (subject ask.now (life_of (stored s) instance.now))) }
+    ensures reads { MayRead S.Store tx.old tx.new result }
 {
     match ask {
         Ask::InstanceOp(_) => last_of_instance(tx, instance),
@@ -266,13 +238,12 @@ fn read_bindings<S: Alter>(
     instance: &str,
     ask: &Ask,
 ) -> Result<(Option<BindingNow>, bool), StoreFault>
-    requires { ShowsRecords (state S.Store tx.old.conn.now) }
-    ensures same_reference { tx.new.conn.ghost_name ≡ tx.old.conn.ghost_name }
-    ensures ok { HasCleanDisk (state S.Store tx.new.conn.now) → IfOk result (λ found. (found.0 ≡ option_and_then (λ id. get (bindings_of (life_of (stored (state S.Store tx.old.conn.now)) instance.now)) id) (binding_in ask.now)) × (found.1 ≡ has_rows (bindings_of (life_of (stored (state S.Store tx.old.conn.now)) instance.now)))) }
-    ensures same { HasCleanDisk (state S.Store tx.new.conn.now) → OnOk result (IsUnchanged (state S.Store tx.old.conn.now) (state S.Store tx.new.conn.now)) }
-    ensures shows { OnOk result (ShowsRecords (state S.Store tx.new.conn.now)) }
-    ensures kept { HasCleanDisk (state S.Store tx.new.conn.now) → IsTrue (state S.Store tx.old.conn.now).in_transaction → KeepsCommit (state S.Store tx.old.conn.now) (state S.Store tx.new.conn.now) }
-    ensures survives { Survives (state S.Store tx.old.conn.now) (state S.Store tx.new.conn.now) (λ _. ⊥) }
+    requires { ShowsRecords (behind S.Store tx.old) }
+    ensures ok { Finds S.Store tx.old tx.new result (λ s found.
+        (found.0 ≡ option_and_then (λ id.
+        get (bindings_of (life_of (stored s) instance.now)) id) (binding_in ask.now))
+        × (found.1 ≡ has_rows (bindings_of (life_of (stored s) instance.now)))) }
+    ensures reads { Reads S.Store tx.old tx.new result }
 {
     let bound = read_bound(tx, instance)?;
     let binding = read_binding_for(tx, alloc, instance, ask)?;
@@ -286,13 +257,11 @@ fn read_polled<S: Alter>(
     instance: &str,
     ask: &Ask,
 ) -> Result<(Option<Order>, Option<Order>), StoreFault>
-    requires { ShowsRecords (state S.Store tx.old.conn.now) }
-    ensures same_reference { tx.new.conn.ghost_name ≡ tx.old.conn.ghost_name }
-    ensures ok { HasCleanDisk (state S.Store tx.new.conn.now) → IsTrue (state S.Store tx.old.conn.now).is_open → IfOk result (λ found. (found.0 ≡ named_in ask.now (life_of (stored (state S.Store tx.old.conn.now)) instance.now)) × (found.1 ≡ last_of (subject ask.now (life_of (stored (state S.Store tx.old.conn.now)) instance.now)))) }
-    ensures same { HasCleanDisk (state S.Store tx.new.conn.now) → IsTrue (state S.Store tx.old.conn.now).is_open → OnOk result (IsUnchanged (state S.Store tx.old.conn.now) (state S.Store tx.new.conn.now)) }
-    ensures shows { OnOk result (ShowsRecords (state S.Store tx.new.conn.now)) }
-    ensures kept { HasCleanDisk (state S.Store tx.new.conn.now) → IsTrue (state S.Store tx.old.conn.now).is_open → IsTrue (state S.Store tx.old.conn.now).in_transaction → KeepsCommit (state S.Store tx.old.conn.now) (state S.Store tx.new.conn.now) }
-    ensures survives { Survives (state S.Store tx.old.conn.now) (state S.Store tx.new.conn.now) (λ _. ⊥) }
+    requires { ShowsRecords (behind S.Store tx.old) }
+    ensures ok { MayFind S.Store tx.old tx.new result (λ s found.
+        (found.0 ≡ named_in ask.now (life_of (stored s) instance.now))
+        × (found.1 ≡ last_of (subject ask.now (life_of (stored s) instance.now)))) }
+    ensures reads { MayRead S.Store tx.old tx.new result }
 {
     let named = read_named(tx, alloc, instance, ask)?;
     let subject_last = read_subject(tx, instance, ask)?;
@@ -315,13 +284,14 @@ fn read_asked<S: Alter>(
     instance: &str,
     ask: &Ask,
 ) -> Result<Asked, StoreFault>
-    requires { ShowsRecords (state S.Store tx.old.conn.now) }
-    ensures same_reference { tx.new.conn.ghost_name ≡ tx.old.conn.ghost_name }
-    ensures ok { HasCleanDisk (state S.Store tx.new.conn.now) → IfOk result (λ asked. ((asked.binding ≡ option_and_then (λ id. get (bindings_of (life_of (stored (state S.Store tx.old.conn.now)) instance.now)) id) (binding_in ask.now)) × (asked.bound ≡ has_rows (bindings_of (life_of (stored (state S.Store tx.old.conn.now)) instance.now)))) × ((asked.named ≡ named_in ask.now (life_of (stored (state S.Store tx.old.conn.now)) instance.now)) × (asked.subject_last ≡ last_of (subject ask.now (life_of (stored (state S.Store tx.old.conn.now)) instance.now))))) }
-    ensures same { HasCleanDisk (state S.Store tx.new.conn.now) → OnOk result (IsUnchanged (state S.Store tx.old.conn.now) (state S.Store tx.new.conn.now)) }
-    ensures shows { OnOk result (ShowsRecords (state S.Store tx.new.conn.now)) }
-    ensures kept { HasCleanDisk (state S.Store tx.new.conn.now) → IsTrue (state S.Store tx.old.conn.now).in_transaction → KeepsCommit (state S.Store tx.old.conn.now) (state S.Store tx.new.conn.now) }
-    ensures survives { Survives (state S.Store tx.old.conn.now) (state S.Store tx.new.conn.now) (λ _. ⊥) }
+    requires { ShowsRecords (behind S.Store tx.old) }
+    ensures ok { Finds S.Store tx.old tx.new result (λ s asked.
+        ((asked.binding ≡ option_and_then (λ id.
+        get (bindings_of (life_of (stored s) instance.now)) id) (binding_in ask.now))
+        × (asked.bound ≡ has_rows (bindings_of (life_of (stored s) instance.now))))
+        × ((asked.named ≡ named_in ask.now (life_of (stored s) instance.now))
+        × (asked.subject_last ≡ last_of (subject ask.now (life_of (stored s) instance.now))))) }
+    ensures reads { Reads S.Store tx.old tx.new result }
 {
     let (binding, bound) = read_bindings(tx, alloc, instance, ask)?;
     let (named, subject_last) = read_polled(tx, alloc, instance, ask)?;
@@ -334,7 +304,6 @@ fn read_asked<S: Alter>(
 }
 
 /// What the ask names, of an instance with this row. Where it has none, nothing is read.
-#[tactic(auto, using(crate::proofs::NamedLemmas::shows_again))]
 fn read_asked_of<S: Alter>(
     tx: &mut Transaction<'_, S>,
     alloc: Global,
@@ -342,13 +311,15 @@ fn read_asked_of<S: Alter>(
     ask: &Ask,
     row: Option<&InstanceRow>,
 ) -> Result<Asked, StoreFault>
-    requires { ShowsRecords (state S.Store tx.old.conn.now) }
-    ensures same_reference { tx.new.conn.ghost_name ≡ tx.old.conn.ghost_name }
-    ensures ok { HasCleanDisk (state S.Store tx.new.conn.now) → IfOk result (λ asked. option_copied row.entry ≡ row_of (life_of (stored (state S.Store tx.old.conn.now)) instance.now) → ((asked.binding ≡ option_and_then (λ id. get (bindings_of (life_of (stored (state S.Store tx.old.conn.now)) instance.now)) id) (binding_in ask.now)) × (asked.bound ≡ has_rows (bindings_of (life_of (stored (state S.Store tx.old.conn.now)) instance.now)))) × ((asked.named ≡ named_in ask.now (life_of (stored (state S.Store tx.old.conn.now)) instance.now)) × (asked.subject_last ≡ last_of (subject ask.now (life_of (stored (state S.Store tx.old.conn.now)) instance.now))))) }
-    ensures same { HasCleanDisk (state S.Store tx.new.conn.now) → IsTrue (state S.Store tx.old.conn.now).is_open → OnOk result (IsUnchanged (state S.Store tx.old.conn.now) (state S.Store tx.new.conn.now)) }
-    ensures shows { OnOk result (ShowsRecords (state S.Store tx.new.conn.now)) }
-    ensures kept { HasCleanDisk (state S.Store tx.new.conn.now) → IsTrue (state S.Store tx.old.conn.now).in_transaction → KeepsCommit (state S.Store tx.old.conn.now) (state S.Store tx.new.conn.now) }
-    ensures survives { Survives (state S.Store tx.old.conn.now) (state S.Store tx.new.conn.now) (λ _. ⊥) }
+    requires { ShowsRecords (behind S.Store tx.old) }
+    ensures ok { Finds S.Store tx.old tx.new result (λ s asked.
+        option_copied row.entry ≡ row_of (life_of (stored s) instance.now) →
+        ((asked.binding ≡ option_and_then (λ id.
+        get (bindings_of (life_of (stored s) instance.now)) id) (binding_in ask.now))
+        × (asked.bound ≡ has_rows (bindings_of (life_of (stored s) instance.now))))
+        × ((asked.named ≡ named_in ask.now (life_of (stored s) instance.now))
+        × (asked.subject_last ≡ last_of (subject ask.now (life_of (stored s) instance.now))))) }
+    ensures reads { MayRead S.Store tx.old tx.new result }
 {
     match row {
         Some(_) => read_asked(tx, alloc, instance, ask),
@@ -368,13 +339,10 @@ pub(crate) fn read_for<S: Alter>(
     instance: &str,
     ask: &Ask,
 ) -> Result<Read, StoreFault>
-    requires { ShowsRecords (state S.Store tx.old.conn.now) }
-    ensures same_reference { tx.new.conn.ghost_name ≡ tx.old.conn.ghost_name }
-    ensures ok { HasCleanDisk (state S.Store tx.new.conn.now) → IfOk result (λ read. IsReadOf (life_of (stored (state S.Store tx.old.conn.now)) instance.now) [] ask.now read) }
-    ensures same { HasCleanDisk (state S.Store tx.new.conn.now) → OnOk result (IsUnchanged (state S.Store tx.old.conn.now) (state S.Store tx.new.conn.now)) }
-    ensures shows { OnOk result (ShowsRecords (state S.Store tx.new.conn.now)) }
-    ensures kept { HasCleanDisk (state S.Store tx.new.conn.now) → IsTrue (state S.Store tx.old.conn.now).in_transaction → KeepsCommit (state S.Store tx.old.conn.now) (state S.Store tx.new.conn.now) }
-    ensures survives { Survives (state S.Store tx.old.conn.now) (state S.Store tx.new.conn.now) (λ _. ⊥) }
+    requires { ShowsRecords (behind S.Store tx.old) }
+    ensures ok { Finds S.Store tx.old tx.new result (λ s read.
+        IsReadOf (life_of (stored s) instance.now) [] ask.now read) }
+    ensures reads { Reads S.Store tx.old tx.new result }
 {
     let (row, last) = read_standing(tx, instance)?;
     let asked = read_asked_of(tx, alloc, instance, ask, row.as_ref())?;
@@ -398,12 +366,9 @@ pub(crate) fn view_of_instance<S: Alter>(
     ask: &Ask,
 ) -> Result<View, StoreFault>
     requires { IsReady (state S.Store conn.old) }
-    ensures ready { IsReady (state S.Store conn.new) }
-    ensures ok { HasCleanDisk (state S.Store conn.new) → instance_in ask.now ≡ Some instance.now → IfOk result (λ view. facts view ≡ view_of (stored (state S.Store conn.old)) ask.now) }
-    ensures same { HasCleanDisk (state S.Store conn.new) → IsTrue (state S.Store conn.new).is_open → (state S.Store conn.new).now ≡ (state S.Store conn.old).now }
-    ensures was_open { HasCleanDisk (state S.Store conn.new) → IsTrue (state S.Store conn.new).is_open → IsTrue (state S.Store conn.old).is_open }
-    ensures open { HasCleanDisk (state S.Store conn.new) → OnOk result (IsTrue (state S.Store conn.old).is_open) }
-    ensures crash { Survives (state S.Store conn.old) (state S.Store conn.new) (λ _. ⊥) }
+    ensures ok { HasCleanDisk (state S.Store conn.new) → instance_in ask.now ≡ Some instance.now →
+        IfOk result (λ view. facts view ≡ view_of (stored (state S.Store conn.old)) ask.now) }
+    ensures looks { Looks (state S.Store conn.old) (state S.Store conn.new) result }
 {
     let mut tx = conn.transaction();
     let read = read_for(&mut tx, alloc, instance, ask)?;
@@ -442,12 +407,10 @@ fn view_of_running<S: Alter>(
     orders: &Orders,
 ) -> Result<View, StoreFault>
     requires { IsReady (state S.Store conn.old) }
-    ensures ready { IsReady (state S.Store conn.new) }
-    ensures ok { HasCleanDisk (state S.Store conn.new) → IfOk result (λ view. facts view ≡ view_of (stored (state S.Store conn.old)) (asks.Orders orders.now)) }
-    ensures same { HasCleanDisk (state S.Store conn.new) → IsTrue (state S.Store conn.new).is_open → (state S.Store conn.new).now ≡ (state S.Store conn.old).now }
-    ensures was_open { HasCleanDisk (state S.Store conn.new) → IsTrue (state S.Store conn.new).is_open → IsTrue (state S.Store conn.old).is_open }
-    ensures open { HasCleanDisk (state S.Store conn.new) → OnOk result (IsTrue (state S.Store conn.old).is_open) }
-    ensures crash { Survives (state S.Store conn.old) (state S.Store conn.new) (λ _. ⊥) }
+    ensures ok { HasCleanDisk (state S.Store conn.new) →
+        IfOk result (λ view.
+        facts view ≡ view_of (stored (state S.Store conn.old)) (asks.Orders orders.now)) }
+    ensures looks { Looks (state S.Store conn.old) (state S.Store conn.new) result }
 {
     let listing = read_running(conn, alloc, listed_after(orders), LISTED)?;
     Ok(view_of_listing(listing))
@@ -460,12 +423,11 @@ pub(crate) fn view_without_instance<S: Alter>(
     ask: &Ask,
 ) -> Result<View, StoreFault>
     requires { IsReady (state S.Store conn.old) }
-    ensures ready { IsReady (state S.Store conn.new) }
-    ensures ok { HasCleanDisk (state S.Store conn.new) → instance_in ask.now ≡ None → IfOk result (λ view. facts view ≡ view_of (stored (state S.Store conn.old)) ask.now) }
-    ensures same { HasCleanDisk (state S.Store conn.new) → IsTrue (state S.Store conn.new).is_open → (state S.Store conn.new).now ≡ (state S.Store conn.old).now }
-    ensures was_open { HasCleanDisk (state S.Store conn.new) → IsTrue (state S.Store conn.new).is_open → IsTrue (state S.Store conn.old).is_open }
-    ensures open { HasCleanDisk (state S.Store conn.new) → instance_in ask.now ≡ None → is_catalog ask.now ≡ false → OnOk result (IsTrue (state S.Store conn.old).is_open) }
-    ensures crash { Survives (state S.Store conn.old) (state S.Store conn.new) (λ _. ⊥) }
+    ensures ok { HasCleanDisk (state S.Store conn.new) → instance_in ask.now ≡ None →
+        IfOk result (λ view. facts view ≡ view_of (stored (state S.Store conn.old)) ask.now) }
+    ensures open { HasCleanDisk (state S.Store conn.new) → instance_in ask.now ≡ None →
+        is_catalog ask.now ≡ false → OnOk result (IsTrue (state S.Store conn.old).is_open) }
+    ensures looks { MayLook (state S.Store conn.old) (state S.Store conn.new) }
 {
     match ask {
         Ask::Orders(orders) => view_of_running(conn, alloc, orders),

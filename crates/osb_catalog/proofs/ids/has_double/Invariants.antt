@@ -1,6 +1,7 @@
 use Rattle.std.proofs.Common.{◌≡◌, ◌||◌, drop}
 use Rattle.osb_catalog.specs.Ids.{has_double}
-use Rattle.osb_catalog.specs.IdSet.{texts, has_some}
+use Rattle.osb_catalog.specs.IdSet.{texts}
+use Rattle.osb_catalog.proofs.IdLemmas.{has_some}
 use Rattle.osb_catalog.proofs.ids.has_double.Given as goal
 
 abbrev pub invariant-loop-id : goal.invariant-loop-id

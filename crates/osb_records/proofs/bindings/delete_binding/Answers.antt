@@ -13,10 +13,10 @@ use Rattle.osb_records.proofs.bindings.delete_binding.Goals as goal
 pub returns-clause-ok : goal.returns-clause-ok
 returns-clause-ok g c clean =
     let old = state g.S.Store c.args.tx.now.conn.now in
-    let new = state g.S.Store c.execute.new.self.conn.now in
+    let new = state g.S.Store c.execute.new.tx.conn.now in
     let id = c.args.instance.now in
     let binding = c.args.binding.now in
-    steps_by delete_binding (Text id ∷ Text binding ∷ []) old new c.execute.result _ (λ over. (c.execute.ensures.ended over).0) c.execute.ensures.survives clean
+    steps_by delete_binding (Text id ∷ Text binding ∷ []) old new c.execute.result _ c.execute.ensures.ended c.execute.ensures.inside.survives clean
     (stored old) (entries_in old.now.trees) (instances_in old.now.trees) (delete_where (is_binding id binding) (bindings_in old.now.trees)) (λ before live. (c.requires before live).schema)
     (λ count before live has h. (drops_binding old new count (c.requires before live) id binding h, refl))
     (rw (c.params-to_sql.ensures, c.params-to_sql-2.ensures) at (c.execute.ensures.runs clean))

@@ -13,9 +13,9 @@ use Rattle.osb_records.proofs.bindings.delete_bindings.Goals as goal
 pub returns-clause-ok : goal.returns-clause-ok
 returns-clause-ok g c clean =
     let old = state g.S.Store c.args.tx.now.conn.now in
-    let new = state g.S.Store c.execute.new.self.conn.now in
+    let new = state g.S.Store c.execute.new.tx.conn.now in
     let id = c.args.instance.now in
-    steps_by delete_bindings (Text id ∷ []) old new c.execute.result _ (λ over. (c.execute.ensures.ended over).0) c.execute.ensures.survives clean
+    steps_by delete_bindings (Text id ∷ []) old new c.execute.result _ c.execute.ensures.ended c.execute.ensures.inside.survives clean
     (stored old) (entries_in old.now.trees) (instances_in old.now.trees) (delete_where (is_bound id) (bindings_in old.now.trees)) (λ before live. (c.requires before live).schema)
     (λ count before live has h. (drops_bindings old new count (c.requires before live) id h, refl))
     (rw (c.params-to_sql.ensures) at (c.execute.ensures.runs clean))

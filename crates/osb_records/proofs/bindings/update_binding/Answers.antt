@@ -18,7 +18,7 @@ returns-clause-ok g c clean =
     let id = c.args.instance.now in
     let binding = c.args.binding.now in
     let row = c.args.row.now in
-    steps_by update_binding (binding_row (binding_entry id (binding, row))) old new c.execute_with.result _ c.execute_with.ensures.ended c.execute_with.ensures.survives clean
+    steps_by update_binding (binding_row (binding_entry id (binding, row))) old new c.execute_with.result _ c.execute_with.ensures.ended c.execute_with.ensures.inside.survives clean
     (stored old) (entries_in old.now.trees) (instances_in old.now.trees) (update_where (is_binding id binding) (with_binding row) (bindings_in old.now.trees)) (λ before live. (c.requires before live).schema)
     (λ count before live has h. (updates_binding old new count (c.requires before live) id binding row h, refl))
     (c.execute_with.ensures.runs clean)

@@ -16,7 +16,7 @@ returns-clause-ok g c clean =
     let new = state g.S.Store c.execute_with.new.tx.conn.now in
     let id = c.args.instance.now in
     let row = c.args.row.now in
-    steps_by insert_instance (instance_row (id, row)) old new c.execute_with.result _ c.execute_with.ensures.ended c.execute_with.ensures.survives clean
+    steps_by insert_instance (instance_row (id, row)) old new c.execute_with.result _ c.execute_with.ensures.ended c.execute_with.ensures.inside.survives clean
     (stored old) (entries_in old.now.trees) (insert_sorted instance_cmp (id, row) (instances_in old.now.trees)) (bindings_in old.now.trees) (λ before live. (c.requires.tables before live).schema)
     (λ count before live has h. (adds_instance old new count (c.requires.tables before live) id row (c.requires.no_row before live) h, refl))
     (c.execute_with.ensures.runs clean)

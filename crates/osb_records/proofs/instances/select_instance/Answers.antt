@@ -1,30 +1,12 @@
-use Rattle.std.proofs.Common.{[], ◌∷◌}
-use Rattle.sqlite.specs.Held.{state}
-use Rattle.sqlite.specs.declared.types.Value.TheVariants.{Text}
-use Rattle.osb_tables.specs.Tables.{record_schema}
-use Rattle.osb_records.proofs.SelectLemmas.{shown_same, shown_open}
+use Rattle.osb_records.proofs.Texts.{select_instance_is}
 use Rattle.osb_records.proofs.InstanceLemmas.{shows_instance}
-use Rattle.osb_records.proofs.StepLemmas.{clean_before}
-use Rattle.osb_records.proofs.QueryLemmas.{either_keeps}
-use Rattle.osb_records.proofs.ResultLemmas.{if_ok, on_ok}
-use Rattle.osb_records.proofs.Texts.{select_instance, select_instance_is}
+use Rattle.osb_records.proofs.ReadsLemmas.{if_read}
 use Rattle.osb_records.proofs.instances.select_instance.Goals as goal
+
+pub select-requires-clause-plain : goal.select-requires-clause-plain
+select-requires-clause-plain g c = select_instance_is.2
 
 pub returns-clause-ok : goal.returns-clause-ok
 returns-clause-ok g c clean =
-    let old = state g.S.Store c.args.tx.now.conn.now in
-    let new = state g.S.Store c.query_all.new.self.conn.now in
-    let params = Text c.args.instance.now ∷ [] in
-    if_ok c.query_all.result (λ rows h. shows_instance old new (c.requires (clean_before old new _ c.query_all.ensures.survives clean) (shown_open select_instance params old new rows.items h)) c.args.instance.now rows.items h)
-    (rw (c.params-to_sql.ensures) at (c.query_all.ensures.ok clean))
-
-pub returns-clause-same : goal.returns-clause-same
-returns-clause-same g c clean =
-    let old = state g.S.Store c.args.tx.now.conn.now in
-    let new = state g.S.Store c.query_all.new.self.conn.now in
-    let params = Text c.args.instance.now ∷ [] in
-    on_ok c.query_all.result (λ rows h. shown_same select_instance params old new record_schema (c.requires (clean_before old new _ c.query_all.ensures.survives clean) (shown_open select_instance params old new rows.items h)).schema select_instance_is.2 rows.items h)
-    (rw (c.params-to_sql.ensures) at (c.query_all.ensures.ok clean))
-
-pub returns-clause-kept : goal.returns-clause-kept
-returns-clause-kept g c clean inside = either_keeps _ _ _ _ (λ rows. rows.items) c.query_all.result inside (c.query_all.ensures.ok clean) (c.query_all.ensures.err clean)
+    if_read c.select.ensures.reads clean (λ before live rows h. shows_instance _ _ (c.requires before live) c.args.instance.now rows.items h)
+    (rw (c.params-to_sql.ensures) at (c.select.ensures.ok clean))

@@ -2,7 +2,8 @@ use Rattle.std.proofs.Common.{refl}
 use Rattle.sqlite.specs.Held.{state}
 use Rattle.sqlite_keyed.specs.Lists.{update_where}
 use Rattle.osb_audit.specs.Instances.{is_instance}
-use Rattle.osb_records.specs.Instances.{instance_row, with_row}
+use Rattle.osb_records.specs.Instances.{instance_row}
+use Rattle.osb_records.specs.Inside.{with_row}
 use Rattle.osb_records.specs.Stored.{entries_in, instances_in, bindings_in}
 use Rattle.osb_records.specs.Steps.{stored}
 use Rattle.osb_records.proofs.Texts.{update_instance}
@@ -16,7 +17,7 @@ returns-clause-ok g c clean =
     let new = state g.S.Store c.execute_with.new.tx.conn.now in
     let id = c.args.instance.now in
     let row = c.args.row.now in
-    steps_by update_instance (instance_row (id, row)) old new c.execute_with.result _ c.execute_with.ensures.ended c.execute_with.ensures.survives clean
+    steps_by update_instance (instance_row (id, row)) old new c.execute_with.result _ c.execute_with.ensures.ended c.execute_with.ensures.inside.survives clean
     (stored old) (entries_in old.now.trees) (update_where (is_instance id) (with_row row) (instances_in old.now.trees)) (bindings_in old.now.trees) (λ before live. (c.requires before live).schema)
     (λ count before live has h. (updates_instance old new count (c.requires before live) id row h, refl))
     (c.execute_with.ensures.runs clean)

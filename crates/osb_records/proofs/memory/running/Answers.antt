@@ -1,9 +1,10 @@
 use Rattle.std.proofs.Common.{refl}
 use Rattle.sqlite.proofs.Callers.{memory_is_clean}
+use Rattle.osb_records.proofs.ReadsLemmas.{same_lives}
 use Rattle.osb_records.proofs.memory.running.Goals as goal
 
 pub returns-clause-ok : goal.returns-clause-ok
 returns-clause-ok c = c.running.ensures.ok (memory_is_clean c.running.new.self)
 
 pub returns-clause-same : goal.returns-clause-same
-returns-clause-same c = c.running.ensures.same (memory_is_clean c.running.new.self) refl
+returns-clause-same c = same_lives _ _ (c.running.ensures.looks.same (memory_is_clean c.running.new.self) refl)

@@ -1,5 +1,5 @@
 use Rattle.std.proofs.Common.{sym}
-use Rattle.sqlite.specs.Held.{state}
+use Rattle.osb_records.specs.Reads.{behind}
 use Rattle.osb_records.specs.Steps.{content}
 use Rattle.osb_records.proofs.StepLemmas.{clean_before}
 use Rattle.osb_records.proofs.ViewLemmas.{if_ok_with}
@@ -7,9 +7,9 @@ use Rattle.osb_records.proofs.plans.all_instances.Goals as goal
 
 pub returns-clause-ok : goal.returns-clause-ok
 returns-clause-ok g c clean =
-    let old = state g.S.Store c.args.tx.now.conn.now in
-    let new = state g.S.Store c.read_instances.new.tx.conn.now in
+    let old = behind g.S.Store c.args.tx.now in
+    let new = behind g.S.Store c.read_instances.new.tx in
     if_ok_with c.read_instances.result (λ entries same list.
-    let records = c.requires (clean_before old new _ c.read_instances.ensures.survives clean) same.0.was_open in
+    let records = c.requires (clean_before old new _ c.read_instances.ensures.reads.survives clean) same.0.was_open in
     sym (list.only (content old).instances records.tables.holds.instances))
-    (c.read_instances.ensures.same clean) (c.read_instances.ensures.ok clean)
+    (c.read_instances.ensures.reads.same clean) (c.read_instances.ensures.ok clean)

@@ -1,5 +1,5 @@
 use Rattle.std.proofs.Common.{ap, ◌≤◌, length, ◌∙◌, []}
-use Rattle.sqlite.specs.Held.{state}
+use Rattle.osb_records.specs.Reads.{behind}
 use Rattle.sqlite.specs.Effect.{Database}
 use Rattle.osb_orders.specs.Listing.{listing}
 use Rattle.osb_records.specs.Stored.{lives_stored}
@@ -10,13 +10,13 @@ use Rattle.osb_records.proofs.plans.list_plans.Goals as goal
 
 pub returns-clause-ok : goal.returns-clause-ok
 returns-clause-ok g c clean =
-    let old = state g.S.Store c.args.tx.now.conn.now in
-    let mid = state g.S.Store c.all_instances.new.tx.conn.now in
-    let new = state g.S.Store c.list_running.new.tx.conn.now in
-    let before = clean_before mid new _ c.list_running.ensures.survives clean in
-    let same = c.in_ok-instances.ensures.same before in
+    let old = behind g.S.Store c.args.tx.now in
+    let mid = behind g.S.Store c.all_instances.new.tx in
+    let new = behind g.S.Store c.list_running.new.tx in
+    let before = clean_before mid new _ c.list_running.ensures.reads.survives clean in
+    let same = c.in_ok-instances.ensures.reads.same before in
     let are = c.in_ok-instances.ensures.ok before in
-    let records = c.requires (clean_before old mid _ c.all_instances.ensures.survives before) same.0.was_open in
+    let records = c.requires (clean_before old mid _ c.all_instances.ensures.reads.survives before) same.0.was_open in
     let instances = c.in_ok-instances.instances.items in
     let limit = c.in_ok-limit.limit in
     let few : length instances ≤ limit = just_enough instances limit (c.in_ok-limit.ensures ∙ ap length c.deref.ensures.value) in

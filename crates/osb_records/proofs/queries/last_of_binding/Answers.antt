@@ -6,7 +6,7 @@ use Rattle.osb_orders.specs.Lives.{life_of}
 use Rattle.osb_records.specs.Queries.{is_kind_of}
 use Rattle.osb_records.specs.Steps.{stored}
 use Rattle.osb_records.specs.Stored.{lives_stored}
-use Rattle.osb_records.proofs.ResultLemmas.{if_ok}
+use Rattle.osb_rows.proofs.ResultLemmas.{if_ok}
 use Rattle.osb_records.proofs.StepLemmas.{clean_before}
 use Rattle.osb_records.proofs.SubjectLemmas.{then_last, binding_last}
 use Rattle.osb_records.proofs.queries.last_of_binding.Goals as goal
@@ -17,8 +17,8 @@ returns-clause-ok g c clean =
     let mid = state g.S.Store c.last_of_kind.new.tx.conn.now in
     let new = state g.S.Store c.later_of_kind.new.tx.conn.now in
     let id = c.args.instance.now in
-    let between = clean_before mid new _ c.later_of_kind.ensures.survives clean in
-    let same = c.in_ok-bound.ensures.same between in
-    let records = c.requires (clean_before old mid _ c.last_of_kind.ensures.survives between) same.0.was_open in
+    let between = clean_before mid new _ c.later_of_kind.ensures.reads.survives clean in
+    let same = c.in_ok-bound.ensures.reads.same between in
+    let records = c.requires (clean_before old mid _ c.last_of_kind.ensures.reads.survives between) same.0.was_open in
     let life = ap (λ (db : Database). life_of (lives_stored db.trees) id) same.0.now_is in
     if_ok c.later_of_kind.result (λ last is. then_last (is_kind_of c.args.binding.now Bind) (is_kind_of c.args.binding.now Unbind) c.in_ok-bound.bound last (life_of (stored old) id) (life_of (stored mid) id) (c.in_ok-bound.ensures.ok between) life is ∙ binding_last (stored old) id records.lives c.args.binding.now) (c.later_of_kind.ensures.ok clean)

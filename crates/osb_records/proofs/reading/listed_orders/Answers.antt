@@ -1,6 +1,7 @@
 use Rattle.std.proofs.Common.{refl, ◌∙◌}
 use Rattle.sqlite.specs.Held.{state}
 use Rattle.osb_records.proofs.ListingLemmas.{none_listed, next_listed}
+use Rattle.osb_records.proofs.NamedLemmas.{unchanged_records}
 use Rattle.osb_records.proofs.reading.listed_orders.Goals as goal
 
 pub loop-row-init : goal.loop-row-init
@@ -14,7 +15,7 @@ loop-row-preserved g c =
     let old = state g.S.Store c.args.tx.now.conn.now in
     let now = state g.S.Store c.loop-row.tx.conn.now in
     let next = state g.S.Store c.listed_order.new.tx.conn.now in (
-      c.in_ok-listed_order.ensures.same_reference ∙ c.loop-row.invariant.0,
+      c.in_ok-listed_order.ensures.reads.same_reference ∙ c.loop-row.invariant.0,
       next_listed old now next c.args.rows.now c.loop-row.row-index c.row-item.result c.loop-row.orders.items c.push.new.self.items c.in_ok-listed_order.field-0 c.loop-row.invariant.1
-          c.in_ok-listed_order.ensures.survives c.in_ok-listed_order.ensures.same c.in_ok-listed_order.ensures.shows c.in_ok-listed_order.ensures.ok c.loop-row-test.true c.row-item.is c.in_ok-push.ensures.items,
+          c.in_ok-listed_order.ensures.reads.survives c.in_ok-listed_order.ensures.reads.same (λ clean live. unchanged_records now next c.in_ok-listed_order.ensures.reads.survives c.loop-row.invariant.1.shows clean (c.in_ok-listed_order.ensures.reads.same clean)) c.in_ok-listed_order.ensures.ok c.loop-row-test.true c.row-item.is c.in_ok-push.ensures.items,
     )

@@ -3,7 +3,7 @@ use Rattle.sqlite.specs.Held.{state}
 use Rattle.osb_orders.specs.Lives.{life_of}
 use Rattle.osb_records.specs.Steps.{stored}
 use Rattle.osb_records.proofs.NoRowLemmas.{no_binding, no_bindings, no_named, no_subject}
-use Rattle.osb_records.proofs.ResultLemmas.{if_ok}
+use Rattle.osb_rows.proofs.ResultLemmas.{if_ok}
 use Rattle.osb_records.proofs.view.read_asked_of.Goals as goal
 
 pub returns-in-Some-clause-ok : goal.returns-in-Some-clause-ok

@@ -7,7 +7,7 @@ use Rattle.osb_records.specs.BindingRows.{binding_found}
 use Rattle.osb_records.specs.Stored.{bindings_in}
 use Rattle.osb_records.specs.Steps.{stored}
 use Rattle.osb_records.proofs.EditLemmas.{found_row}
-use Rattle.osb_records.proofs.ResultLemmas.{if_ok}
+use Rattle.osb_rows.proofs.ResultLemmas.{if_ok}
 use Rattle.osb_records.proofs.StepLemmas.{clean_before}
 use Rattle.osb_records.proofs.view.read_binding_for.Goals as goal
 
@@ -19,6 +19,6 @@ returns-in-Some-clause-ok g c clean live =
     let binding = c.in-Some.binding.now in
     let life = life_of (stored old) id in
     let bindings = bindings_in old.now.trees in
-    let stands = (c.requires (clean_before old new _ c.read_binding.ensures.survives clean) live).standing.bindings id in
+    let stands = (c.requires (clean_before old new _ c.read_binding.ensures.reads.survives clean) live).standing.bindings id in
     let named = sym c.binding.ensures ∙ ap option_copied c.in-Some.is in
     if_ok c.read_binding.result (λ row is. is ∙ ap (λ b. binding_found id b bindings) c.as_str.ensures.value ∙ found_row id binding life bindings stands ∙ ap (option_and_then (λ b. get (bindings_of life) b)) (sym named)) (c.read_binding.ensures.ok clean)

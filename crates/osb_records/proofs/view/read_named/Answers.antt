@@ -4,7 +4,7 @@ use Rattle.osb_orders.specs.Lives.{life_of}
 use Rattle.osb_orders.specs.Named.{named_by, named_in}
 use Rattle.osb_orders.specs.Orders.{is_of_binding}
 use Rattle.osb_records.specs.Steps.{stored}
-use Rattle.osb_records.proofs.ResultLemmas.{if_ok}
+use Rattle.osb_rows.proofs.ResultLemmas.{if_ok}
 use Rattle.osb_records.proofs.view.read_named.Goals as goal
 
 pub returns-in-BindingOp-clause-ok : goal.returns-in-BindingOp-clause-ok

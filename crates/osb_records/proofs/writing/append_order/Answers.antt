@@ -12,14 +12,14 @@ returns-clause-ok g c clean =
     let first = state g.S.Store c.args.tx.now.conn.now in
     let mid = state g.S.Store c.write_standing.new.tx.conn.now in
     let new = state g.S.Store c.insert_order.new.tx.conn.now in
-    let clean_mid = clean_before mid new _ c.insert_order.ensures.survives clean in
-    let clean_first = clean_before first mid _ c.write_standing.ensures.survives clean_mid in
+    let clean_mid = clean_before mid new _ c.insert_order.ensures.inside.survives clean in
+    let clean_first = clean_before first mid _ c.write_standing.ensures.inside.survives clean_mid in
     let rows = c.in_ok-write_standing.ensures.ok clean_mid in
     let id = c.args.instance.now in
     let order = c.args.order.now in
-    let lives = (c.requires.records clean_first rows.was_open).lives in
-    let written = append_written (stored first) id order lives (c.requires.whole clean_first rows.was_open) in
-    written_after first mid new id (Append order) rows (c.in_ok-write_standing.ensures.stands clean_mid (Append order) written (c.requires.standing clean_first rows.was_open)) (c.in_ok-insert_order.ensures.ok clean)
+    let live = rows.steps.within.was_open in
+    let written = append_written (stored first) id order (c.requires.records clean_first live).lives (c.requires.whole clean_first live) in
+    written_after first mid new id (Append order) rows.steps (rows.stands (Append order) written (c.requires.standing clean_first live)) (c.in_ok-insert_order.ensures.ok clean)
 
 pub write_standing-requires-clause-no_row : goal.write_standing-requires-clause-no_row
 write_standing-requires-clause-no_row g c clean live first =

@@ -11,13 +11,14 @@ returns-clause-ok g c clean =
     let read = state g.S.Store c.ended_order.new.tx.conn.now in
     let mid = state g.S.Store c.write_standing.new.tx.conn.now in
     let new = state g.S.Store c.finish_order.new.tx.conn.now in
-    let clean_mid = clean_before mid new _ c.finish_order.ensures.survives clean in
-    let clean_read = clean_before read mid _ c.write_standing.ensures.survives clean_mid in
-    let clean_first = clean_before first read _ c.ended_order.ensures.survives clean_read in
-    let same = c.in_ok-order.ensures.same clean_read in
+    let clean_mid = clean_before mid new _ c.finish_order.ensures.inside.survives clean in
+    let clean_read = clean_before read mid _ c.write_standing.ensures.inside.survives clean_mid in
+    let clean_first = clean_before first read _ c.ended_order.ensures.reads.survives clean_read in
+    let same = c.in_ok-order.ensures.reads.same clean_read in
+    let rows = c.in_ok-write_standing.ensures.ok clean_mid in
     let id = c.args.instance.now in
     let lives = (c.requires.records clean_first same.0.was_open).lives in
     let may = c.requires.last clean_first same.0.was_open in
     let written = finish_written (stored first) id c.args.number c.args.outcome.now c.in_ok-order.order lives may (c.in_ok-order.ensures.ok clean_read may) in
     written_later first read mid new id c.in_ok-order.order (Finish c.args.number c.args.outcome.now) same written (c.requires.standing clean_first same.0.was_open)
-    (c.in_ok-write_standing.ensures.ok clean_mid) (c.in_ok-write_standing.ensures.stands clean_mid) (c.in_ok-finish_order.ensures.ok clean)
+    rows.steps rows.stands (c.in_ok-finish_order.ensures.ok clean)

@@ -11,7 +11,7 @@ returns-clause-ok g c works = IfOk-weaker c.serve_each.result _ _ (λ outputs ru
 pub returns-clause-once : goal.returns-clause-once
 unfolding lives_of
 returns-clause-once g c works one =
-    let whole = c.are_whole.ensures.whole (c.serve_each.ensures.works works) in
+    let whole = c.are_whole.ensures.whole (c.serve_each.ensures.worked.works works) in
     IfOk-weaker c.serve_each.result _ _
     (λ outputs run. (_, (refl, refl, refl), served_once c.worded.ensures.worded _ _ _ _ _ _ _ c.is_sound.ensures whole one run))
     (c.serve_each.ensures.ok _ _ (inl (works, refl, refl)))

@@ -1,0 +1,33 @@
+use Rattle.std.proofs.Common.{◌≡◌, ◌≤◌, ◌+◌, ◌-◌, ◌*◌, List, true, cond, length, take}
+use Rattle.std.specs.Io.KnownBytes.{IsAtEnd}
+use Rattle.sqlite.specs.Held.{state}
+use Rattle.osb_frames.specs.Calls.{Call, all_bytes}
+use Rattle.osb_orders.specs.Lives.{Lives}
+use Rattle.osb_broker.specs.Steps.{machine}
+use Rattle.osb_broker.specs.Kept.{LivesGo}
+use Rattle.osb_broker.specs.Inside.{given_most, given_rules, Worked}
+use Rattle.osb_broker.specs.Serving.{EachWasNeeded, Gave, Left}
+use Rattle.osb_broker.proofs.HoldLemmas.{Holding}
+use Rattle.osb_broker.proofs.ReadLemmas.{SoFar}
+use Rattle.osb_broker.proofs.setup.Setup.serve_in.Given as goal
+
+abbrev pub decreases-loop-left : goal.decreases-loop-left
+decreases-loop-left g l = l.left * (length l.room + 2) + ((length l.room - l.filled) + cond l.ended 0 1)
+
+abbrev pub invariant-loop-left : goal.invariant-loop-left
+invariant-loop-left g l =
+    let sink = g.W.Sink in
+    let source = g.R.Source in
+    record {
+      kept : sink.fruitless l.sink ≡ sink.fruitless l.fn.sink;
+      failed : source.failures l.source ≡ source.failures l.fn.source;
+      inside : l.filled ≤ length l.room;
+      met : l.met_fault ≡ l.fn.met_fault;
+      over : l.ended ≡ true → IsAtEnd (source.rest l.source);
+      worked : Worked (state g.S.Store l.fn.records) (state g.S.Store l.records);
+      holding : (calls : List Call) × Gave (source.calls l.fn.source) (source.calls l.source) (source.rest l.fn.source) (source.rest l.source) calls
+          × Left l.limits (given_most l.self) (all_bytes calls) l.left (take l.filled l.room)
+          × ((before after : Lives) → LivesGo (state g.S.Store l.fn.records) (state g.S.Store l.records) before after → Holding (machine (given_rules l.self)) l.limits (given_most l.self) before (all_bytes calls) (sink.taken l.fn.sink) l.left (sink.taken l.sink) after (take l.filled l.room))
+          × SoFar l.ended calls
+          × EachWasNeeded l.limits (given_most l.self) (length l.fn.room) calls;
+    }

@@ -1,0 +1,90 @@
+-- What the contracts of functions inside this crate say. No public contract cites it.
+use Rattle.std.specs.Prelude.{◌≡◌, ◌≢◌, ℕ, Bool, true, false, Option, None, Result, IfOk, OnOk, OnErr, IsTrue}
+use Rattle.sqlite.specs.Tree.{Trees}
+use Rattle.sqlite.specs.Held.{Held, state}
+use Rattle.sqlite.specs.State.{State, HasCleanDisk, Survives}
+use Rattle.sqlite_trees.specs.declared.store.Store.{Ghosts}
+use Rattle.osb_frames.specs.Cuts.{Message, closes}
+use Rattle.osb_replies.specs.declared.reply.Reply.{Reply}
+use Rattle.osb_replies.specs.Parts.{parts, refused}
+use Rattle.osb_replies.specs.Text.{ReplyParts}
+use Rattle.osb_catalog.specs.Rules as catalog
+use Rattle.osb_asks.specs.declared.ask.Ask.{Ask}
+use Rattle.osb_asks.specs.declared.ask_fault.AskFault.{AskFault}
+use Rattle.osb_asks.specs.Asks.{ask_of, is_early}
+use Rattle.osb_orders.specs.Lives.{Lives}
+use Rattle.osb_records.specs.Commit.{Commits}
+use Rattle.osb_records.specs.Steps.{LeavesOnly, stored}
+use Rattle.osb_laws.specs.Failures.{is_500}
+use Rattle.osb_broker.specs.declared.setup.Setup.{Setup}
+use Rattle.osb_broker.specs.declared.prepared.Pending.{Pending}
+use Rattle.osb_broker.specs.declared.prepared.Prepared.{Prepared}
+use Rattle.osb_broker.specs.Kept.{IsShut, Works}
+use Rattle.osb_broker.specs.Machine.{Answered, Handled, Machine}
+use Rattle.osb_broker.specs.Prepared.{settled, LastsSettled, Prepares}
+use Rattle.osb_broker.specs.Steps.{lives_after, machine, needs_lives, step_for}
+
+-- the settings that are decided by
+abbrev pub given_rules : Setup → catalog.Rules
+given_rules setup = catalog.rules_of setup.settings.now
+
+-- how many requests of a connection are taken
+abbrev pub given_most : Setup → ℕ
+given_most setup = setup.per_connection.number
+
+-- What holds of the store after the call held before it.
+pub record Worked (old new : State) : Type 0 where
+  pub works : Works new → Works old
+  pub clean : HasCleanDisk new → HasCleanDisk old
+
+-- The call leaves the lives: where the store works after it, it worked before and has the same ones; and a crash leaves
+-- what it left before.
+pub record LivesStay (old new : State) : Type 0 where
+  pub works : Works new → Works old
+  pub same : Works new → stored new ≡ stored old
+  pub crash : Survives old new (λ _. ⊥)
+
+-- The answer to what was asked is ready, up to its change. What is early takes no memory, and what needs no lives leaves
+-- the records alone.
+pub record GivesPrepared {S E : Type 0} (g : Ghosts S) (rules : catalog.Rules) (asked : Result Ask AskFault) (old new : Held S) (result : Result Prepared E) : Type 0 where
+  pub ok : Works (state g old) → HasCleanDisk (state g new) → IfOk result (λ prepared. Prepares (stored (state g old)) prepared (step_for rules (stored (state g old)) asked))
+  pub quiet : IfOk result (λ prepared. is_early asked ≡ true → prepared.pending ≡ None)
+  pub late : OnErr result (is_early asked ≡ false)
+  pub was_open : HasCleanDisk (state g new) → needs_lives asked ≡ true → OnOk result (IsTrue (state g old).is_open)
+  pub plain : needs_lives asked ≡ false → IfOk result (λ prepared. (lives : Lives) → Prepares lives prepared (step_for rules lives asked))
+  pub silent : needs_lives asked ≡ false → IfOk result (λ prepared. prepared.pending ≡ None)
+  pub untouched : needs_lives asked ≡ false → new ≡ old
+  pub stays : LivesStay (state g old) (state g new)
+
+-- A pending change was made, if there is one: at `Ok` the lives are those after it, at an error they stay, and a crash
+-- leaves what it left before or the lives after it.
+pub record Settles {S E : Type 0} (g : Ghosts S) (pending : Option Pending) (old new : Held S) (result : Result (Unit {0}) E) : Type 0 where
+  pub ok : HasCleanDisk (state g new) → OnOk result (stored (state g new) ≡ settled pending (stored (state g old)))
+  pub err : Works (state g new) → OnErr result (stored (state g new) ≡ stored (state g old))
+  pub untouched : pending ≡ None → new ≡ old
+  pub works : Works (state g new) → Works (state g old)
+  pub crash : Survives (state g old) (state g new) (Commits (state g old) (settled pending (stored (state g old))))
+  pub lasts : HasCleanDisk (state g new) → OnOk result ((db : Trees) → (state g new).may_leave db → LastsSettled (state g old) (stored (state g old)) pending db)
+
+-- A request was replied to by the machine's step, once its change was made; at an error the lives stay.
+pub record GivesReply {S E : Type 0} (g : Ghosts S) (rules : catalog.Rules) (q : Message) (last : Bool) (old new : Held S) (result : Result Reply E) : Type 0 where
+  pub ok : Works (state g new) → IfOk result (λ reply. Answered (machine rules) q last false (stored (state g old)) (parts reply) (stored (state g new)))
+  pub err : Works (state g new) → OnErr result (stored (state g new) ≡ stored (state g old))
+  pub closes : IfOk result (λ reply. closes q ≡ true → (parts reply).close ≡ true)
+  pub was_open : HasCleanDisk (state g new) → needs_lives (ask_of rules q) ≡ true → OnOk result (IsTrue (state g old).is_open)
+  pub plain : needs_lives (ask_of rules q) ≡ false → IfOk result (λ reply. (lives : Lives) → Answered (machine rules) q last false lives (parts reply) lives)
+  pub untouched : needs_lives (ask_of rules q) ≡ false → new ≡ old
+  pub works : Works (state g new) → Works (state g old)
+  pub crash : Survives (state g old) (state g new) (Commits (state g old) (lives_after rules (stored (state g old)) q))
+  pub durable : Works (state g old) → HasCleanDisk (state g new) → OnOk result (LeavesOnly (state g new) (lives_after rules (stored (state g old)) q))
+
+-- A request was handled by a machine of these rules: it took the machine's step, or met a refusal and left the lives.
+pub record Handles {S : Type 0} (g : Ghosts S) (machine : Machine Lives) (rules : catalog.Rules) (q : Message) (last : Bool) (old new : Held S) (reply : ReplyParts) : Type 0 where
+  pub handled : Works (state g new) → Handled machine q last (stored (state g old)) reply (stored (state g new))
+  pub stays : Works (state g new) → is_500 reply.status ≡ true → stored (state g new) ≡ stored (state g old)
+  pub plain : needs_lives (ask_of rules q) ≡ false → (lives : Lives) → Handled machine q last lives reply lives
+  pub untouched : needs_lives (ask_of rules q) ≡ false → new ≡ old
+  pub shut : HasCleanDisk (state g new) → IsShut (state g old) → needs_lives (ask_of rules q) ≡ true → reply ≡ refused
+  pub works : Works (state g new) → Works (state g old)
+  pub crash : Survives (state g old) (state g new) (Commits (state g old) (lives_after rules (stored (state g old)) q))
+  pub durable : Works (state g old) → HasCleanDisk (state g new) → reply ≢ refused → LeavesOnly (state g new) (lives_after rules (stored (state g old)) q)

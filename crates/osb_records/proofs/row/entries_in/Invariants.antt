@@ -1,6 +1,0 @@
-use Rattle.std.proofs.Common.{◌≡◌, map, take}
-use Rattle.osb_records.specs.Stored.{entry_row, entry_columns}
-use Rattle.osb_records.proofs.row.entries_in.Given as goal
-
-abbrev pub invariant-loop-row : goal.invariant-loop-row
-invariant-loop-row l = map entry_row l.entries.items ≡ map entry_columns (take l.row-index l.rows)

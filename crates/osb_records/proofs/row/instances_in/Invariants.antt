@@ -1,6 +1,0 @@
-use Rattle.std.proofs.Common.{◌≡◌, map, take}
-use Rattle.osb_records.specs.Instances.{instance_row, instance_columns}
-use Rattle.osb_records.proofs.row.instances_in.Given as goal
-
-abbrev pub invariant-loop-row : goal.invariant-loop-row
-invariant-loop-row l = map instance_row l.entries.items ≡ map instance_columns (take l.row-index l.rows)

@@ -1,0 +1,94 @@
+-- What a statement does inside a transaction. For contracts inside the crate.
+use Rattle.std.specs.Prelude.{◌≡◌, false, IsTrue, ℕ, List, [], Bool, if◌then◌else◌, Some, filter, bytes_eq}
+use Rattle.std.specs.List.{AllByRecursion}
+use Rattle.sqlite.specs.Tree.{Trees}
+use Rattle.sqlite.specs.Schema.{Schema}
+use Rattle.sqlite.specs.Effect.{IsDatabase}
+use Rattle.sqlite.specs.State.{State, HasCleanDisk}
+use Rattle.sqlite.specs.Change.{KeepsRows}
+use Rattle.osb_orders.specs.Lives.{Lives}
+use Rattle.osb_standing.specs.declared.row.InstanceRow.{InstanceRow}
+use Rattle.osb_audit.specs.Instances.{IsRowOf, InstanceEntry, is_instance}
+use Rattle.osb_audit.specs.declared.entry.BindingEntry.{BindingEntry}
+use Rattle.osb_tables.specs.Tables.{tables_schema, listed_schema}
+use Rattle.osb_records.specs.Stored.{Content}
+use Rattle.osb_records.specs.Standing.{IsStanding}
+use Rattle.osb_records.specs.Steps.{stored, content, HasTables}
+
+-- a clean connection that is open has this schema
+abbrev pub ShowsSchema : Schema → State → Type 0
+ShowsSchema schema s = HasCleanDisk s → IsTrue s.is_open → s.now.schema ≡ schema
+
+-- these trees have no rows
+abbrev pub AreBlank : List ℕ → Trees → Type 0
+AreBlank places db = AllByRecursion (λ tree. db tree ≡ []) places
+
+-- a clean connection that is open has this schema, and no rows in these trees
+abbrev pub ShowsBlank : Schema → List ℕ → State → Type 0
+ShowsBlank schema places s = HasCleanDisk s → IsTrue s.is_open → (s.now.schema ≡ schema) × AreBlank places s.now.trees
+
+-- the content with other lives, instances or bindings
+abbrev pub with_lives : Lives → Content → Content
+with_lives lives content = record content { lives = lives }
+
+abbrev pub with_instances : List InstanceEntry → Content → Content
+with_instances instances content = record content { instances = instances }
+
+abbrev pub with_bindings : List BindingEntry → Content → Content
+with_bindings bindings content = record content { bindings = bindings }
+
+-- the entry with another row
+abbrev pub with_row : InstanceRow → InstanceEntry → InstanceEntry
+with_row row entry = (entry.0, row)
+
+-- the instance has this row now, and the others have what they had
+pub record Puts (id : List ℕ) (row : InstanceRow) (before after : List InstanceEntry) : Type 0 where
+  pub here : IsRowOf id (Some row) after
+  pub others : (other : List ℕ) → bytes_eq id other ≡ false → filter (is_instance other) after ≡ filter (is_instance other) before
+
+-- Inside a transaction that goes on, while the store stays open. Nothing is committed.
+pub record Within (old new : State) : Type 0 where
+  pub was_inside : IsTrue old.in_transaction
+  pub inside : IsTrue new.in_transaction
+  pub was_open : IsTrue old.is_open
+  pub is_open : IsTrue new.is_open
+  pub committed : new.committed ≡ old.committed
+
+-- Inside a transaction the content has become this one. Nothing is committed.
+pub record Steps (old new : State) (next : Content) : Type 0 where
+  pub within : Within old new
+  pub tables : HasTables new.now
+  pub lives_are : stored new ≡ next.lives
+  pub instances_are : (content new).instances ≡ next.instances
+  pub bindings_are : (content new).bindings ≡ next.bindings
+  pub sound : IsDatabase new.now
+
+-- Inside a transaction the lives have become these, with the rows that they have. Nothing is committed.
+pub record Writes (old new : State) (lives : Lives) : Type 0 where
+  pub within : Within old new
+  pub tables : HasTables new.now
+  pub lives_are : stored new ≡ lives
+  pub standing : IsStanding (content new)
+  pub sound : IsDatabase new.now
+
+-- Inside a transaction the instance got this row. Nothing is committed.
+pub record PutsInstance (old new : State) (id : List ℕ) (row : InstanceRow) : Type 0 where
+  pub steps : Steps old new (with_instances (content new).instances (content old))
+  pub puts : Puts id row (content old).instances (content new).instances
+
+-- Inside a transaction the schema has become this one, and these trees have no rows. Nothing is committed.
+pub record Makes (old new : State) (schema : Schema) (places : List ℕ) : Type 0 where
+  pub within : Within old new
+  pub schema_is : new.now.schema ≡ schema
+  pub blank : AreBlank places new.now.trees
+
+-- the tables that lack an index or both
+abbrev pub lacking : Bool → Schema
+lacking is_listed = if is_listed then listed_schema else tables_schema
+
+-- Inside a transaction this schema was reached by indexes beside the tables, whose rows stay. Nothing is committed.
+pub record Indexes (schema : Schema) (old new : State) : Type 0 where
+  pub within : Within old new
+  pub schema_is : new.now.schema ≡ schema
+  pub kept : KeepsRows (tables_schema).tables old.now.trees new.now.trees
+  pub sound : IsDatabase new.now

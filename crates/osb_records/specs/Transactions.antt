@@ -1,0 +1,27 @@
+-- What one transaction does to a connection. For contracts inside the crate.
+use Rattle.std.specs.Prelude.{◌≡◌, IsTrue, Result, Err, OnOk, OnErr}
+use Rattle.sqlite.specs.State.{State, HasCleanDisk, Survives}
+use Rattle.osb_orders.specs.Lives.{Lives}
+use Rattle.osb_records.specs.declared.fault.StoreFault.{StoreFault}
+use Rattle.osb_records.specs.declared.fault.StoreFault.TheVariants.{NotOurs}
+use Rattle.osb_records.specs.Steps.{IsReady, stored, LeavesOnly}
+use Rattle.osb_records.specs.Opened.{StandIn}
+use Rattle.osb_records.specs.Commit.{Commits}
+
+-- The database was taken over: at `Ok` it is ready and shows the lives that stood in it, with a fault it is as it was, and
+-- NotOurs says that no lives stand in it.
+pub record TakesOver (old new : State) (result : Result (Unit {0}) StoreFault) : Type 0 where
+  pub ready : OnOk result (IsReady new)
+  pub ok : HasCleanDisk new → IsTrue new.is_open → OnOk result (StandIn old.now (stored new))
+  pub err : HasCleanDisk new → IsTrue new.is_open → OnErr result (new.now ≡ old.now)
+  pub not_ours : HasCleanDisk new → result ≡ Err NotOurs → (lives : Lives) → ¬ StandIn old.now lives
+
+-- The change was committed: at `Ok` the store was open, these are the lives, and a crash leaves them and nothing else; an
+-- error leaves the lives as they were; and a crash of the call leaves what it left before, or these lives.
+pub record BecomesLives (old new : State) (result : Result (Unit {0}) StoreFault) (lives : Lives) : Type 0 where
+  pub ok : HasCleanDisk new → OnOk result (stored new ≡ lives)
+  pub err : HasCleanDisk new → IsTrue new.is_open → OnErr result (stored new ≡ stored old)
+  pub was_open : HasCleanDisk new → IsTrue new.is_open → IsTrue old.is_open
+  pub found_open : HasCleanDisk new → OnOk result (IsTrue old.is_open)
+  pub durable : HasCleanDisk new → OnOk result (LeavesOnly new (stored new))
+  pub crash : Survives old new (Commits old lives)
