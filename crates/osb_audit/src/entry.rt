@@ -1,7 +1,7 @@
 use osb_orders::BindingPhase;
 use osb_text::Text;
 
-/// The row of a binding with its ids. A binding has no maintenance version.
+/// The row of a binding with its ids. A binding has no maintenance version and no context.
 #[derive(Clone, Debug, Drop, PartialEq, Eq)]
 pub struct BindingEntry {
     pub instance: Text,

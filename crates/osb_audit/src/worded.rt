@@ -38,7 +38,8 @@ fn are_of_instance(alloc: Global, attributes: &Attributes) -> Result<bool, Alloc
             && is_id(attributes.plan.as_str())
             && is_id(attributes.place.as_str())
             && is_id(attributes.spot.as_str())
-            && parameters,
+            && parameters
+            && attributes.context.as_str() == "{}",
     )
 }
 
@@ -52,7 +53,8 @@ fn are_of_binding(alloc: Global, attributes: &Attributes) -> Result<bool, AllocE
             && is_id(attributes.plan.as_str())
             && is_id_or_empty(attributes.place.as_str())
             && bind_resource
-            && parameters,
+            && parameters
+            && attributes.context.as_str() == "{}",
     )
 }
 

@@ -30,7 +30,7 @@ use Rattle.osb_orders.specs.declared.view.BindingNow.{BindingNow}
 use Rattle.osb_orders.specs.Lists.{from_last, last_where, last_of}
 use Rattle.osb_orders.specs.Orders.{is_a, is_now, state_number, has_succeeded, is_of_instance, is_of_binding}
 use Rattle.osb_orders.specs.Life.{Life, since_birth, phase_by, standing_of, standing_since}
-use Rattle.osb_orders.specs.Bindings.{since_bind, binding_phase_by, without_maintenance, binding_of, binding_since, has_bindings}
+use Rattle.osb_orders.specs.Bindings.{since_bind, binding_phase_by, of_binding, binding_of, binding_since, has_bindings}
 use Rattle.osb_orders.specs.Facts.{Facts, facts_of}
 use Rattle.osb_orders.specs.Changed.{changed}
 use Rattle.osb_orders.specs.IsLife.{is_empty, is_absent, IsLifeAfter}
@@ -117,6 +117,7 @@ module _ (rules : Rules) (s : Attributes) (a : Update) where
     spot = s.spot;
     parameters = given_twice a.parameters s.parameters i;
     maintenance = maintenance_twice a.maintenance (target rules s a) refl refl i;
+    context = s.context;
   }
 
 same_twice : (a : Attributes) → are_same a a ≡ true
@@ -303,7 +304,7 @@ module _ (rules : Rules) (life : Life) (listing : List (List ℕ × Order)) wher
       unbinding : (since : Life) → (unbind_at rules (facts running) a (binding_since a.binding (grow since (o running)))).change ≡ Nothing
       unbinding [] = refl
       unbinding (bind ∷ later) =
-          subst (λ (last : Order). (unbind_at rules (facts running) a (Some (record { phase = binding_phase_by last.kind last.outcome.state; attributes = without_maintenance bind.attributes; credentials = bind.outcome.credentials }))).change ≡ Nothing)
+          subst (λ (last : Order). (unbind_at rules (facts running) a (Some (record { phase = binding_phase_by last.kind last.outcome.state; attributes = of_binding bind.attributes; credentials = bind.outcome.credentials }))).change ≡ Nothing)
           (sym (last_where-hit (is_unbind_of a.binding) bind later (o running) (same_bytes a.binding))) (accepted_quiet a.accepts_incomplete (last_of (life ++ o running ∷ [])))
 
       over : (p : BindingPhase) → Settles (the.Unbind a) (unbind_over p rules (facts_of life listing (the.Unbind a)) b a)

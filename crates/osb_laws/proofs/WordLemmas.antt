@@ -127,7 +127,7 @@ binding_words : (id : List ℕ) (since : Life) → Era (λ o. is_a kind.Bind o &
 binding_words id [] era = tt
 binding_words id (bind ∷ later) era =
     let words = bind_words bind.kind (is_of_binding id bind) bind.binding bind.attributes era.0 era.1.0.texts in
-    record { service = words.service; plan = words.plan; app_guid = words.app_guid; bind_resource = words.bind_resource; parameters = words.parameters }
+    record { service = words.service; plan = words.plan; app_guid = words.app_guid; bind_resource = words.bind_resource; parameters = words.parameters; context = refl }
 
 -- What an ask writes
 
@@ -163,7 +163,7 @@ module _ (rules : Rules) (facts : Facts) where
   provisioning a asked = past (is_unlike a.maintenance (catalog_version rules a.service a.plan)) _ _ tt (at facts.standing)
     where
       at : (s : Option Standing) → Words (provision_at rules facts a s)
-      at None = opening (creation rules a) (refl, record { service = asked.1; plan = asked.2; organization = asked.3; space = asked.4; parameters = asked.6 }) empty_is_object
+      at None = opening (creation rules a) (refl, record { service = asked.1; plan = asked.2; organization = asked.3; space = asked.4; parameters = asked.6; context = refl }) empty_is_object
       at (Some s) = quiet _ (provision_over_quiet s.phase _ a facts)
 
   updating : (a : Update) (s : Option Standing) → asks.IsWorded (the.Update a) → IfSome s (λ s. AreOfInstance s.attributes) → Words (update_at rules facts a s)
@@ -185,6 +185,7 @@ module _ (rules : Rules) (facts : Facts) where
               organization = words.organization;
               space = words.space;
               parameters = given_words IsObject s.attributes.parameters a.parameters words.parameters asked.4;
+              context = words.context;
             },
           ) empty_is_object)))
 
@@ -212,7 +213,7 @@ module _ (rules : Rules) (facts : Facts) where
       by : (b : Option BindingNow) → Words (bind_by rules facts s.attributes a b)
       by None =
           past (is_busy facts) _ _ tt (past (not (is_of_plan a s.attributes)) _ _ tt (past (not (is_bindable rules s.attributes.service s.attributes.plan)) _ _ tt
-          (opening (bind_opening rules s.attributes a) (asked.1, record { service = asked.2; plan = asked.3; app_guid = app_words a.app_guid asked.4; bind_resource = asked.5; parameters = asked.7 }) (good s.attributes.plan))))
+          (opening (bind_opening rules s.attributes a) (asked.1, record { service = asked.2; plan = asked.3; app_guid = app_words a.app_guid asked.4; bind_resource = asked.5; parameters = asked.7; context = refl }) (good s.attributes.plan))))
       by (Some b) = quiet _ (bind_over_quiet b.phase _ b facts a)
 
       over : (p : InstancePhase) → Words (bind_in p rules facts s.attributes a)

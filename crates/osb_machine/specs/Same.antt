@@ -5,7 +5,7 @@ use Rattle.osb_asks.specs.declared.ask.Provision.{Provision}
 use Rattle.osb_asks.specs.declared.ask.Bind.{Bind}
 use Rattle.osb_orders.specs.declared.order.Attributes.{Attributes}
 
--- equal in all six
+-- equal in all but the context
 abbrev pub are_same : Attributes → Attributes → Bool
 are_same one other = bytes_eq one.service other.service && bytes_eq one.plan other.plan && bytes_eq one.place other.place && bytes_eq one.spot other.spot && bytes_eq one.parameters other.parameters && bytes_eq one.maintenance other.maintenance
 

@@ -33,9 +33,9 @@ target_maintenance rules instance ask None =
     if bytes_eq (target_plan instance ask) instance.plan then instance.maintenance
     else catalog_version rules instance.service (target_plan instance ask)
 
--- what the instance is to have
+-- what the instance is to have; its context stays
 abbrev pub target : Rules → Attributes → Update → Attributes
-target rules instance ask = record { service = instance.service; plan = target_plan instance ask; place = instance.place; spot = instance.spot; parameters = target_parameters instance ask; maintenance = target_maintenance rules instance ask ask.maintenance }
+target rules instance ask = record { service = instance.service; plan = target_plan instance ask; place = instance.place; spot = instance.spot; parameters = target_parameters instance ask; maintenance = target_maintenance rules instance ask ask.maintenance; context = instance.context }
 
 -- by the mode of the plan that the instance has
 abbrev pub update_opening : Rules → Attributes → Update → Attributes → Opening

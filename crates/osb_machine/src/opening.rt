@@ -1,4 +1,4 @@
-ghost use Rattle.std.specs.Prelude.{◌≡◌, IfOk};
+ghost use Rattle.std.specs.Prelude.{if◌then◌else◌, ◌≡◌, IfOk};
 ghost use Rattle.osb_catalog.specs.Rules.{rules_of};
 ghost use Rattle.osb_orders.specs.Facts.{facts};
 ghost use Rattle.osb_machine.specs.Opened.{opened, begins, carried_out, numbered, accepted, is_busy, is_unlike, running, succeeded_with};
@@ -42,7 +42,19 @@ pub(crate) fn open<'a>(
     if settings.order_limit() <= view.count {
         return Ok(Step::refuses(FixedError::Full));
     }
-    let number = view.count + 1;
+    open_numbered(alloc, view.count + 1, opening)
+}
+
+/// Begins the order of that number, or carries it out at once.
+fn open_numbered<'a>(
+    alloc: Global,
+    number: u32,
+    opening: Opening<'a>,
+) -> Result<Step<'a>, AllocError>
+    ensures { IfOk result (λ step. reaction step ≡ (if opening.entry.asynchronous
+        then begins (numbered number (opening_of opening.entry) running)
+        else carried_out number (opening_of opening.entry))) }
+{
     if opening.asynchronous {
         begin(alloc, number, opening)
     } else {

@@ -6,7 +6,7 @@ ghost use Rattle.osb_machine.specs.Same.{are_same, is_same_instance, app_guid_of
 use osb_asks::{Bind, Provision};
 use osb_orders::Attributes;
 
-/// Equal in all six.
+/// Equal in all but the context.
 pub(crate) fn are_same(one: &Attributes, other: &Attributes) -> bool
     ensures { result ≡ are_same one.now other.now }
 {

@@ -170,7 +170,7 @@ fn update_opening<'a>(
     })
 }
 
-/// What the instance is to have.
+/// What the instance is to have. Its context stays.
 fn target(
     alloc: Global,
     settings: &Settings,
@@ -186,6 +186,7 @@ fn target(
         spot: instance.spot.clone()?,
         parameters: Text::from_str(alloc, target_parameters(instance, ask))?,
         maintenance: Text::from_str(alloc, target_maintenance(settings, instance, ask))?,
+        context: instance.context.clone()?,
     })
 }
 

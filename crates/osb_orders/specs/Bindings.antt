@@ -11,7 +11,7 @@ use Rattle.osb_orders.specs.declared.view.BindingPhase.{BindingPhase}
 use Rattle.osb_orders.specs.declared.view.BindingPhase.TheVariants as phase
 use Rattle.osb_orders.specs.declared.view.BindingNow.{BindingNow}
 use Rattle.osb_orders.specs.Lists.{from_last, last_where}
-use Rattle.osb_orders.specs.Orders.{is_a, has_succeeded, is_of_binding}
+use Rattle.osb_orders.specs.Orders.{is_a, has_succeeded, is_of_binding, no_context}
 use Rattle.osb_orders.specs.Life.{Life, since_birth}
 
 -- The birth of a binding is the last Bind of its id after which no Unbind of that id succeeded. These are the orders from
@@ -35,14 +35,14 @@ binding_phase_since id bind later =
     let last = last_where (λ order. is_a Unbind order && is_of_binding id order) bind later in
     binding_phase_by last.kind last.outcome.state
 
--- a binding has no maintenance version
-abbrev pub without_maintenance : Attributes → Attributes
-without_maintenance attributes = record attributes { maintenance = [] }
+-- a binding has no maintenance version and no context
+abbrev pub of_binding : Attributes → Attributes
+of_binding attributes = record attributes { maintenance = []; context = no_context }
 
 -- the attributes and the credentials are those of the Bind
 abbrev pub binding_since : List ℕ → Life → Option BindingNow
 binding_since id [] = None
-binding_since id (bind ∷ later) = Some (record { phase = binding_phase_since id bind later; attributes = without_maintenance bind.attributes; credentials = bind.outcome.credentials })
+binding_since id (bind ∷ later) = Some (record { phase = binding_phase_since id bind later; attributes = of_binding bind.attributes; credentials = bind.outcome.credentials })
 
 -- the binding, unless it is absent
 abbrev pub binding_of : List ℕ → Life → Option BindingNow

@@ -7,6 +7,10 @@ use Rattle.osb_orders.specs.declared.order.OrderState.{OrderState}
 use Rattle.osb_orders.specs.declared.order.OrderState.TheVariants.{Running, Succeeded, Failed}
 use Rattle.osb_orders.specs.declared.order.Order.{Order}
 
+-- the context of what has none: an object without members
+abbrev pub no_context : List ℕ
+no_context = codes "{}"
+
 -- the numbers by which kinds and states are stored
 abbrev pub kind_number : OrderKind → ℕ
 kind_number Create = 1

@@ -23,6 +23,7 @@ pub enum OrderState {
 
 /// What an order is for. `place` and `spot` are the organization and the space of an instance; of
 /// a binding they are its `app_guid`, which may be empty, and its `bind_resource` as a compact text.
+/// `context` is the platform's, a compact text.
 #[derive(Clone, Debug, Drop, PartialEq, Eq)]
 pub struct Attributes {
     pub service: Text,
@@ -31,6 +32,7 @@ pub struct Attributes {
     pub spot: Text,
     pub parameters: Text,
     pub maintenance: Text,
+    pub context: Text,
 }
 
 /// How an order stands, what its report said, and the credentials that a binding got. They are `{}`

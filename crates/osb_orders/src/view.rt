@@ -27,7 +27,8 @@ pub struct Standing {
     pub attributes: Attributes,
 }
 
-/// A binding that isn't absent. It has no maintenance version: that of its attributes is empty.
+/// A binding that isn't absent. It has no maintenance version and no context: those of its
+/// attributes are empty, the context an object without members.
 #[derive(Clone, Debug, Drop, PartialEq, Eq)]
 pub struct BindingNow {
     pub phase: BindingPhase,

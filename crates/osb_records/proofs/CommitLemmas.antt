@@ -1,11 +1,12 @@
 -- What a change writes, and what stands after it.
-use Rattle.std.proofs.Common.{◌≡◌, ℕ, ◌+◌, List, [], ◌∷◌, ◌++◌, length, Some, refl, sym, ap, subst, ◌∙◌, arith}
+use Rattle.std.proofs.Common.{◌≡◌, ℕ, ◌+◌, List, [], ◌∷◌, ◌++◌, length, Some, IsTrue, Ok, Err, Result, OnOk, refl, sym, ap, subst, ◌∙◌, arith}
 use Rattle.std.specs.Prelude.{IfSome}
 use Rattle.std.specs.List.{AllByRecursion}
 use Rattle.std.specs.Cmp.Lexicographic.{nat_list_cmp_total}
 use Rattle.std.specs.FinMap.{get, insert, get-insert}
 use Rattle.sqlite.specs.Effect.{Database}
-use Rattle.sqlite.specs.State.{State, IsUnchanged}
+use Rattle.sqlite.specs.State.{State, HasCleanDisk, IsUnchanged}
+use Rattle.sqlite.proofs.StateLemmas.{survives_weaker}
 use Rattle.osb_orders.specs.declared.order.Outcome.{Outcome}
 use Rattle.osb_orders.specs.declared.order.Order.{Order}
 use Rattle.osb_orders.specs.declared.order.Change.{Change}
@@ -22,10 +23,15 @@ use Rattle.osb_standing.proofs.ReadLemmas.{life_found}
 use Rattle.osb_records.specs.Stored.{content_in, lives_stored}
 use Rattle.osb_records.specs.Inside.{with_lives, Steps, Writes}
 use Rattle.osb_records.specs.Standing.{IsStanding}
-use Rattle.osb_records.specs.Steps.{stored, content}
+use Rattle.osb_records.specs.Steps.{stored, content, HoldsLives}
 use Rattle.osb_records.proofs.TestLemmas.{bytes_itself}
 use Rattle.osb_records.proofs.LivesLemmas.{IsNumberedFrom, numbered, length_one_more, same_number_is, other_number, key_is}
-use Rattle.osb_records.proofs.StepLemmas.{within_then, within_later}
+use Rattle.osb_bare.specs.Bare.{bare_order}
+use Rattle.osb_bare.proofs.WordLemmas.{change_is_bare}
+use Rattle.osb_records.specs.declared.fault.StoreFault.{StoreFault}
+use Rattle.osb_records.specs.Commit.{Commits}
+use Rattle.osb_records.specs.Transactions.{BecomesLives}
+use Rattle.osb_records.proofs.StepLemmas.{clean_before, within_then, within_later}
 
 -- ---- the order that is written
 
@@ -59,6 +65,13 @@ append_written lives id order whole whole_after =
       allowed = record { room = omega (arith, now.count, length_one_more before order); next = next_after [] before order now.orders; texts = last_worded before order now.texts };
       writes = refl;
     }
+
+-- what may be appended has no context as yet
+pub append_is_bare : (lives : Lives) (id : List ℕ) (order : Order) → IsLives lives → IsLives (lives_changed (Append order) id lives) → bare_order order ≡ order
+append_is_bare lives id order whole after = same (change_is_bare (life_of lives id) (Append order) (append_written lives id order whole after).allowed)
+  where
+    same : Append (bare_order order) ≡ Append order → bare_order order ≡ order
+    same is = cc
 
 pub finish_written : (lives : Lives) (id : List ℕ) (number : ℕ) (outcome : Outcome) (order : Order) → IsLives lives → IsFinishable (life_of lives id) number outcome → order_written (last_of (life_of lives id)) (Finish number outcome) ≡ Some order
     → IsWritten (life_of lives id) (Finish number outcome) order
@@ -107,3 +120,24 @@ written_later first read mid new id order change same written standing rows stan
       sound = rows.sound;
     } in
     written_after first mid new id change rows_first (stands_first change written standing) ended
+
+-- the same lives in other words
+pub becomes_same : (old new : State) (result : Result (Unit {0}) StoreFault) (lives next : Lives) → (HasCleanDisk old → IsTrue old.is_open → lives ≡ next) → BecomesLives old new result lives → BecomesLives old new result next
+becomes_same old new result lives next same becomes = record {
+  ok = λ clean. go result (becomes.ok clean) (becomes.found_open clean) (before clean);
+  err = becomes.err;
+  was_open = becomes.was_open;
+  found_open = becomes.found_open;
+  durable = becomes.durable;
+  crash = survives_weaker old new (Commits old lives) (Commits old next) (λ clean db left.
+      let is = same (before clean) left.was_open in
+      record { was_open = left.was_open; whole = subst IsLives is left.whole; holds = subst (λ l. HoldsLives l db) is left.holds })
+      becomes.crash;
+}
+  where
+    before : HasCleanDisk new → HasCleanDisk old
+    before = clean_before old new _ becomes.crash
+
+    go : (r : Result (Unit {0}) StoreFault) → OnOk r (stored new ≡ lives) → OnOk r (IsTrue old.is_open) → HasCleanDisk old → OnOk r (stored new ≡ next)
+    go (Ok _) is live clean = is ∙ same clean live
+    go (Err _) is live clean = tt

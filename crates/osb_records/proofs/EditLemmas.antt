@@ -21,7 +21,7 @@ use Rattle.osb_orders.specs.declared.order.Change.{Change}
 use Rattle.osb_orders.specs.declared.view.BindingNow.{BindingNow}
 use Rattle.osb_orders.specs.Orders.{is_about_binding}
 use Rattle.osb_orders.specs.Life.{Life, since_birth}
-use Rattle.osb_orders.specs.Bindings.{without_maintenance, binding_since, since_bind}
+use Rattle.osb_orders.specs.Bindings.{of_binding, binding_since, since_bind}
 use Rattle.osb_orders.specs.Changed.{changed}
 use Rattle.osb_standing.specs.declared.row.BindingEdit.{BindingEdit}
 use Rattle.osb_standing.specs.declared.row.BindingEdit.TheVariants.{Keep, Put, Remove, Clear}
@@ -119,35 +119,35 @@ bound_key id binding entry hit = go (is_bound id entry) refl hit
 -- ---- finding a row
 
 -- the binding without a maintenance version
-abbrev bare : BindingNow → BindingNow
-bare row = record row { attributes = without_maintenance row.attributes }
+abbrev as_kept : BindingNow → BindingNow
+as_kept row = record row { attributes = of_binding row.attributes }
 
-found_in : (id binding : List ℕ) (es : Kept) → option_map binding_now (slice_get (filter (is_binding id binding) (map (binding_entry id) es)) 0) ≡ option_map bare (find by_bytes binding es)
+found_in : (id binding : List ℕ) (es : Kept) → option_map binding_now (slice_get (filter (is_binding id binding) (map (binding_entry id) es)) 0) ≡ option_map as_kept (find by_bytes binding es)
 found_in id binding [] = refl
 found_in id binding (e ∷ es) = go (bytes_eq e.0 binding) refl (found_in id binding es)
   where
     rest : List BindingEntry
     rest = filter (is_binding id binding) (map (binding_entry id) es)
 
-    go : (b : Bool) → bytes_eq e.0 binding ≡ b → option_map binding_now (slice_get rest 0) ≡ option_map bare (find by_bytes binding es)
-        → option_map binding_now (slice_get (cond (is_binding id binding (binding_entry id e)) (binding_entry id e ∷ rest) rest) 0) ≡ option_map bare (cond (eq_by_cmp by_bytes binding e.0) (Some e.1) (find by_bytes binding es))
+    go : (b : Bool) → bytes_eq e.0 binding ≡ b → option_map binding_now (slice_get rest 0) ≡ option_map as_kept (find by_bytes binding es)
+        → option_map binding_now (slice_get (cond (is_binding id binding (binding_entry id e)) (binding_entry id e ∷ rest) rest) 0) ≡ option_map as_kept (cond (eq_by_cmp by_bytes binding e.0) (Some e.1) (find by_bytes binding es))
     go true is more = rw (test_is id binding e, key_is binding e.0, is) refl
     go false is more = rw (test_is id binding e, key_is binding e.0, is) more
 
-bare_of : (binding : List ℕ) (orders : Life) → option_map bare (binding_since binding orders) ≡ binding_since binding orders
-bare_of binding [] = refl
-bare_of binding (bind ∷ later) = refl
+kept_of : (binding : List ℕ) (orders : Life) → option_map as_kept (binding_since binding orders) ≡ binding_since binding orders
+kept_of binding [] = refl
+kept_of binding (bind ∷ later) = refl
 
-bare_row : (life : Life) (binding : List ℕ) → option_map bare (get (bindings_of life) binding) ≡ get (bindings_of life) binding
-bare_row life binding = ap (option_map bare) (bindings_are life binding) ∙ bare_of binding (since_bind binding (since_birth life)) ∙ sym (bindings_are life binding)
+kept_row : (life : Life) (binding : List ℕ) → option_map as_kept (get (bindings_of life) binding) ≡ get (bindings_of life) binding
+kept_row life binding = ap (option_map as_kept) (bindings_are life binding) ∙ kept_of binding (since_bind binding (since_birth life)) ∙ sym (bindings_are life binding)
 
 -- the row that is found is that of the life
 pub found_row : (id binding : List ℕ) (life : Life) (bindings : List BindingEntry) → BindingsStand id life bindings → binding_found id binding bindings ≡ get (bindings_of life) binding
 found_row id binding life bindings stands =
     ap (λ (es : List BindingEntry). option_map binding_now (slice_get es 0)) (sym (filter-filter (is_binding id binding) (is_bound id) (bound_key id binding) bindings) ∙ ap (filter (is_binding id binding)) stands)
     ∙ found_in id binding (entries (bindings_of life))
-    ∙ ap (option_map bare) (sym (get-entries (bindings_of life) binding))
-    ∙ bare_row life binding
+    ∙ ap (option_map as_kept) (sym (get-entries (bindings_of life) binding))
+    ∙ kept_row life binding
 
 -- ---- a row away
 

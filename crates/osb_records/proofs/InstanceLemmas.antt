@@ -28,10 +28,12 @@ use Rattle.osb_audit.specs.declared.entry.BindingEntry.{BindingEntry}
 use Rattle.osb_audit.specs.Bindings.{binding_cmp}
 use Rattle.osb_records.specs.Bindings.{binding_cells, binding_row}
 use Rattle.osb_audit.specs.Orders.{Entry, entry_cmp}
-use Rattle.osb_records.specs.Stored.{entry_row, order_cells, version_row, version_cells, entries_in, instances_in, bindings_in}
+use Rattle.osb_bare.specs.Bare.{bare_row}
+use Rattle.osb_records.specs.Stored.{AreBareRows, entry_row, order_cells, version_row, version_cells, entries_in, instances_in, bindings_in}
 use Rattle.osb_records.specs.Steps.{HasTables}
 use Rattle.osb_rows.proofs.AnswerLemmas.{one_answer}
-use Rattle.osb_records.proofs.SortLemmas.{instance_total, instance_back}
+use Rattle.osb_records.proofs.SortLemmas.{instance_total, row_told_back}
+use Rattle.osb_records.proofs.BareLemmas.{all_filtered, instances_bare}
 use Rattle.osb_records.proofs.SelectLemmas.{then_equal}
 use Rattle.osb_rows.proofs.StatementLemmas.{insert_does, update_does}
 use Rattle.osb_rows.proofs.StoresLemmas.{one_hit}
@@ -138,23 +140,25 @@ hit_is id entry (first ∷ entries) one = go (is_instance id first) refl one (hi
     go true is one more = let same : first ≡ entry = cc in subst (λ e. is_instance id e ≡ true) same is
     go false is one more = more one
 
-row_told : (id : List ℕ) (entry : InstanceEntry) → is_instance id entry ≡ true → entry ∷ [] ≡ map (λ (row : InstanceRow). (id, row)) (instance_row_told (instance_row entry) ∷ [])
-row_told id entry is = same entry.0 entry.1 (same_bytes entry.0 id is) (ap (λ (e : InstanceEntry). e.1) (instance_back entry))
+row_told : (id : List ℕ) (entry : InstanceEntry) → bare_row entry.1 ≡ entry.1 → is_instance id entry ≡ true → entry ∷ [] ≡ map (λ (row : InstanceRow). (id, row)) (instance_row_told (instance_row entry) ∷ [])
+row_told id entry bare is = same entry.0 entry.1 (same_bytes entry.0 id is) (ap (λ (e : InstanceEntry). e.1) (row_told_back entry bare))
   where
     same : (key : List ℕ) (row : InstanceRow) {told : InstanceRow} → key ≡ id → told ≡ row → ◌≡◌ {A = List InstanceEntry} ((key, row) ∷ []) ((id, told) ∷ [])
     same key row is told = rw (is, told) refl
 
-one_row : (id : List ℕ) (instances : List InstanceEntry) (rows : List Row) → rows ≡ map instance_row (filter (is_instance id) instances)
+one_row : (id : List ℕ) (instances : List InstanceEntry) (rows : List Row) → AreBareRows instances → rows ≡ map instance_row (filter (is_instance id) instances)
     → (filter (is_instance id) instances ≡ []) ⊎ ((entry : InstanceEntry) × (filter (is_instance id) instances ≡ entry ∷ [])) → IsRowOf id (first_told rows) instances
-one_row id instances rows is (inl none) = rw (is, none) refl
-one_row id instances rows is (inr one) = rw (is, one.1) (row_told id one.0 (hit_is id one.0 instances one.1))
+one_row id instances rows bare is (inl none) = rw (is, none) refl
+one_row id instances rows bare is (inr one) =
+    let alone = subst AreBareRows one.1 (all_filtered _ (is_instance id) instances bare) in
+    rw (is, one.1) (row_told id one.0 alone.0 (hit_is id one.0 instances one.1))
 
 pub shows_instance : (old new : State) (tables : HasTables old.now) (id : List ℕ) (rows : List Row) → Shown select_instance (Text id ∷ []) old new rows → IsRowOf id (first_told rows) (instances_in old.now.trees)
 shows_instance old new tables id rows h =
     let params = Text id ∷ [] in
     let instances = instances_in old.now.trees in
     let read = reads_as select_instance params old new record_schema tables.schema _ select_instance_is.0 select_instance_is.2 select_instance_is.1 rows h in
-    one_row id instances rows
+    one_row id instances rows (instances_bare old.now.trees)
     (one_answer 3 (is_at 1 0 ∷ []) instance_cells_read by_instance every (overlay old.now.trees []) params instance_cells instance_row instance_cmp instance_total (is_instance id)
     (λ _. refl) (λ _. refl) (at_id id []) (λ a b less. by_id a b ∙ less) instances rows tables.holds.instances (read.answer Null))
     (one_hit instance_cmp instance_total (is_instance id) (one_id id) instances tables.holds.instances.rising)

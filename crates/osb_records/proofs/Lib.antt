@@ -11,6 +11,7 @@ pub mod ReadLemmas
 pub mod InstanceLemmas
 pub mod ListingLemmas
 pub mod BackLemmas
+pub mod BareLemmas
 pub mod OrderTexts
 pub mod OrderLemmas
 pub mod SubjectLemmas

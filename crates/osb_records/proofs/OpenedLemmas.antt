@@ -1,11 +1,10 @@
 -- What the lists that were read say of the database.
-use Rattle.std.proofs.Common.{◌≡◌, inl, inr, IsTrue, Bool, true, ℕ, List, [], ◌∷◌, Ordering, Less, nat_cmp, refl, sym, ap, subst}
+use Rattle.std.proofs.Common.{◌≡◌, inl, inr, IsTrue, Bool, true, ℕ, List, [], ◌∷◌, Ordering, Less, nat_cmp, refl, sym, ap, subst, ◌∙◌}
 use Rattle.std.specs.Prelude.{◌↔◌, ◌≢◌}
 use Rattle.std.specs.FinMap.{empty}
 use Rattle.std.specs.List.Sorted.{IsStrictlySortedBy}
 use Rattle.sqlite.specs.Order.{Row}
 use Rattle.sqlite.specs.Tree.{Trees}
-use Rattle.sqlite.specs.Schema.{Schema}
 use Rattle.sqlite.specs.Effect.{Database}
 use Rattle.sqlite.specs.State.{State, HasCleanDisk}
 use Rattle.sqlite_trees.specs.Tree.{IsAscending}
@@ -22,8 +21,12 @@ use Rattle.osb_records.specs.Stored.{Holds, content_in, lives_stored, entries_in
 use Rattle.osb_records.specs.Standing.{IsStanding}
 use Rattle.osb_records.specs.Opened.{StoreLives, StandIn, HoldsSame}
 use Rattle.osb_records.specs.Steps.{HasTables, HoldsLives, IsSettled, IsReady}
-use Rattle.osb_tables.specs.Tables.{no_schema, tables_schema, listed_schema, record_schema}
-use Rattle.osb_records.proofs.SortLemmas.{entries_are, instances_are, bindings_are, held_again}
+use Rattle.osb_tables.specs.Tables.{made, no_schema, tables_schema, five_tables, record_schema}
+use Rattle.osb_tables.specs.declared.schema.Indexes.{Indexes}
+use Rattle.osb_tables.specs.declared.schema.Indexes.TheVariants.{None, Listing, Both}
+use Rattle.osb_tables.proofs.SchemaLemmas.{versions_apart, second_is_something}
+use Rattle.osb_records.proofs.SortLemmas.{same_bare, same_rows, same_bindings, same_versions, entries_are, instances_are, bindings_are, held_again}
+use Rattle.osb_records.proofs.BareLemmas.{stored_bare, instances_bare}
 
 module _ {E : Type 0} (cmp : E → E → Ordering) where
   ascends : (es : List E) → IsStrictlySortedBy cmp es → IsAscending (λ a b. cmp a b ≡ Less) es
@@ -55,27 +58,27 @@ module _ (db : Trees) (versions : List ℕ) (orders : List Entry) (instances : L
       let stand = it.1.1 in
       let holds : Holds orders instances bindings db = record {
         format = subst (Stores _ _ nat_cmp (db 0)) it.0 (stored_list nat_cmp _ _ (db 0) versions of_versions (subst (IsStrictlySortedBy nat_cmp) (sym it.0) one_rises));
-        orders = stored_list entry_cmp _ _ (db 1) orders of_orders rise.orders_rise;
-        instances = stored_list instance_cmp _ _ (db 3) instances of_instances rise.instances_rise;
+        orders = stored_list entry_cmp _ _ (db 1) orders of_orders.0 rise.orders_rise;
+        instances = stored_list instance_cmp _ _ (db 3) instances of_instances.0 rise.instances_rise;
         bindings = stored_list binding_cmp _ _ (db 5) bindings of_bindings rise.bindings_rise;
       } in
-      let lives = ap lives_in (entries_are db orders holds.orders) in
+      let lives = ap lives_in (entries_are db orders of_orders.1 holds.orders) in
       record {
-        holds = held_again db orders instances bindings holds;
+        holds = held_again db orders instances bindings of_orders.1 of_instances.1 holds;
         lives = subst IsLives (sym lives) stand.lives;
         standing = record {
-          instances = rw (lives, instances_are db instances holds.instances) stand.instances_stand;
+          instances = rw (lives, instances_are db instances of_instances.1 holds.instances) stand.instances_stand;
           bindings = rw (lives, bindings_are db bindings holds.bindings) stand.bindings_stand;
         };
       }
 
   passes : StoreLives db → Passes
   passes it =
-      let is_orders = of_orders.only (entries_in db) it.holds.orders in
-      let is_instances = of_instances.only (instances_in db) it.holds.instances in
-      let is_bindings = of_bindings.only (bindings_in db) it.holds.bindings in
+      let is_orders = same_bare (entries_in db) orders (stored_bare db) of_orders.1 (of_orders.0.only (entries_in db) it.holds.orders) in
+      let is_instances = same_rows (instances_in db) instances (instances_bare db) of_instances.1 (of_instances.0.only (instances_in db) it.holds.instances) in
+      let is_bindings = same_bindings (bindings_in db) bindings (of_bindings.only (bindings_in db) it.holds.bindings) in
       let lives = ap lives_in is_orders in (
-        sym (of_versions.only (1 ∷ []) it.holds.format),
+        sym (same_versions (1 ∷ []) versions (of_versions.only (1 ∷ []) it.holds.format)),
         (
           record {
             orders_rise = subst (IsStrictlySortedBy entry_cmp) is_orders (rises entry_cmp (entries_in db) it.holds.orders.rising);
@@ -105,23 +108,15 @@ ready_by old new settled same schema stored = record {
   committed = settled.committed;
 }
 
--- the lives of a database that has all
-pub all_stand : (old new : Database) → new ≡ old → old.schema ≡ record_schema → StoreLives old.trees → StandIn old (lives_stored new.trees)
-all_stand old new same schema stored = inr (inr (inr schema), stored, ap (λ (d : Database). lives_stored d.trees) same)
+-- other tables than those of version 1
+pub others_stand : (db : Database) → db.schema ≢ no_schema → ((indexes : Indexes) → db.schema ≢ made tables_schema indexes) → (lives : Lives) → ¬ StandIn db lives
+others_stand db nothing others lives (inl none) = nothing none.0
+others_stand db nothing others lives (inr (inl some, it, are)) = others None some
+others_stand db nothing others lives (inr (inr (inl some), it, are)) = others Listing some
+others_stand db nothing others lives (inr (inr (inr some), it, are)) = others Both some
 
--- other tables, or rows of no lives
-pub others_stand : (db : Database) → db.schema ≢ no_schema → db.schema ≢ tables_schema → db.schema ≢ listed_schema → db.schema ≢ record_schema → (lives : Lives) → ¬ StandIn db lives
-others_stand db nothing tables listed all lives (inl none) = nothing none.0
-others_stand db nothing tables listed all lives (inr (inl some, it, are)) = tables some
-others_stand db nothing tables listed all lives (inr (inr (inl some), it, are)) = listed some
-others_stand db nothing tables listed all lives (inr (inr (inr some), it, are)) = all some
-
-pub foreign_stand : (db : Database) → db.schema ≢ no_schema → ¬ StoreLives db.trees → (lives : Lives) → ¬ StandIn db lives
-foreign_stand db some none lives (inl nothing) = some nothing.0
-foreign_stand db some none lives (inr it) = none it.1
-
-pub no_tables : record_schema ≢ no_schema
-no_tables is = absurd (let tables = ap (λ (s : Schema). s.tables) is in cc)
+pub second_stand : (db : Database) (indexes : Indexes) → db.schema ≡ made five_tables indexes → (lives : Lives) → ¬ StandIn db lives
+second_stand db indexes is = others_stand db (λ none. second_is_something indexes (sym is ∙ none)) (λ first some. versions_apart first indexes (sym some ∙ is))
 
 -- an empty database stays one, or has the tables of no lives
 pub empty_same : (old : Database) → old.schema ≡ no_schema → (db : Trees) → HoldsLives empty db → HoldsSame old db

@@ -17,38 +17,39 @@ use Rattle.osb_orders.specs.Lives.{life_of}
 use Rattle.osb_orders.specs.Named.{order_numbered}
 use Rattle.osb_tables.specs.Tables.{record_schema}
 use Rattle.osb_audit.specs.Orders.{Entry, entry_cmp, is_of}
-use Rattle.osb_records.specs.Stored.{entry_row, order_cells, entries_in}
+use Rattle.osb_records.specs.Stored.{AreBare, entry_row, order_cells, entries_in}
 use Rattle.osb_records.specs.Steps.{HasTables, stored}
 use Rattle.osb_records.specs.Queries.{first_order, is_kind_of}
 use Rattle.osb_records.proofs.TestLemmas.{is_keyed, same_text, same_number, and_true, at_key}
-use Rattle.osb_records.proofs.SortLemmas.{entry_total, told_back}
+use Rattle.osb_records.proofs.SortLemmas.{entry_total, entry_told_back}
+use Rattle.osb_records.proofs.BareLemmas.{all_filtered, stored_bare}
 use Rattle.osb_rows.proofs.AnswerLemmas.{one_answer}
 use Rattle.osb_records.proofs.SelectLemmas.{by_both}
 use Rattle.osb_records.proofs.LivesLemmas.{life_in, life_of_lives}
-use Rattle.osb_records.proofs.BackLemmas.{back, stores_back, filter_back, first_back, last_map}
+use Rattle.osb_records.proofs.BackLemmas.{back, all_back, stores_back, filter_back, first_back, last_map}
 use Rattle.osb_records.proofs.Texts.{all_cells, by_key, every}
 use Rattle.osb_records.proofs.OrderTexts.{by_key_back, one, select_order, order_tests, select_order_is, select_last, last_tests, select_last_is}
 
 -- ---- the first row
 
-told_first : (es : List Entry) → first_order (map entry_row es) ≡ option_map (λ (e : Entry). e.1) (slice_get es 0)
-told_first [] = refl
-told_first (e ∷ es) = ap (λ (entry : Entry). Some entry.1) (told_back e)
+told_first : (es : List Entry) → AreBare es → first_order (map entry_row es) ≡ option_map (λ (e : Entry). e.1) (slice_get es 0)
+told_first [] bare = refl
+told_first (e ∷ es) bare = ap (λ (entry : Entry). Some entry.1) (entry_told_back e bare.0)
 
 take_first : (rows : List Row) → first_order (take 1 rows) ≡ first_order rows
 take_first [] = refl
 take_first (row ∷ rows) = refl
 
-found_first : (id : List ℕ) (number : ℕ) (es : List Entry) → first_order (map entry_row (filter (is_keyed id number) es)) ≡ order_numbered number (life_in id es)
-found_first id number [] = refl
-found_first id number (e ∷ es) = go (is_of id e) (e.1.number == number) refl (found_first id number es)
+found_first : (id : List ℕ) (number : ℕ) (es : List Entry) → AreBare es → first_order (map entry_row (filter (is_keyed id number) es)) ≡ order_numbered number (life_in id es)
+found_first id number [] bare = refl
+found_first id number (e ∷ es) bare = go (is_of id e) (e.1.number == number) refl (found_first id number es bare.1)
   where
     rest : List Entry
     rest = filter (is_keyed id number) es
 
     go : (b c : Bool) → (e.1.number == number) ≡ c → first_order (map entry_row rest) ≡ order_numbered number (life_in id es)
         → first_order (map entry_row (cond (b && c) (e ∷ rest) rest)) ≡ order_numbered number (map (λ (entry : Entry). entry.1) (cond b (e ∷ filter (is_of id) es) (filter (is_of id) es)))
-    go true true is more = rw is (ap (λ (entry : Entry). Some entry.1) (told_back e))
+    go true true is more = rw is (ap (λ (entry : Entry). Some entry.1) (entry_told_back e bare.0))
     go true false is more = rw is more
     go false c is more = more
 
@@ -72,12 +73,12 @@ passing id passes (e ∷ es) = go (is_of id e) (passing id passes es)
     go false more = more
 
 -- the first from the end is the last
-last_of_those : (id : List ℕ) (passes : Order → Bool) (es : List Entry) → first_order (take 1 (map entry_row (filter (is_of_with id passes) (back es)))) ≡ last_of (filter passes (life_in id es))
-last_of_those id passes es =
+last_of_those : (id : List ℕ) (passes : Order → Bool) (es : List Entry) → AreBare es → first_order (take 1 (map entry_row (filter (is_of_with id passes) (back es)))) ≡ last_of (filter passes (life_in id es))
+last_of_those id passes es bare =
     let those = filter (is_of_with id passes) es in
     take_first _
     ∙ ap (λ entries. first_order (map entry_row entries)) (filter_back (is_of_with id passes) es)
-    ∙ told_first (back those)
+    ∙ told_first (back those) (all_back _ those (all_filtered _ (is_of_with id passes) es bare))
     ∙ ap (option_map (λ (entry : Entry). entry.1)) (first_back those)
     ∙ sym (last_map (λ (entry : Entry). entry.1) those)
     ∙ sym (ap last_of (passing id passes es))
@@ -101,7 +102,7 @@ module _ (old new : State) (tables : HasTables old.now) where
       let read = reads_as select_last params old new record_schema tables.schema _ select_last_is.0 select_last_is.2 select_last_is.1 rows h in
       ap first_order (one_answer 1 last_tests all_cells by_key_back one (overlay old.now.trees []) params order_cells entry_row (flip_args entry_cmp) (back_total entry_total) (is_of_with id passes)
       (λ _. refl) (λ _. refl) (at_last id binding kind) (λ a b less. by_both b a ∙ less) (back entries) rows (stores_back order_cells entry_row entry_cmp _ entries tables.holds.orders) (read.answer Null))
-      ∙ last_of_those id passes entries
+      ∙ last_of_those id passes entries (stored_bare old.now.trees)
       ∙ ap (λ life. last_of (filter passes life)) (sym (life_of_lives id entries))
 
   pub shows_order : (id : List ℕ) (number : ℕ) (rows : List Row) → Shown select_order (Text id ∷ Int (pos number) ∷ []) old new rows → first_order rows ≡ order_numbered number (life_of (stored old) id)
@@ -110,5 +111,5 @@ module _ (old new : State) (tables : HasTables old.now) where
       let read = reads_as select_order params old new record_schema tables.schema _ select_order_is.0 select_order_is.2 select_order_is.1 rows h in
       ap first_order (one_answer 1 order_tests all_cells by_key every (overlay old.now.trees []) params order_cells entry_row entry_cmp entry_total (is_keyed id number)
       (λ _. refl) (λ _. refl) (at_key id number []) (λ a b less. by_both a b ∙ less) entries rows tables.holds.orders (read.answer Null))
-      ∙ found_first id number entries
+      ∙ found_first id number entries (stored_bare old.now.trees)
       ∙ ap (order_numbered number) (sym (life_of_lives id entries))

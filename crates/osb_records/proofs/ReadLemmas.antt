@@ -2,20 +2,24 @@
 use Rattle.std.proofs.Common.{◌≡◌, ℕ, zero, suc, ◌+◌, ◌<◌, add-one, List, [], ◌∷◌, ◌++◌, length, map, filter, take, drop, get_or, refl, sym, ap, ap₂, ◌∙◌, arith}
 use Rattle.std.proofs.lemmas.List.{map-append}
 use Rattle.sqlite.specs.Order.{Row}
+use Rattle.sqlite.specs.Tree.{Trees}
 use Rattle.osb_orders.specs.declared.order.Order.{Order}
 use Rattle.osb_orders.specs.Lives.{life_of}
-use Rattle.osb_audit.specs.Orders.{Entry, is_of, lives_in}
-use Rattle.osb_records.specs.Stored.{entry_row, order_told}
-use Rattle.osb_records.proofs.SortLemmas.{told_back}
+use Rattle.osb_audit.specs.Orders.{Entry, is_of}
+use Rattle.osb_records.specs.Stored.{AreBare, entry_row, order_told, entries_in, lives_stored}
+use Rattle.osb_records.proofs.SortLemmas.{entry_told_back}
+use Rattle.osb_records.proofs.BareLemmas.{all_filtered, stored_bare}
 use Rattle.osb_records.proofs.LivesLemmas.{life_of_lives}
 
-told_orders : (entries : List Entry) → map order_told (map entry_row entries) ≡ map (λ (entry : Entry). entry.1) entries
-told_orders [] = refl
-told_orders (entry ∷ entries) = ap₂ (λ (order : Order) orders. order ∷ orders) (ap (λ (e : Entry). e.1) (told_back entry)) (told_orders entries)
+told_orders : (entries : List Entry) → AreBare entries → map order_told (map entry_row entries) ≡ map (λ (entry : Entry). entry.1) entries
+told_orders [] bare = refl
+told_orders (entry ∷ entries) bare = ap₂ (λ (order : Order) orders. order ∷ orders) (ap (λ (e : Entry). e.1) (entry_told_back entry bare.0)) (told_orders entries bare.1)
 
 -- the rows of an instance tell its life
-pub life_told : (id : List ℕ) (entries : List Entry) (rows : List Row) → rows ≡ map entry_row (filter (is_of id) entries) → map order_told rows ≡ life_of (lives_in entries) id
-life_told id entries rows is = ap (map order_told) is ∙ told_orders (filter (is_of id) entries) ∙ sym (life_of_lives id entries)
+pub life_told : (id : List ℕ) (db : Trees) (rows : List Row) → rows ≡ map entry_row (filter (is_of id) (entries_in db)) → map order_told rows ≡ life_of (lives_stored db) id
+life_told id db rows is =
+    let entries = entries_in db in
+    ap (map order_told) is ∙ told_orders (filter (is_of id) entries) (all_filtered _ (is_of id) entries (stored_bare db)) ∙ sym (life_of_lives id entries)
 
 -- ---- loops over rows
 

@@ -13,7 +13,7 @@ use Rattle.osb_tables.specs.Tables.{record_schema}
 use Rattle.osb_audit.specs.Instances.{InstanceEntry}
 use Rattle.osb_audit.specs.declared.entry.BindingEntry.{BindingEntry}
 use Rattle.osb_audit.specs.Orders.{Entry, lives_in}
-use Rattle.osb_records.specs.Stored.{Content, content_in}
+use Rattle.osb_records.specs.Stored.{AreBare, AreBareRows, Content, content_in}
 use Rattle.osb_records.specs.Standing.{IsStanding}
 use Rattle.osb_records.specs.Steps.{HasTables, HoldsLives, IsReady, stored, content}
 use Rattle.osb_records.specs.Inside.{ShowsSchema, ShowsBlank, AreBlank, Within, Steps, Writes, Makes}
@@ -47,10 +47,10 @@ within_still old mid new step same = record { was_inside = step.was_inside; insi
 
 module _ (text : List ℕ) (params : Row) (old new : State) (result : Result ℕ Error) (why : Error) (over : IsOver old result why) (survives : Survives old new (λ _. ⊥)) (clean : HasCleanDisk new) where
   -- a statement whose meaning is known takes one step
-  pub steps_by : (lives : Lives) (entries : List Entry) (instances : List InstanceEntry) (bindings : List BindingEntry) → ShowsSchema record_schema old
+  pub steps_by : (lives : Lives) (entries : List Entry) (instances : List InstanceEntry) (bindings : List BindingEntry) → AreBare entries → AreBareRows instances → ShowsSchema record_schema old
       → ((count : ℕ) → HasCleanDisk old → IsTrue old.is_open → old.now.schema ≡ record_schema → Executes text params old new (Ok count) → Gives new entries instances bindings × (lives_in entries ≡ lives))
       → (IsTrue old.in_transaction → ExecutesInside 0 text params old new result) → OnOk result (Steps old new (record { lives = lives; instances = instances; bindings = bindings }))
-  steps_by lives entries instances bindings has does h =
+  steps_by lives entries instances bindings bare bare_rows has does h =
       let next : Content = record { lives = lives; instances = instances; bindings = bindings } in
       elim result as (λ r. IsOver old r why → (IsTrue old.in_transaction → ExecutesInside 0 text params old new r) → OnOk r (Steps old new next)) [
         | Err e ↦ λ _ _. tt
@@ -62,9 +62,9 @@ module _ (text : List ℕ) (params : Row) (old new : State) (result : Result ℕ
             let gives = did.0 in
             record {
               within = record { was_inside = inside; inside = ran.1.mode; was_open = ran.1.was_open; is_open = ran.1.is_open; committed = ran.1.committed_is };
-              tables = record { schema = gives.0; holds = held_again new.now.trees entries instances bindings gives.1 };
-              lives_are = ap lives_in (entries_are new.now.trees entries gives.1.orders) ∙ did.1;
-              instances_are = instances_are new.now.trees instances gives.1.instances;
+              tables = record { schema = gives.0; holds = held_again new.now.trees entries instances bindings bare bare_rows gives.1 };
+              lives_are = ap lives_in (entries_are new.now.trees entries bare gives.1.orders) ∙ did.1;
+              instances_are = instances_are new.now.trees instances bare_rows gives.1.instances;
               bindings_are = bindings_are new.now.trees bindings gives.1.bindings;
               sound = gives.2;
             }

@@ -2,7 +2,7 @@
 use Rattle.std.proofs.Common.{◌≡◌, ℕ, pos, List, [], ◌∷◌, map, nat_cmp, refl, ap, subst, ◌∙◌}
 use Rattle.std.proofs.lemmas.Cmp.{nat_cmp_total}
 use Rattle.sqlite.specs.declared.types.Value.TheVariants.{Null, Int}
-use Rattle.sqlite.specs.Order.{Row, column}
+use Rattle.sqlite.specs.Order.{Row}
 use Rattle.sqlite.specs.Effect.{Database}
 use Rattle.sqlite.specs.Program.{overlay}
 use Rattle.sqlite.specs.Query.{IsAnswer, key_cmp}
@@ -15,26 +15,21 @@ use Rattle.osb_audit.specs.declared.entry.BindingEntry.{BindingEntry}
 use Rattle.osb_audit.specs.Orders.{Entry, entry_cmp}
 use Rattle.osb_audit.specs.Instances.{InstanceEntry, instance_cmp}
 use Rattle.osb_audit.specs.Bindings.{binding_cmp}
-use Rattle.osb_records.specs.Columns.{number_in}
 use Rattle.osb_rows.specs.Rows.{Stores}
 use Rattle.osb_records.specs.Read.{IsListOf, AreRowids, instance_columns, binding_columns, entry_columns, version_columns}
-use Rattle.osb_records.specs.Instances.{instance_cells, instance_row, instance_told}
-use Rattle.osb_records.specs.Bindings.{binding_cells, binding_row, binding_told}
-use Rattle.osb_records.specs.Stored.{order_cells, entry_row, entry_told, version_cells, version_row}
+use Rattle.osb_records.specs.Instances.{instance_cells, instance_row}
+use Rattle.osb_records.specs.Bindings.{binding_cells, binding_row}
+use Rattle.osb_records.specs.Stored.{order_cells, entry_row, version_cells, version_row}
 use Rattle.osb_rows.proofs.AnswerLemmas.{over}
 use Rattle.osb_records.proofs.BindingLemmas.{by_both_ids}
 use Rattle.osb_records.proofs.BindingTexts.{binding_cells_read, by_ids}
 use Rattle.osb_records.proofs.InstanceLemmas.{by_id}
 use Rattle.osb_records.proofs.SelectLemmas.{by_both, then_equal}
-use Rattle.osb_records.proofs.SortLemmas.{entry_total, told_back, instance_total, instance_back, binding_total, binding_back}
+use Rattle.osb_records.proofs.SortLemmas.{entry_total, instance_total, binding_total}
 use Rattle.osb_records.proofs.TestLemmas.{number_cmp}
 use Rattle.osb_records.proofs.Texts.{all_cells, by_key, instance_cells_read, by_instance, every}
 use Rattle.osb_records.proofs.WholeTexts.{version_cells_read, by_version, version_rowids, version_rowids_is, select_versions, select_versions_is, order_rowids, order_rowids_is, select_orders, select_orders_is, instance_rowids, instance_rowids_is, select_instances, select_instances_is, binding_rowids, binding_rowids_is, select_bindings, select_bindings_is}
 use Rattle.osb_records.proofs.WholeLemmas.{are_shown, is_list, rowids_shown}
-
--- the version of a row
-abbrev version_told : Row → ℕ
-version_told cells = number_in (column cells 0)
 
 by_number : (a b : ℕ) → key_cmp 0 (ascending Binary ∷ []) (Int (pos a) ∷ []) (Int (pos b) ∷ []) ≡ nat_cmp a b
 by_number a b = rw (number_cmp a b, then_equal (nat_cmp a b)) refl
@@ -45,7 +40,7 @@ versions_read old mid new ids rows entries has same first second are is =
     let found = reads_as version_rowids [] old mid record_schema has _ version_rowids_is.0 version_rowids_is.2 version_rowids_is.1 ids first in
     let read = reads_as select_versions [] mid new record_schema (ap (λ (d : Database). d.schema) same ∙ has) _ select_versions_is.0 select_versions_is.2 select_versions_is.1 rows second in
     let answer = subst (λ (d : Database). IsAnswer (over 0 [] version_cells_read by_version every) (overlay d.trees []) [] rows) same (read.answer Null) in
-    is_list 0 old.now.trees refl version_cells version_row nat_cmp nat_cmp_total version_told (λ _. refl) version_cells_read by_version (λ _. refl) (λ _. refl) (λ _. refl) (λ a b less. by_number a b ∙ less) version_columns (λ _. refl) (λ _. refl) rows entries answer
+    is_list 0 old.now.trees refl version_cells version_row nat_cmp nat_cmp_total version_cells_read by_version (λ _. refl) (λ _. refl) (λ _. refl) (λ a b less. by_number a b ∙ less) version_columns (λ _. refl) (λ _. refl) rows entries answer
     (rowids_shown 0 old.now.trees refl ids (found.answer Null) are) is
 
 pub orders_read : (old mid new : State) (ids rows : List Row) (entries : List Entry) → old.now.schema ≡ record_schema → mid.now ≡ old.now → Shown order_rowids [] old mid ids → Shown select_orders [] mid new rows → AreRowids ids → map entry_row entries ≡ map entry_columns rows
@@ -54,7 +49,7 @@ orders_read old mid new ids rows entries has same first second are is =
     let found = reads_as order_rowids [] old mid record_schema has _ order_rowids_is.0 order_rowids_is.2 order_rowids_is.1 ids first in
     let read = reads_as select_orders [] mid new record_schema (ap (λ (d : Database). d.schema) same ∙ has) _ select_orders_is.0 select_orders_is.2 select_orders_is.1 rows second in
     let answer = subst (λ (d : Database). IsAnswer (over 1 [] all_cells by_key every) (overlay d.trees []) [] rows) same (read.answer Null) in
-    is_list 1 old.now.trees refl order_cells entry_row entry_cmp entry_total entry_told told_back all_cells by_key (λ _. refl) (λ _. refl) (λ _. refl) (λ a b less. by_both a b ∙ less) entry_columns (λ _. refl) (λ _. refl) rows entries answer
+    is_list 1 old.now.trees refl order_cells entry_row entry_cmp entry_total all_cells by_key (λ _. refl) (λ _. refl) (λ _. refl) (λ a b less. by_both a b ∙ less) entry_columns (λ _. refl) (λ _. refl) rows entries answer
     (rowids_shown 1 old.now.trees refl ids (found.answer Null) are) is
 
 pub instances_read : (old mid new : State) (ids rows : List Row) (entries : List InstanceEntry) → old.now.schema ≡ record_schema → mid.now ≡ old.now → Shown instance_rowids [] old mid ids → Shown select_instances [] mid new rows → AreRowids ids → map instance_row entries ≡ map instance_columns rows
@@ -63,7 +58,7 @@ instances_read old mid new ids rows entries has same first second are is =
     let found = reads_as instance_rowids [] old mid record_schema has _ instance_rowids_is.0 instance_rowids_is.2 instance_rowids_is.1 ids first in
     let read = reads_as select_instances [] mid new record_schema (ap (λ (d : Database). d.schema) same ∙ has) _ select_instances_is.0 select_instances_is.2 select_instances_is.1 rows second in
     let answer = subst (λ (d : Database). IsAnswer (over 3 [] instance_cells_read by_instance every) (overlay d.trees []) [] rows) same (read.answer Null) in
-    is_list 3 old.now.trees refl instance_cells instance_row instance_cmp instance_total instance_told instance_back instance_cells_read by_instance (λ _. refl) (λ _. refl) (λ _. refl) (λ a b less. by_id a b ∙ less) instance_columns (λ _. refl) (λ _. refl) rows entries answer
+    is_list 3 old.now.trees refl instance_cells instance_row instance_cmp instance_total instance_cells_read by_instance (λ _. refl) (λ _. refl) (λ _. refl) (λ a b less. by_id a b ∙ less) instance_columns (λ _. refl) (λ _. refl) rows entries answer
     (rowids_shown 3 old.now.trees refl ids (found.answer Null) are) is
 
 pub bindings_read : (old mid new : State) (ids rows : List Row) (entries : List BindingEntry) → old.now.schema ≡ record_schema → mid.now ≡ old.now → Shown binding_rowids [] old mid ids → Shown select_bindings [] mid new rows → AreRowids ids → map binding_row entries ≡ map binding_columns rows
@@ -72,23 +67,23 @@ bindings_read old mid new ids rows entries has same first second are is =
     let found = reads_as binding_rowids [] old mid record_schema has _ binding_rowids_is.0 binding_rowids_is.2 binding_rowids_is.1 ids first in
     let read = reads_as select_bindings [] mid new record_schema (ap (λ (d : Database). d.schema) same ∙ has) _ select_bindings_is.0 select_bindings_is.2 select_bindings_is.1 rows second in
     let answer = subst (λ (d : Database). IsAnswer (over 5 [] binding_cells_read by_ids every) (overlay d.trees []) [] rows) same (read.answer Null) in
-    is_list 5 old.now.trees refl binding_cells binding_row binding_cmp binding_total binding_told binding_back binding_cells_read by_ids (λ _. refl) (λ _. refl) (λ _. refl) (λ a b less. by_both_ids a b ∙ less) binding_columns (λ _. refl) (λ _. refl) rows entries answer
+    is_list 5 old.now.trees refl binding_cells binding_row binding_cmp binding_total binding_cells_read by_ids (λ _. refl) (λ _. refl) (λ _. refl) (λ a b less. by_both_ids a b ∙ less) binding_columns (λ _. refl) (λ _. refl) rows entries answer
     (rowids_shown 5 old.now.trees refl ids (found.answer Null) are) is
 
 pub orders_shown : (old mid new : State) (rows : List Row) (entries : List Entry) → old.now.schema ≡ record_schema → mid.now ≡ old.now → Shown select_orders [] mid new rows → Stores order_cells entry_row entry_cmp (old.now.trees 1) entries → rows ≡ map entry_row entries
 orders_shown old mid new rows entries has same second stores =
     let read = reads_as select_orders [] mid new record_schema (ap (λ (d : Database). d.schema) same ∙ has) _ select_orders_is.0 select_orders_is.2 select_orders_is.1 rows second in
     let answer = subst (λ (d : Database). IsAnswer (over 1 [] all_cells by_key every) (overlay d.trees []) [] rows) same (read.answer Null) in
-    are_shown 1 old.now.trees refl order_cells entry_row entry_cmp entry_total entry_told told_back all_cells by_key (λ _. refl) (λ _. refl) (λ _. refl) (λ a b less. by_both a b ∙ less) entry_columns (λ _. refl) (λ _. refl) rows entries answer stores
+    are_shown 1 old.now.trees refl order_cells entry_row entry_cmp entry_total all_cells by_key (λ _. refl) (λ _. refl) (λ _. refl) (λ a b less. by_both a b ∙ less) entry_columns (λ _. refl) (λ _. refl) rows entries answer stores
 
 pub instances_shown : (old mid new : State) (rows : List Row) (entries : List InstanceEntry) → old.now.schema ≡ record_schema → mid.now ≡ old.now → Shown select_instances [] mid new rows → Stores instance_cells instance_row instance_cmp (old.now.trees 3) entries → rows ≡ map instance_row entries
 instances_shown old mid new rows entries has same second stores =
     let read = reads_as select_instances [] mid new record_schema (ap (λ (d : Database). d.schema) same ∙ has) _ select_instances_is.0 select_instances_is.2 select_instances_is.1 rows second in
     let answer = subst (λ (d : Database). IsAnswer (over 3 [] instance_cells_read by_instance every) (overlay d.trees []) [] rows) same (read.answer Null) in
-    are_shown 3 old.now.trees refl instance_cells instance_row instance_cmp instance_total instance_told instance_back instance_cells_read by_instance (λ _. refl) (λ _. refl) (λ _. refl) (λ a b less. by_id a b ∙ less) instance_columns (λ _. refl) (λ _. refl) rows entries answer stores
+    are_shown 3 old.now.trees refl instance_cells instance_row instance_cmp instance_total instance_cells_read by_instance (λ _. refl) (λ _. refl) (λ _. refl) (λ a b less. by_id a b ∙ less) instance_columns (λ _. refl) (λ _. refl) rows entries answer stores
 
 pub bindings_shown : (old mid new : State) (rows : List Row) (entries : List BindingEntry) → old.now.schema ≡ record_schema → mid.now ≡ old.now → Shown select_bindings [] mid new rows → Stores binding_cells binding_row binding_cmp (old.now.trees 5) entries → rows ≡ map binding_row entries
 bindings_shown old mid new rows entries has same second stores =
     let read = reads_as select_bindings [] mid new record_schema (ap (λ (d : Database). d.schema) same ∙ has) _ select_bindings_is.0 select_bindings_is.2 select_bindings_is.1 rows second in
     let answer = subst (λ (d : Database). IsAnswer (over 5 [] binding_cells_read by_ids every) (overlay d.trees []) [] rows) same (read.answer Null) in
-    are_shown 5 old.now.trees refl binding_cells binding_row binding_cmp binding_total binding_told binding_back binding_cells_read by_ids (λ _. refl) (λ _. refl) (λ _. refl) (λ a b less. by_both_ids a b ∙ less) binding_columns (λ _. refl) (λ _. refl) rows entries answer stores
+    are_shown 5 old.now.trees refl binding_cells binding_row binding_cmp binding_total binding_cells_read by_ids (λ _. refl) (λ _. refl) (λ _. refl) (λ a b less. by_both_ids a b ∙ less) binding_columns (λ _. refl) (λ _. refl) rows entries answer stores

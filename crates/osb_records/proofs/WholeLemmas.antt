@@ -19,7 +19,7 @@ use Rattle.sqlite_value.proofs.OrderLemmas.{value_cmp_total}
 use Rattle.sqlite_trees.specs.Tree.{rowid, IsAscending}
 use Rattle.sqlite_trees.specs.View.{is_int}
 use Rattle.sqlite_trees.proofs.ListLemmas.{all-permutation}
-use Rattle.sqlite_keyed.proofs.ListLemmas.{map-map, map_same, map_back, ascending_from_map, all_unmap}
+use Rattle.sqlite_keyed.proofs.ListLemmas.{map-map, map_same, ascending_from_map, all_unmap}
 use Rattle.osb_rows.specs.Rows.{Apart, Stores}
 use Rattle.osb_records.specs.Read.{IsListOf, AreRowids, rowid_shown}
 use Rattle.osb_rows.proofs.AnswerLemmas.{over, out, answered, one_answer}
@@ -86,7 +86,7 @@ module _ (tree : ℕ) (db : Trees) where
     pub rowids_shown : (rows : List Row) → IsAnswer (rowids_of tree) seen [] rows → AreRowids rows → HaveRowids (db tree)
     rowids_shown rows a are = have_rowids (db tree) rows (all_shown (col 1 0 ∷ []) by_rowid rows a) are
 
-    module _ {E : Type 0} (cells : Row → Row) (shown : E → Row) (cmp : E → E → Ordering) (total : IsTotalOrder cmp) (told : Row → E) (back : (e : E) → told (shown e) ≡ e) (project : List Term) (order : List (Term × Key))
+    module _ {E : Type 0} (cells : Row → Row) (shown : E → Row) (cmp : E → E → Ordering) (total : IsTotalOrder cmp) (project : List Term) (order : List (Term × Key))
         (out_shows : (row : Row) → (out tree [] project order every seen [] row).1 ≡ cells row) (out_cells : (row : Row) → out tree [] project order every seen [] row ≡ out tree [] project order every seen [] (Null ∷ cells row))
         (shows : (e : E) → (out tree [] project order every seen [] (Null ∷ shown e)).1 ≡ shown e)
         (ordered : (a b : E) → cmp a b ≡ Less → output_cmp (over tree [] project order every) (out tree [] project order every seen [] (Null ∷ shown a)) (out tree [] project order every seen [] (Null ∷ shown b)) ≡ Less)
@@ -98,9 +98,6 @@ module _ (tree : ℕ) (db : Trees) where
           one_answer tree [] project order every seen [] cells shown cmp total (λ _. true) (λ _. refl) out_cells (λ _. refl) ordered others rows stored a
           ∙ ap (map _) (none_left others) ∙ map_same _ shown shows others
 
-      same_shown : (es others : List E) → map shown es ≡ map shown others → es ≡ others
-      same_shown es others is = sym (map_back shown told back es) ∙ ap (map told) is ∙ map_back shown told back others
-
       pub is_list : (rows : List Row) (entries : List E) → IsAnswer (over tree [] project order every) seen [] rows → HaveRowids (db tree) → map shown entries ≡ map columns rows → IsListOf cells shown cmp (db tree) entries
       is_list rows entries a have is = record {
         held = record {
@@ -110,5 +107,5 @@ module _ (tree : ℕ) (db : Trees) where
               let all = subst (λ list. IsPermutation list rows) (map_same _ cells out_shows (db tree)) (all_shown project order rows a) in
               subst₂ IsPermutation (map-map columns cells (db tree) ∙ map_same _ cells columns_cells (db tree)) (sym is) (IsPermutation-map columns _ _ all);
         };
-        only = λ others stores. same_shown others entries (sym (is ∙ ap (map columns) (are_shown rows others a stores) ∙ map-map columns shown others ∙ map_same _ shown columns_shown others));
+        only = λ others stores. sym (is ∙ ap (map columns) (are_shown rows others a stores) ∙ map-map columns shown others ∙ map_same _ shown columns_shown others);
       }

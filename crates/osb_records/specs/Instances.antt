@@ -25,7 +25,7 @@ standing_number None = 0
 standing_number (Some standing) = instance_phase_number standing.phase
 
 abbrev pub no_attributes : Attributes
-no_attributes = record { service = []; plan = []; place = []; spot = []; parameters = []; maintenance = [] }
+no_attributes = record { service = []; plan = []; place = []; spot = []; parameters = []; maintenance = []; context = [] }
 
 -- empty texts where the instance is absent
 abbrev pub attributes_shown : Option Standing → Attributes

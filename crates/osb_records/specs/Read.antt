@@ -19,7 +19,7 @@ use Rattle.osb_records.specs.declared.fault.StoreFault.TheVariants.{NotOurs}
 use Rattle.osb_rows.specs.Rows.{Stores, AreRows}
 use Rattle.osb_records.specs.Instances.{instance_row, instance_cells, instance_row_told, standing_columns}
 use Rattle.osb_records.specs.Bindings.{binding_row, binding_cells}
-use Rattle.osb_records.specs.Stored.{entry_row, order_columns, order_cells, version_row, version_cells}
+use Rattle.osb_records.specs.Stored.{AreBare, AreBareRows, entry_row, order_columns, order_cells, version_row, version_cells}
 
 -- A number was read as one of these values: at `Ok` as the one that it stands for, and NotOurs says that it stands for none.
 pub record IsReadAs {V : Type 0} (number_of : V → ℕ) (numbered : ℕ → V) (number : ℕ) (result : Result V StoreFault) : Type 0 where
@@ -46,10 +46,10 @@ abbrev pub rowid_shown : ℕ → Value
 rowid_shown id = Int (pos id)
 
 -- These entries were read of the table: its rows show them, each under a rowid of its own, and if it stores entries at all,
--- it stores these.
+-- their rows are these.
 pub record IsListOf {E : Type 0} (cells : Row → Row) (shown : E → Row) (cmp : E → E → Ordering) (rows : List Row) (entries : List E) : Type 0 where
   pub held : AreRows cells rows (map shown entries)
-  pub only : (others : List E) → Stores cells shown cmp rows others → others ≡ entries
+  pub only : (others : List E) → Stores cells shown cmp rows others → map shown others ≡ map shown entries
 
 -- the rows are rowids that rise
 pub record AreRowids (rows : List Row) : Type 0 where
@@ -91,10 +91,10 @@ abbrev pub AreVersionsOf : Trees → List ℕ → Type 0
 AreVersionsOf db versions = IsListOf version_cells version_row nat_cmp (db 0) versions
 
 abbrev pub AreOrdersOf : Trees → List Entry → Type 0
-AreOrdersOf db entries = IsListOf order_cells entry_row entry_cmp (db 1) entries
+AreOrdersOf db entries = IsListOf order_cells entry_row entry_cmp (db 1) entries × AreBare entries
 
 abbrev pub AreInstancesOf : Trees → List InstanceEntry → Type 0
-AreInstancesOf db entries = IsListOf instance_cells instance_row instance_cmp (db 3) entries
+AreInstancesOf db entries = IsListOf instance_cells instance_row instance_cmp (db 3) entries × AreBareRows entries
 
 abbrev pub AreBindingsOf : Trees → List BindingEntry → Type 0
 AreBindingsOf db entries = IsListOf binding_cells binding_row binding_cmp (db 5) entries

@@ -1,5 +1,6 @@
 -- The orders in the tables, and the lives that they make up.
-use Rattle.std.specs.Prelude.{◌==◌, if◌then◌else◌, ℕ, pos, List, [], ◌∷◌, ◌++◌, map}
+use Rattle.std.specs.Prelude.{◌≡◌, ◌==◌, if◌then◌else◌, ℕ, pos, List, [], ◌∷◌, ◌++◌, map}
+use Rattle.std.specs.List.{AllByRecursion}
 use Rattle.std.specs.Ordering.{nat_cmp}
 use Rattle.sqlite.specs.declared.types.Value.TheVariants.{Int, Text as Words}
 use Rattle.sqlite.specs.Order.{Row, column, bytes}
@@ -16,6 +17,7 @@ use Rattle.osb_audit.specs.Orders.{Entry, entry_cmp, lives_in}
 use Rattle.osb_audit.specs.Instances.{InstanceEntry, instance_cmp}
 use Rattle.osb_audit.specs.declared.entry.BindingEntry.{BindingEntry}
 use Rattle.osb_audit.specs.Bindings.{binding_cmp}
+use Rattle.osb_bare.specs.Bare.{bare_order, bare_row}
 use Rattle.osb_rows.specs.Rows.{Stores}
 use Rattle.osb_records.specs.Columns.{number_in, attributes_told}
 use Rattle.osb_records.specs.Instances.{instance_row, instance_told, instance_cells}
@@ -99,6 +101,13 @@ version_row version = Int (pos version) ∷ []
 
 abbrev pub version_cells : Row → Row
 version_cells cells = column cells 1 ∷ []
+
+-- the orders of these entries have no context, as the tables have no column for it
+abbrev pub AreBare : List Entry → Type 0
+AreBare = AllByRecursion (λ entry. bare_order entry.1 ≡ entry.1)
+
+abbrev pub AreBareRows : List InstanceEntry → Type 0
+AreBareRows = AllByRecursion (λ entry. bare_row entry.1 ≡ entry.1)
 
 -- ---- trees
 

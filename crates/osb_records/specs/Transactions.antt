@@ -1,12 +1,17 @@
 -- What one transaction does to a connection. For contracts inside the crate.
 use Rattle.std.specs.Prelude.{◌≡◌, IsTrue, Result, Err, OnOk, OnErr}
+use Rattle.sqlite.specs.Schema.{Schema}
 use Rattle.sqlite.specs.State.{State, HasCleanDisk, Survives}
 use Rattle.osb_orders.specs.Lives.{Lives}
 use Rattle.osb_records.specs.declared.fault.StoreFault.{StoreFault}
 use Rattle.osb_records.specs.declared.fault.StoreFault.TheVariants.{NotOurs}
-use Rattle.osb_records.specs.Steps.{IsReady, stored, LeavesOnly}
+use Rattle.osb_records.specs.Steps.{IsReady, IsSettled, stored, LeavesOnly}
 use Rattle.osb_records.specs.Opened.{StandIn}
 use Rattle.osb_records.specs.Commit.{Commits}
+
+-- no transaction is open on the database, and it has this schema
+abbrev pub FindsSettled : Schema → State → Type 0
+FindsSettled schema s = IsSettled s × (s.now.schema ≡ schema)
 
 -- The database was taken over: at `Ok` it is ready and shows the lives that stood in it, with a fault it is as it was, and
 -- NotOurs says that no lives stand in it.

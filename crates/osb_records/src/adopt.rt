@@ -7,7 +7,7 @@ ghost use Rattle.sqlite.specs.State.{HasCleanDisk, Survives};
 ghost use Rattle.osb_tables.specs.Tables.{no_schema, record_schema};
 ghost use Rattle.osb_records.specs.declared.fault.StoreFault.TheVariants as faults;
 ghost use Rattle.osb_records.specs.Opened.{StoreLives, HoldsSame};
-ghost use Rattle.osb_records.specs.Transactions.{TakesOver};
+ghost use Rattle.osb_records.specs.Transactions.{FindsSettled, TakesOver};
 ghost use Rattle.osb_records.specs.Inside.{lacking, ShowsSchema, Writes};
 ghost use Rattle.osb_records.specs.Steps.{HoldsLives, IsSettled, stored};
 ghost use Rattle.osb_records.specs.Reads.{StaysInside, Does, behind};
@@ -15,14 +15,13 @@ ghost use Rattle.osb_records.specs.Reads.{StaysInside, Does, behind};
 use crate::fault::StoreFault;
 use crate::tables::{add_indexes, make_tables};
 use crate::whole::are_tables_whole;
-use osb_tables::{Found, find};
+use osb_tables::{Found, Indexes, find};
 use sqlite::{Alter, Connection, Transaction};
 use std::alloc::Global;
 
 /// Whether the tables are those of well-formed lives.
 fn check_tables<S: Alter>(conn: &mut Connection<S>, alloc: Global) -> Result<bool, StoreFault>
-    requires settled { IsSettled (state S.Store conn.old) }
-    requires schema { (state S.Store conn.old).now.schema ≡ record_schema }
+    requires { FindsSettled record_schema (state S.Store conn.old) }
     ensures settled { IsSettled (state S.Store conn.new) }
     ensures ok { HasCleanDisk (state S.Store conn.new) →
         IfOk result (λ whole. (whole ≡ true) ↔ StoreLives (state S.Store conn.old).now.trees) }
@@ -41,8 +40,7 @@ fn check_tables<S: Alter>(conn: &mut Connection<S>, alloc: Global) -> Result<boo
 /// Takes the tables as they are, if they are those of well-formed lives.
 #[tactic(auto, using(crate::proofs::OpenedLemmas::ready_by))]
 fn take_tables<S: Alter>(conn: &mut Connection<S>, alloc: Global) -> Result<(), StoreFault>
-    requires settled { IsSettled (state S.Store conn.old) }
-    requires schema { (state S.Store conn.old).now.schema ≡ record_schema }
+    requires { FindsSettled record_schema (state S.Store conn.old) }
     ensures settled { IsSettled (state S.Store conn.new) }
     ensures takes { TakesOver (state S.Store conn.old) (state S.Store conn.new) result }
     ensures crash { Survives (state S.Store conn.old) (state S.Store conn.new) (λ _. ⊥) }
@@ -84,8 +82,7 @@ fn complete_tables<S: Alter>(
     alloc: Global,
     is_listed: bool,
 ) -> Result<(), StoreFault>
-    requires settled { IsSettled (state S.Store conn.old) }
-    requires schema { (state S.Store conn.old).now.schema ≡ lacking is_listed }
+    requires { FindsSettled (lacking is_listed) (state S.Store conn.old) }
     ensures settled { IsSettled (state S.Store conn.new) }
     ensures takes { TakesOver (state S.Store conn.old) (state S.Store conn.new) result }
     ensures crash { Survives (state S.Store conn.old) (state S.Store conn.new) (HoldsSame
@@ -100,8 +97,7 @@ fn complete_tables<S: Alter>(
 /// Makes the tables in a database that has none.
 #[tactic(auto, using(crate::proofs::OpenedLemmas::empty_same))]
 fn make<S: Alter>(conn: &mut Connection<S>) -> Result<(), StoreFault>
-    requires settled { IsSettled (state S.Store conn.old) }
-    requires blank { (state S.Store conn.old).now.schema ≡ no_schema }
+    requires { FindsSettled no_schema (state S.Store conn.old) }
     ensures settled { IsSettled (state S.Store conn.new) }
     ensures takes { TakesOver (state S.Store conn.old) (state S.Store conn.new) result }
     ensures crash { Survives (state S.Store conn.old) (state S.Store conn.new) (HoldsLives empty) }
@@ -110,7 +106,8 @@ fn make<S: Alter>(conn: &mut Connection<S>) -> Result<(), StoreFault>
     Ok(())
 }
 
-/// Takes over a database that no transaction is open on, or leaves it as it was.
+/// Takes over a database that no transaction is open on, or leaves it as it was. One of version 2 isn't taken.
+#[tactic(auto, using(crate::proofs::OpenedLemmas::second_stand))]
 fn take_settled<S: Alter>(conn: &mut Connection<S>, alloc: Global) -> Result<(), StoreFault>
     requires { IsSettled (state S.Store conn.old) }
     ensures settled { IsSettled (state S.Store conn.new) }
@@ -120,9 +117,12 @@ fn take_settled<S: Alter>(conn: &mut Connection<S>, alloc: Global) -> Result<(),
 {
     match find(conn.schema()) {
         Found::Nothing => make(conn),
-        Found::All => take_tables(conn, alloc),
-        Found::Listed => complete_tables(conn, alloc, true),
-        Found::Tables => complete_tables(conn, alloc, false),
+        Found::First(indexes) => match indexes {
+            Indexes::Both => take_tables(conn, alloc),
+            Indexes::Listing => complete_tables(conn, alloc, true),
+            Indexes::None => complete_tables(conn, alloc, false),
+        },
+        Found::Second(_) => Err(StoreFault::NotOurs),
         Found::Others => Err(StoreFault::NotOurs),
     }
 }

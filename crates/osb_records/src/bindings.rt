@@ -65,7 +65,7 @@ fn binding_phase_numbered(number: u32) -> Result<BindingPhase, StoreFault>
     }
 }
 
-/// The attributes of a binding, which has no maintenance version.
+/// The attributes of a binding, which has no maintenance version and no context.
 fn binding_attributes_in(alloc: Global, row: &Row) -> Result<Attributes, StoreFault>
     ensures { IfOk result (λ attributes.
         attributes ≡ (binding_now (binding_told row.now)).attributes) }
@@ -77,6 +77,7 @@ fn binding_attributes_in(alloc: Global, row: &Row) -> Result<Attributes, StoreFa
         spot: text_in(row, 6)?,
         parameters: text_in(row, 7)?,
         maintenance: Text::new(alloc),
+        context: Text::from_str(alloc, "{}")?,
     })
 }
 

@@ -33,7 +33,8 @@ pub(crate) fn number_in(row: &Row, at: usize) -> Result<u32, StoreFault>
     Ok(row.get(at)?)
 }
 
-pub(crate) fn attributes_in(row: &Row) -> Result<Attributes, StoreFault>
+/// The attributes that the columns hold. None of them is the context.
+pub(crate) fn attributes_in(alloc: Global, row: &Row) -> Result<Attributes, StoreFault>
     ensures told { IfOk result (λ attributes. attributes ≡ attributes_told row.now) }
     ensures held { IfOk result (HoldAttributes row.now) }
     ensures refused { IfErr result (λ fault. fault ≡ faults.Refused) }
@@ -45,6 +46,7 @@ pub(crate) fn attributes_in(row: &Row) -> Result<Attributes, StoreFault>
         spot: text_in(row, 7)?,
         parameters: text_in(row, 8)?,
         maintenance: text_in(row, 9)?,
+        context: Text::from_str(alloc, "{}")?,
     })
 }
 

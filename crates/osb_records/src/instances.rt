@@ -17,6 +17,8 @@ ghost use Rattle.osb_records.specs.Queries.{ShowsRecords, busy_row, order_for};
 ghost use Rattle.osb_rows.specs.Rows.{Stores};
 ghost use Rattle.osb_records.specs.Columns.{number_in};
 ghost use Rattle.osb_records.specs.Read.{IsReadAs, IsEntryOf, AreInstancesOf, instance_columns, first_told};
+ghost use Rattle.osb_bare.specs.Bare.{bare_attributes, bare_row};
+ghost use Rattle.osb_records.specs.Stored.{AreBareRows};
 ghost use Rattle.osb_records.specs.Inside.{with_instances, with_row, Indexes, ShowsSchema, ShowsBlank, Makes, Steps};
 ghost use Rattle.osb_records.specs.Instances.{no_attributes, instance_phase_number, instance_phase_numbered, standing_number, standing_told, attributes_shown, busy_number, instance_row_told, standing_row, standing_columns, instance_row, instance_cells};
 ghost use Rattle.osb_records.specs.Steps.{stored, ShowsTables, content};
@@ -139,9 +141,10 @@ fn columns_of(standing: &Option<Standing>) -> StandingColumns<'_>
     }
 }
 
-/// Whether each of the texts is empty.
+/// Whether each of the texts is empty that the columns hold.
 fn are_blank(attributes: &Attributes) -> bool
-    ensures { (result ≡ true) ↔ (attributes.now ≡ no_attributes) }
+    ensures { (result ≡ true) ↔
+        (bare_attributes attributes.now ≡ bare_attributes no_attributes) }
 {
     attributes.service.is_empty()
         && attributes.plan.is_empty()
@@ -154,9 +157,11 @@ fn are_blank(attributes: &Attributes) -> bool
 fn standing_told(number: u32, attributes: Attributes) -> Result<Option<Standing>, StoreFault>
     ensures told { IfOk result (λ standing. standing ≡ standing_told number attributes) }
     ensures held { IfOk result (λ standing.
-        (number ≡ standing_number standing) × (attributes ≡ attributes_shown standing)) }
+        (number ≡ standing_number standing)
+        × (bare_attributes attributes ≡ bare_attributes (attributes_shown standing))) }
     ensures known { (standing : Option Standing) → number ≡ standing_number standing →
-        attributes ≡ attributes_shown standing → result ≢ Err faults.NotOurs }
+        bare_attributes attributes ≡ bare_attributes (attributes_shown standing) →
+        result ≢ Err faults.NotOurs }
 {
     if number == 0 {
         return if are_blank(&attributes) {
@@ -172,7 +177,7 @@ fn standing_told(number: u32, attributes: Attributes) -> Result<Option<Standing>
 }
 
 /// How the instance of the row stands.
-fn instance_row_in(row: &Row) -> Result<InstanceRow, StoreFault>
+fn instance_row_in(alloc: Global, row: &Row) -> Result<InstanceRow, StoreFault>
     ensures told { IfOk result (λ found. found ≡ instance_row_told row.now) }
     ensures held { IfOk result (λ found. standing_row found ≡ standing_columns row.now) }
     ensures known { (entry : InstanceEntry) → row.now ≡ instance_row entry →
@@ -181,37 +186,39 @@ fn instance_row_in(row: &Row) -> Result<InstanceRow, StoreFault>
     Ok(InstanceRow {
         busy: busy_numbered(number_in(row, 2)?)?,
         last_number: number_in(row, 3)?,
-        standing: standing_told(number_in(row, 1)?, attributes_in(row)?)?,
+        standing: standing_told(number_in(row, 1)?, attributes_in(alloc, row)?)?,
     })
 }
 
 /// How the instance of the first row stands.
-fn first_instance_in(rows: &[Row]) -> Result<Option<InstanceRow>, StoreFault>
+fn first_instance_in(alloc: Global, rows: &[Row]) -> Result<Option<InstanceRow>, StoreFault>
     ensures { IfOk result (λ found. found ≡ first_told rows.now) }
 {
     match rows.first() {
         None => Ok(None),
-        Some(row) => Ok(Some(instance_row_in(row)?)),
+        Some(row) => Ok(Some(instance_row_in(alloc, row)?)),
     }
 }
 
 /// The row with the id of its instance.
-fn instance_in(row: &Row) -> Result<(Text, InstanceRow), StoreFault>
-    ensures { IsEntryOf instance_row instance_columns row.now result }
+fn instance_in(alloc: Global, row: &Row) -> Result<(Text, InstanceRow), StoreFault>
+    ensures entry { IsEntryOf instance_row instance_columns row.now result }
+    ensures bare { IfOk result (λ entry. bare_row entry.1 ≡ entry.1) }
 {
-    Ok((text_in(row, 0)?, instance_row_in(row)?))
+    Ok((text_in(row, 0)?, instance_row_in(alloc, row)?))
 }
 
 /// The instances of the rows, each with its id.
 fn instances_in(alloc: Global, rows: &[Row]) -> Result<Vec<(Text, InstanceRow)>, StoreFault>
     ensures told { IfOk result (λ entries.
-        map instance_row entries.items ≡ map instance_columns rows.now) }
+        (map instance_row entries.items ≡ map instance_columns rows.now)
+        × AreBareRows entries.items) }
     ensures known { (entries : List InstanceEntry) → rows.now ≡ map instance_row entries →
         result ≢ Err faults.NotOurs }
 {
     let mut entries = Vec::new(alloc);
     for row in rows {
-        entries.push(instance_in(row)?)?;
+        entries.push(instance_in(alloc, row)?)?;
     }
     Ok(entries)
 }
@@ -269,8 +276,8 @@ pub(crate) fn insert_instance<S: Alter>(
         IsTrue (behind S.Store tx.old).is_open →
         filter (is_instance instance.now) (content (behind S.Store tx.old)).instances ≡ [] }
     ensures ok { Does S.Store tx.old tx.new result (λ old new.
-        Steps old new (with_instances (insert_sorted instance_cmp (instance.now, row.now)
-        (content old).instances) (content old))) }
+        Steps old new (with_instances (insert_sorted instance_cmp
+        (instance.now, bare_row row.now) (content old).instances) (content old))) }
     ensures inside { StaysInside S.Store tx.old tx.new }
 {
     execute_with(
@@ -289,8 +296,8 @@ pub(crate) fn update_instance<S: Alter>(
 ) -> Result<usize, Error>
     requires { ShowsTables (behind S.Store tx.old) }
     ensures ok { Does S.Store tx.old tx.new result (λ old new.
-        Steps old new (with_instances (update_where (is_instance instance.now) (with_row row.now)
-        (content old).instances) (content old))) }
+        Steps old new (with_instances (update_where (is_instance instance.now)
+        (with_row (bare_row row.now)) (content old).instances) (content old))) }
     ensures inside { StaysInside S.Store tx.old tx.new }
 {
     execute_with(
@@ -317,6 +324,7 @@ fn select_instance<S: Alter>(tx: &mut Transaction<'_, S>, instance: &str) -> Res
 /// The row of the instance.
 pub(crate) fn read_instance<S: Alter>(
     tx: &mut Transaction<'_, S>,
+    alloc: Global,
     instance: &str,
 ) -> Result<Option<InstanceRow>, StoreFault>
     requires { ShowsTables (behind S.Store tx.old) }
@@ -325,7 +333,7 @@ pub(crate) fn read_instance<S: Alter>(
     ensures reads { Reads S.Store tx.old tx.new result }
 {
     let rows = select_instance(tx, instance)?;
-    first_instance_in(&rows)
+    first_instance_in(alloc, &rows)
 }
 
 /// The first so many instances whose last order runs and whose id is greater, each with the number

@@ -19,7 +19,8 @@ ghost use Rattle.osb_records.specs.declared.fault.StoreFault.TheVariants as faul
 ghost use Rattle.osb_records.specs.Queries.{first_order, ShowsRecords, is_kind_of};
 ghost use Rattle.osb_rows.specs.Rows.{Stores};
 ghost use Rattle.osb_records.specs.Read.{IsReadAs, IsEntryOf, entry_columns, AreOrdersOf};
-ghost use Rattle.osb_records.specs.Stored.{kind_numbered, state_numbered, order_told, order_row, order_columns, entry_row, order_cells, entries_in};
+ghost use Rattle.osb_records.specs.Stored.{AreBare, kind_numbered, state_numbered, order_told, order_row, order_columns, entry_row, order_cells, entries_in};
+ghost use Rattle.osb_bare.specs.Bare.{bare_order};
 ghost use Rattle.osb_records.specs.Inside.{with_lives, Indexes, ShowsSchema, ShowsBlank, Makes, Steps};
 ghost use Rattle.osb_records.specs.Steps.{stored, ShowsTables, content};
 ghost use Rattle.osb_records.specs.Reads.{Reads, Finds, behind, StaysInside, Does};
@@ -99,7 +100,7 @@ fn outcome_in(row: &Row) -> Result<Outcome, StoreFault>
     })
 }
 
-fn order_in(row: &Row) -> Result<Order, StoreFault>
+fn order_in(alloc: Global, row: &Row) -> Result<Order, StoreFault>
     ensures told { IfOk result (λ order. order ≡ order_told row.now) }
     ensures held { IfOk result (λ order. order_columns row.now ≡ order_row order) }
     ensures known { (entry : Entry) → row.now ≡ entry_row entry → result ≢ Err faults.NotOurs }
@@ -109,7 +110,7 @@ fn order_in(row: &Row) -> Result<Order, StoreFault>
         kind: kind_numbered(number_in(row, 2)?)?,
         binding: text_in(row, 3)?,
         outcome: outcome_in(row)?,
-        attributes: attributes_in(row)?,
+        attributes: attributes_in(alloc, row)?,
     })
 }
 
@@ -119,43 +120,44 @@ pub(crate) fn orders_in(alloc: Global, rows: &[Row]) -> Result<Vec<Order>, Store
 {
     let mut orders = Vec::new(alloc);
     for row in rows {
-        orders.push(order_in(row)?)?;
+        orders.push(order_in(alloc, row)?)?;
     }
     Ok(orders)
 }
 
 /// The order that the first row shows.
-fn first_in(rows: &[Row]) -> Result<Option<Order>, StoreFault>
+fn first_in(alloc: Global, rows: &[Row]) -> Result<Option<Order>, StoreFault>
     ensures { IfOk result (λ order. order ≡ first_order rows.now) }
 {
     match rows.first() {
         None => Ok(None),
-        Some(row) => Ok(Some(order_in(row)?)),
+        Some(row) => Ok(Some(order_in(alloc, row)?)),
     }
 }
 
 /// The order of the row, with the id of its instance.
-fn entry_in(row: &Row) -> Result<(Text, Order), StoreFault>
-    ensures { IsEntryOf entry_row entry_columns row.now result }
+fn entry_in(alloc: Global, row: &Row) -> Result<(Text, Order), StoreFault>
+    ensures entry { IsEntryOf entry_row entry_columns row.now result }
+    ensures bare { IfOk result (λ entry. bare_order entry.1 ≡ entry.1) }
 {
-    Ok((text_in(row, 0)?, order_in(row)?))
+    Ok((text_in(row, 0)?, order_in(alloc, row)?))
 }
 
 /// The orders of the rows, each with the id of its instance.
 fn entries_in(alloc: Global, rows: &[Row]) -> Result<Vec<(Text, Order)>, StoreFault>
     ensures told { IfOk result (λ entries.
-        map entry_row entries.items ≡ map entry_columns rows.now) }
+        (map entry_row entries.items ≡ map entry_columns rows.now) × AreBare entries.items) }
     ensures known { (entries : List Entry) → rows.now ≡ map entry_row entries →
         result ≢ Err faults.NotOurs }
 {
     let mut entries = Vec::new(alloc);
     for row in rows {
-        entries.push(entry_in(row)?)?;
+        entries.push(entry_in(alloc, row)?)?;
     }
     Ok(entries)
 }
 
-/// Inserts an order that may follow those of its instance.
+/// Inserts an order that may follow those of its instance, without its context.
 pub(crate) fn insert_order<S: Alter>(
     tx: &mut Transaction<'_, S>,
     instance: &str,
@@ -163,9 +165,10 @@ pub(crate) fn insert_order<S: Alter>(
 ) -> Result<usize, Error>
     requires tables { ShowsTables (behind S.Store tx.old) }
     requires whole { HasCleanDisk (behind S.Store tx.old) → IsTrue (behind S.Store tx.old).is_open →
-        IsLives (lives_changed (Append order.now) instance.now (stored (behind S.Store tx.old))) }
+        IsLives (lives_changed (Append (bare_order order.now)) instance.now
+        (stored (behind S.Store tx.old))) }
     ensures ok { Does S.Store tx.old tx.new result (λ old new.
-        Steps old new (with_lives (lives_changed (Append order.now) instance.now
+        Steps old new (with_lives (lives_changed (Append (bare_order order.now)) instance.now
         (stored old)) (content old))) }
     ensures inside { StaysInside S.Store tx.old tx.new }
 {
@@ -240,6 +243,7 @@ fn select_order<S: Alter>(
 /// The order of that number in the life of the instance.
 pub(crate) fn order_numbered<S: Alter>(
     tx: &mut Transaction<'_, S>,
+    alloc: Global,
     instance: &str,
     number: u32,
 ) -> Result<Option<Order>, StoreFault>
@@ -249,7 +253,7 @@ pub(crate) fn order_numbered<S: Alter>(
     ensures reads { Reads S.Store tx.old tx.new result }
 {
     let rows = select_order(tx, instance, number)?;
-    first_in(&rows)
+    first_in(alloc, &rows)
 }
 
 fn select_last<S: Alter>(
@@ -275,6 +279,7 @@ fn select_last<S: Alter>(
 /// instance itself names no binding.
 pub(crate) fn last_of_kind<S: Alter>(
     tx: &mut Transaction<'_, S>,
+    alloc: Global,
     instance: &str,
     binding: &str,
     kind: OrderKind,
@@ -285,7 +290,7 @@ pub(crate) fn last_of_kind<S: Alter>(
     ensures reads { Reads S.Store tx.old tx.new result }
 {
     let rows = select_last(tx, instance, binding, kind)?;
-    first_in(&rows)
+    first_in(alloc, &rows)
 }
 
 pub(crate) fn select_life<S: Alter>(

@@ -34,6 +34,7 @@ fn later(order: Option<Order>, other: Option<Order>) -> Option<Order>
 /// The later of an order and the last one of that kind about the binding.
 fn later_of_kind<S: Alter>(
     tx: &mut Transaction<'_, S>,
+    alloc: Global,
     instance: &str,
     binding: &str,
     kind: OrderKind,
@@ -45,13 +46,14 @@ fn later_of_kind<S: Alter>(
         (life_of (stored s) instance.now)))) }
     ensures reads { Reads S.Store tx.old tx.new result }
 {
-    let other = last_of_kind(tx, instance, binding, kind)?;
+    let other = last_of_kind(tx, alloc, instance, binding, kind)?;
     Ok(later(order, other))
 }
 
 /// The last creation of the instance.
 fn last_creation<S: Alter>(
     tx: &mut Transaction<'_, S>,
+    alloc: Global,
     instance: &str,
 ) -> Result<Option<Order>, StoreFault>
     requires { ShowsRecords (behind S.Store tx.old) }
@@ -59,12 +61,13 @@ fn last_creation<S: Alter>(
         order ≡ last_of (filter (is_a Create) (life_of (stored s) instance.now))) }
     ensures reads { Reads S.Store tx.old tx.new result }
 {
-    last_of_kind(tx, instance, "", OrderKind::Create)
+    last_of_kind(tx, alloc, instance, "", OrderKind::Create)
 }
 
 /// The last creation or update of the instance.
 fn last_kept<S: Alter>(
     tx: &mut Transaction<'_, S>,
+    alloc: Global,
     instance: &str,
 ) -> Result<Option<Order>, StoreFault>
     requires { ShowsRecords (behind S.Store tx.old) }
@@ -72,13 +75,14 @@ fn last_kept<S: Alter>(
         order ≡ last_of (filter is_kept (life_of (stored s) instance.now))) }
     ensures reads { Reads S.Store tx.old tx.new result }
 {
-    let created = last_of_kind(tx, instance, "", OrderKind::Create)?;
-    later_of_kind(tx, instance, "", OrderKind::Update, created)
+    let created = last_of_kind(tx, alloc, instance, "", OrderKind::Create)?;
+    later_of_kind(tx, alloc, instance, "", OrderKind::Update, created)
 }
 
 /// The last creation, update or deletion of the instance.
 pub(crate) fn last_of_instance<S: Alter>(
     tx: &mut Transaction<'_, S>,
+    alloc: Global,
     instance: &str,
 ) -> Result<Option<Order>, StoreFault>
     requires { ShowsRecords (behind S.Store tx.old) }
@@ -86,13 +90,14 @@ pub(crate) fn last_of_instance<S: Alter>(
         order ≡ last_of (filter is_of_instance (life_of (stored s) instance.now))) }
     ensures reads { Reads S.Store tx.old tx.new result }
 {
-    let kept = last_kept(tx, instance)?;
-    later_of_kind(tx, instance, "", OrderKind::Delete, kept)
+    let kept = last_kept(tx, alloc, instance)?;
+    later_of_kind(tx, alloc, instance, "", OrderKind::Delete, kept)
 }
 
 /// The last order about the binding.
 pub(crate) fn last_of_binding<S: Alter>(
     tx: &mut Transaction<'_, S>,
+    alloc: Global,
     instance: &str,
     binding: &str,
 ) -> Result<Option<Order>, StoreFault>
@@ -101,13 +106,14 @@ pub(crate) fn last_of_binding<S: Alter>(
         order ≡ last_of (filter (is_of_binding binding.now) (life_of (stored s) instance.now))) }
     ensures reads { Reads S.Store tx.old tx.new result }
 {
-    let bound = last_of_kind(tx, instance, binding, OrderKind::Bind)?;
-    later_of_kind(tx, instance, binding, OrderKind::Unbind, bound)
+    let bound = last_of_kind(tx, alloc, instance, binding, OrderKind::Bind)?;
+    later_of_kind(tx, alloc, instance, binding, OrderKind::Unbind, bound)
 }
 
 /// Whether the last creation of the instance failed.
 pub(crate) fn birth_failed<S: Alter>(
     tx: &mut Transaction<'_, S>,
+    alloc: Global,
     instance: &str,
 ) -> Result<bool, StoreFault>
     requires { ShowsRecords (behind S.Store tx.old) }
@@ -115,7 +121,7 @@ pub(crate) fn birth_failed<S: Alter>(
         failed ≡ rows.birth_failed (life_of (stored s) instance.now)) }
     ensures reads { Reads S.Store tx.old tx.new result }
 {
-    match last_creation(tx, instance)? {
+    match last_creation(tx, alloc, instance)? {
         Some(order) => Ok(order.is_now(OrderState::Failed)),
         None => Ok(false),
     }
@@ -152,6 +158,6 @@ pub(crate) fn order_named<S: Alter>(
 {
     // No order has the number 0.
     let number = number_named(name).unwrap_or(0);
-    let found = order_numbered(tx, instance, number)?;
+    let found = order_numbered(tx, alloc, instance, number)?;
     only_named(alloc, found, name)
 }

@@ -22,6 +22,7 @@ use std::alloc::Global;
 /// The order that the row names, with the id of its instance.
 fn listed_order<S: Alter>(
     tx: &mut Transaction<'_, S>,
+    alloc: Global,
     row: &Row,
 ) -> Result<(Text, Order), StoreFault>
     requires { ShowsRecords (behind S.Store tx.old) }
@@ -30,7 +31,7 @@ fn listed_order<S: Alter>(
     ensures reads { Reads S.Store tx.old tx.new result }
 {
     let (id, number) = named_in(row)?;
-    match order_numbered(tx, id.as_str(), number)? {
+    match order_numbered(tx, alloc, id.as_str(), number)? {
         Some(order) => Ok((id, order)),
         None => Err(StoreFault::Refused),
     }
@@ -49,7 +50,7 @@ fn listed_orders<S: Alter>(
 {
     let mut orders = Vec::new(alloc);
     for row in rows {
-        orders.push(listed_order(tx, row)?)?;
+        orders.push(listed_order(tx, alloc, row)?)?;
     }
     Ok(orders)
 }

@@ -17,6 +17,7 @@ ghost use Rattle.osb_standing.specs.Rows.{bindings_of};
 ghost use Rattle.osb_standing.specs.declared.row.BindingEdit.TheVariants.{Put};
 ghost use Rattle.osb_audit.specs.Instances.{IsRowOf};
 ghost use Rattle.osb_records.specs.Queries.{ShowsRecords};
+ghost use Rattle.osb_bare.specs.Bare.{bare_order, bare_row};
 ghost use Rattle.osb_records.specs.Inside.{with_bindings, Steps, PutsInstance};
 ghost use Rattle.osb_records.specs.Steps.{stored, ShowsTables, content};
 ghost use Rattle.osb_records.specs.Reads.{Finds, behind, StaysInside, Does, MayRead};
@@ -47,7 +48,7 @@ fn put_instance<S: Alter>(
     requires there { HasCleanDisk (behind S.Store tx.old) → IsTrue (behind S.Store tx.old).is_open →
         IsRowOf instance.now (option_copied old) (content (behind S.Store tx.old)).instances }
     ensures ok { Does S.Store tx.old tx.new result (λ old new.
-        PutsInstance old new instance.now row.now) }
+        PutsInstance old new instance.now (bare_row row.now)) }
     ensures inside { StaysInside S.Store tx.old tx.new }
 {
     match old {
@@ -59,6 +60,7 @@ fn put_instance<S: Alter>(
 /// Whether the birth of the instance failed. It is looked up only where the order makes it matter.
 fn birth_failed_for<S: Alter>(
     tx: &mut Transaction<'_, S>,
+    alloc: Global,
     instance: &str,
     order: &Order,
 ) -> Result<bool, StoreFault>
@@ -69,7 +71,7 @@ fn birth_failed_for<S: Alter>(
     ensures reads { MayRead S.Store tx.old tx.new result }
 {
     if is_failed_deletion(order) {
-        birth_failed(tx, instance)
+        birth_failed(tx, alloc, instance)
     } else {
         Ok(false)
     }
@@ -78,21 +80,23 @@ fn birth_failed_for<S: Alter>(
 /// The row of the instance once the order is written, from the row before.
 fn next_row<S: Alter>(
     tx: &mut Transaction<'_, S>,
+    alloc: Global,
     instance: &str,
     order: &Order,
     old: Option<&InstanceRow>,
 ) -> Result<InstanceRow, StoreFault>
     requires { ShowsRecords (behind S.Store tx.old) }
     ensures ok { HasCleanDisk (behind S.Store tx.new) → (change : Change) →
-        IsWritten (life_of (stored (behind S.Store tx.old)) instance.now) change order.now →
+        IsWritten (life_of (stored (behind S.Store tx.old)) instance.now) change
+        (bare_order order.now) →
         option_copied old.entry ≡
         rows.row_of (life_of (stored (behind S.Store tx.old)) instance.now) →
         IfOk result (λ row.
         rows.row_of (changed change (life_of (stored (behind S.Store tx.old)) instance.now)) ≡
-        Some row) }
+        Some (bare_row row)) }
     ensures reads { MayRead S.Store tx.old tx.new result }
 {
-    let failed = birth_failed_for(tx, instance, order)?;
+    let failed = birth_failed_for(tx, alloc, instance, order)?;
     Ok(instance_row_after(failed, order, old)?)
 }
 
@@ -107,7 +111,7 @@ fn write_first_row<S: Alter>(
         IsTrue (behind S.Store tx.old).is_open →
         IsRowOf instance.now None (content (behind S.Store tx.old)).instances }
     ensures ok { Does S.Store tx.old tx.new result (λ old new.
-        RowFollows old new instance.now order.now) }
+        RowFollows old new instance.now (bare_order order.now)) }
     ensures inside { StaysInside S.Store tx.old tx.new }
 {
     let row = instance_row_after(false, order, None)?;
@@ -120,16 +124,17 @@ fn write_first_row<S: Alter>(
 /// Writes the row that the instance has once the order is written, from the row before.
 fn write_next_row<S: Alter>(
     tx: &mut Transaction<'_, S>,
+    alloc: Global,
     instance: &str,
     order: &Order,
 ) -> Result<(), StoreFault>
     requires { ShowsRecords (behind S.Store tx.old) }
     ensures ok { Does S.Store tx.old tx.new result (λ old new.
-        RowFollows old new instance.now order.now) }
+        RowFollows old new instance.now (bare_order order.now)) }
     ensures inside { StaysInside S.Store tx.old tx.new }
 {
-    let old = read_instance(tx, instance)?;
-    let row = next_row(tx, instance, order, old.as_ref())?;
+    let old = read_instance(tx, alloc, instance)?;
+    let row = next_row(tx, alloc, instance, order, old.as_ref())?;
     let put = put_instance(tx, instance, old.as_ref(), &row);
     drop(old);
     drop(row);
@@ -141,6 +146,7 @@ fn write_next_row<S: Alter>(
 /// so none is looked for.
 fn write_instance<S: Alter>(
     tx: &mut Transaction<'_, S>,
+    alloc: Global,
     instance: &str,
     order: &Order,
     is_new: bool,
@@ -150,13 +156,13 @@ fn write_instance<S: Alter>(
         IsTrue (behind S.Store tx.old).is_open → IsTrue is_new →
         IsRowOf instance.now None (content (behind S.Store tx.old)).instances }
     ensures ok { Does S.Store tx.old tx.new result (λ old new.
-        RowFollows old new instance.now order.now) }
+        RowFollows old new instance.now (bare_order order.now)) }
     ensures inside { StaysInside S.Store tx.old tx.new }
 {
     if is_new {
         write_first_row(tx, instance, order)
     } else {
-        write_next_row(tx, instance, order)
+        write_next_row(tx, alloc, instance, order)
     }
 }
 
@@ -196,7 +202,8 @@ fn edit_from(
     old: Option<BindingNow>,
 ) -> Result<(bool, BindingEdit), StoreFault>
     ensures had { IfOk result (λ found. found.0 ≡ is_some old) }
-    ensures follows { (life : Life) (change : Change) → IsWritten life change order.now →
+    ensures follows { (life : Life) (change : Change) →
+        IsWritten life change (bare_order order.now) →
         old ≡ get (bindings_of life) order.now.binding →
         IfOk result (λ found.
         bindings_of (changed change life) ≡ edited found.1 order.now.binding (bindings_of life)) }
@@ -216,7 +223,8 @@ fn write_binding<S: Alter>(
     ensures ok { HasCleanDisk (behind S.Store tx.new) → IsTrue (behind S.Store tx.old).is_open →
         IsTrue (behind S.Store tx.old).in_transaction → IsDatabase (behind S.Store tx.old).now →
         OnOk result
-        (FollowsOrder (behind S.Store tx.old) (behind S.Store tx.new) instance.now order.now) }
+        (FollowsOrder (behind S.Store tx.old) (behind S.Store tx.new) instance.now
+        (bare_order order.now)) }
     ensures inside { StaysInside S.Store tx.old tx.new }
 {
     let binding = order.binding.as_str();
@@ -239,7 +247,8 @@ fn write_bindings<S: Alter>(
     ensures ok { HasCleanDisk (behind S.Store tx.new) → IsTrue (behind S.Store tx.old).is_open →
         IsTrue (behind S.Store tx.old).in_transaction → IsDatabase (behind S.Store tx.old).now →
         OnOk result
-        (FollowsOrder (behind S.Store tx.old) (behind S.Store tx.new) instance.now order.now) }
+        (FollowsOrder (behind S.Store tx.old) (behind S.Store tx.new) instance.now
+        (bare_order order.now)) }
     ensures inside { StaysInside S.Store tx.old tx.new }
 {
     if order.kind.is_about_binding() {
@@ -265,9 +274,9 @@ pub(crate) fn write_standing<S: Alter>(
         IsTrue (behind S.Store tx.old).is_open → IsTrue is_new →
         IsRowOf instance.now None (content (behind S.Store tx.old)).instances }
     ensures ok { Does S.Store tx.old tx.new result (λ old new.
-        RowsFollow old new instance.now order.now) }
+        RowsFollow old new instance.now (bare_order order.now)) }
     ensures inside { StaysInside S.Store tx.old tx.new }
 {
-    write_instance(tx, instance, order, is_new)?;
+    write_instance(tx, alloc, instance, order, is_new)?;
     write_bindings(tx, alloc, instance, order)
 }

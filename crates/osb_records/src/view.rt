@@ -38,6 +38,7 @@ const LISTED: u32 = 100;
 /// The row of the instance.
 fn read_row<S: Alter>(
     tx: &mut Transaction<'_, S>,
+    alloc: Global,
     instance: &str,
 ) -> Result<Option<InstanceRow>, StoreFault>
     requires { ShowsRecords (behind S.Store tx.old) }
@@ -45,12 +46,13 @@ fn read_row<S: Alter>(
         row ≡ row_of (life_of (stored s) instance.now)) }
     ensures reads { Reads S.Store tx.old tx.new result }
 {
-    read_instance(tx, instance)
+    read_instance(tx, alloc, instance)
 }
 
 /// The last order of the instance, by its row.
 fn read_last<S: Alter>(
     tx: &mut Transaction<'_, S>,
+    alloc: Global,
     instance: &str,
     row: Option<&InstanceRow>,
 ) -> Result<Option<Order>, StoreFault>
@@ -61,7 +63,7 @@ fn read_last<S: Alter>(
     ensures reads { MayRead S.Store tx.old tx.new result }
 {
     match row {
-        Some(row) => order_numbered(tx, instance, row.last_number),
+        Some(row) => order_numbered(tx, alloc, instance, row.last_number),
         None => Ok(None),
     }
 }
@@ -69,6 +71,7 @@ fn read_last<S: Alter>(
 /// The row of the instance and its last order.
 fn read_standing<S: Alter>(
     tx: &mut Transaction<'_, S>,
+    alloc: Global,
     instance: &str,
 ) -> Result<(Option<InstanceRow>, Option<Order>), StoreFault>
     requires { ShowsRecords (behind S.Store tx.old) }
@@ -77,8 +80,8 @@ fn read_standing<S: Alter>(
         × (found.1 ≡ last_of (life_of (stored s) instance.now))) }
     ensures reads { Reads S.Store tx.old tx.new result }
 {
-    let row = read_row(tx, instance)?;
-    let last = read_last(tx, instance, row.as_ref())?;
+    let row = read_row(tx, alloc, instance)?;
+    let last = read_last(tx, alloc, instance, row.as_ref())?;
     Ok((row, last))
 }
 
@@ -191,7 +194,7 @@ fn read_named<S: Alter>(
             poll.binding.as_str(),
             poll.operation.as_ref(),
         ),
-        Ask::Report(report) => order_numbered(tx, instance, report.number),
+        Ask::Report(report) => order_numbered(tx, alloc, instance, report.number),
         Ask::Catalog
         | Ask::Provision(_)
         | Ask::Fetch(_)
@@ -207,6 +210,7 @@ fn read_named<S: Alter>(
 /// The last of the orders that a poll is about.
 fn read_subject<S: Alter>(
     tx: &mut Transaction<'_, S>,
+    alloc: Global,
     instance: &str,
     ask: &Ask,
 ) -> Result<Option<Order>, StoreFault>
@@ -216,8 +220,8 @@ fn read_subject<S: Alter>(
     ensures reads { MayRead S.Store tx.old tx.new result }
 {
     match ask {
-        Ask::InstanceOp(_) => last_of_instance(tx, instance),
-        Ask::BindingOp(poll) => last_of_binding(tx, instance, poll.binding.as_str()),
+        Ask::InstanceOp(_) => last_of_instance(tx, alloc, instance),
+        Ask::BindingOp(poll) => last_of_binding(tx, alloc, instance, poll.binding.as_str()),
         Ask::Catalog
         | Ask::Provision(_)
         | Ask::Fetch(_)
@@ -264,7 +268,7 @@ fn read_polled<S: Alter>(
     ensures reads { MayRead S.Store tx.old tx.new result }
 {
     let named = read_named(tx, alloc, instance, ask)?;
-    let subject_last = read_subject(tx, instance, ask)?;
+    let subject_last = read_subject(tx, alloc, instance, ask)?;
     Ok((named, subject_last))
 }
 
@@ -344,7 +348,7 @@ pub(crate) fn read_for<S: Alter>(
         IsReadOf (life_of (stored s) instance.now) [] ask.now read) }
     ensures reads { Reads S.Store tx.old tx.new result }
 {
-    let (row, last) = read_standing(tx, instance)?;
+    let (row, last) = read_standing(tx, alloc, instance)?;
     let asked = read_asked_of(tx, alloc, instance, ask, row.as_ref())?;
     Ok(Read {
         row,

@@ -10,10 +10,10 @@ ghost use Rattle.osb_orders.specs.Allowed.{IsFinishable};
 ghost use Rattle.osb_orders.specs.Lists.{last_of};
 ghost use Rattle.osb_standing.specs.Written as written;
 ghost use Rattle.osb_records.specs.Queries.{ShowsRecords};
+ghost use Rattle.osb_bare.specs.Bare.{bare_order};
 ghost use Rattle.osb_records.specs.Inside.{Writes};
-ghost use Rattle.osb_records.specs.Steps.{stored, content};
+ghost use Rattle.osb_records.specs.Steps.{stored};
 ghost use Rattle.osb_records.specs.Reads.{Reads, Finds, behind, StaysInside, Does};
-ghost use Rattle.osb_records.specs.Standing.{IsStanding};
 
 use crate::fault::StoreFault;
 use crate::orders::{finish_order, insert_order, order_numbered};
@@ -23,7 +23,7 @@ use osb_standing::order_written;
 use sqlite::{Alter, Transaction};
 use std::alloc::Global;
 
-/// Writes one order more. An instance whose first order it is has no row to look for.
+/// Writes one order more, without its context. An instance whose first order it is has no row to look for.
 pub(crate) fn append_order<S: Alter>(
     tx: &mut Transaction<'_, S>,
     alloc: Global,
@@ -31,12 +31,12 @@ pub(crate) fn append_order<S: Alter>(
     order: &Order,
 ) -> Result<(), StoreFault>
     requires records { ShowsRecords (behind S.Store tx.old) }
-    requires standing { HasCleanDisk (behind S.Store tx.old) →
-        IsTrue (behind S.Store tx.old).is_open → IsStanding (content (behind S.Store tx.old)) }
     requires whole { HasCleanDisk (behind S.Store tx.old) → IsTrue (behind S.Store tx.old).is_open →
-        IsLives (lives_changed (Append order.now) instance.now (stored (behind S.Store tx.old))) }
+        IsLives (lives_changed (Append (bare_order order.now)) instance.now
+        (stored (behind S.Store tx.old))) }
     ensures ok { Does S.Store tx.old tx.new result (λ old new.
-        Writes old new (lives_changed (Append order.now) instance.now (stored old))) }
+        Writes old new (lives_changed (Append (bare_order order.now)) instance.now
+        (stored old))) }
     ensures inside { StaysInside S.Store tx.old tx.new }
 {
     write_standing(tx, alloc, instance, order, order.number == 1)?;
@@ -47,6 +47,7 @@ pub(crate) fn append_order<S: Alter>(
 /// The running last order of the instance, with the outcome that ends it.
 fn ended_order<S: Alter>(
     tx: &mut Transaction<'_, S>,
+    alloc: Global,
     instance: &str,
     number: u32,
     outcome: &Outcome,
@@ -59,7 +60,7 @@ fn ended_order<S: Alter>(
     ensures reads { Reads S.Store tx.old tx.new result }
 {
     let ending = Change::Finish(number, outcome.clone()?);
-    let last = order_numbered(tx, instance, number)?;
+    let last = order_numbered(tx, alloc, instance, number)?;
     match order_written(last, ending) {
         Some(order) => Ok(order),
         None => Err(StoreFault::Refused),
@@ -75,15 +76,13 @@ pub(crate) fn end_order<S: Alter>(
     outcome: &Outcome,
 ) -> Result<(), StoreFault>
     requires records { ShowsRecords (behind S.Store tx.old) }
-    requires standing { HasCleanDisk (behind S.Store tx.old) →
-        IsTrue (behind S.Store tx.old).is_open → IsStanding (content (behind S.Store tx.old)) }
     requires last { HasCleanDisk (behind S.Store tx.old) → IsTrue (behind S.Store tx.old).is_open →
         IsFinishable (life_of (stored (behind S.Store tx.old)) instance.now) number outcome.now }
     ensures ok { Does S.Store tx.old tx.new result (λ old new.
         Writes old new (lives_changed (Finish number outcome.now) instance.now (stored old))) }
     ensures inside { StaysInside S.Store tx.old tx.new }
 {
-    let order = ended_order(tx, instance, number, outcome)?;
+    let order = ended_order(tx, alloc, instance, number, outcome)?;
     write_standing(tx, alloc, instance, &order, false)?;
     finish_order(tx, instance, number, outcome)?;
     Ok(())

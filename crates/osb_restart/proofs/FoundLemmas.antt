@@ -1,19 +1,23 @@
 -- Which lives the next run finds.
-use Rattle.std.proofs.Common.{◌≡◌, ◌⊎◌, inl, inr, IsTrue, Result, Ok, Err, OnOk, is_ok, sym, ◌∙◌}
+use Rattle.std.proofs.Common.{◌≡◌, ◌⊎◌, inl, inr, IsTrue, Result, Ok, Err, OnOk, is_ok, sym, ap, ◌∙◌}
+use Rattle.std.specs.Prelude.{◌≢◌}
 use Rattle.std.proofs.lemmas.Bool.{false≢true}
 use Rattle.std.proofs.Math.Logic.{∥∥₁_elim, ∥∥₁_map}
 use Rattle.sqlite.specs.Tree.{Trees}
 use Rattle.sqlite.specs.State.{State, HasCleanDisk, Survives}
 use Rattle.sqlite_catalog.proofs.ReadLemmas.{lists_once}
-use Rattle.osb_tables.specs.Tables.{record_schema}
+use Rattle.sqlite.specs.Schema.{Schema}
+use Rattle.osb_tables.specs.Tables.{no_schema, record_schema}
 use Rattle.osb_orders.specs.Lives.{Lives}
 use Rattle.osb_records.specs.Stored.{lives_stored}
 use Rattle.osb_records.specs.Kept.{KeepsLives}
 use Rattle.osb_records.specs.Steps.{HoldsLives}
-use Rattle.osb_records.proofs.OpenedLemmas.{no_tables}
 use Rattle.osb_file.specs.File.{AreLivesOf}
 use Rattle.osb_restart.specs.Restart.{MayFind}
 use Rattle.osb_restart.proofs.LivesLemmas.{Lives-set}
+
+no_tables : record_schema ≢ no_schema
+no_tables is = absurd (let tables = ap (λ (s : Schema). s.tables) is in cc)
 
 -- trees are a database of one schema, so where they hold lives no others stand in them
 pub stored_are_found : (db : Trees) (lives found : Lives) → HoldsLives lives db → AreLivesOf db found → found ≡ lives_stored db

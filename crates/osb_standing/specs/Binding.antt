@@ -10,13 +10,13 @@ use Rattle.osb_orders.specs.declared.order.Order.{Order}
 use Rattle.osb_orders.specs.declared.view.BindingPhase.{BindingPhase}
 use Rattle.osb_orders.specs.declared.view.BindingPhase.TheVariants as phase
 use Rattle.osb_orders.specs.declared.view.BindingNow.{BindingNow}
-use Rattle.osb_orders.specs.Bindings.{without_maintenance}
+use Rattle.osb_orders.specs.Bindings.{of_binding}
 use Rattle.osb_standing.specs.declared.row.BindingEdit.{BindingEdit}
 use Rattle.osb_standing.specs.declared.row.BindingEdit.TheVariants.{Keep, Put, Remove, Clear}
 use Rattle.osb_standing.specs.Rows.{Bindings}
 
 abbrev pub binding_by : BindingPhase → Order → BindingNow
-binding_by now bind = record { phase = now; attributes = without_maintenance bind.attributes; credentials = bind.outcome.credentials }
+binding_by now bind = record { phase = now; attributes = of_binding bind.attributes; credentials = bind.outcome.credentials }
 
 abbrev pub in_phase : BindingPhase → BindingNow → BindingNow
 in_phase now binding = record binding { phase = now }

@@ -54,12 +54,13 @@ fn phase_of_bind(state: OrderState) -> BindingPhase
     }
 }
 
-/// The binding that the order binds. It has no maintenance version.
+/// The binding that the order binds. It has no maintenance version and no context.
 fn put_bound(alloc: Global, phase: BindingPhase, order: &Order) -> Result<BindingEdit, AllocError>
     ensures { IfOk result (λ edit. edit ≡ Put (spec.binding_by phase order.now)) }
 {
     let attributes = Attributes {
         maintenance: Text::new(alloc),
+        context: Text::from_str(alloc, "{}")?,
         ..order.attributes.clone()?
     };
     Ok(BindingEdit::Put(BindingNow {

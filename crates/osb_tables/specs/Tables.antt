@@ -1,5 +1,6 @@
 -- The tables of the database.
-use Rattle.std.specs.Prelude.{Bool, true, false, [], ◌∷◌, List, ℕ, None, map, codes}
+use Rattle.std.specs.Prelude.{Bool, true, false, [], ◌∷◌, List, ℕ, ◌+◌, map, codes}
+use Rattle.std.specs.Prelude as std
 use Rattle.std.specs.Borrow.{Bor}
 use Rattle.sqlite.specs.Collation.TheVariants.{Binary}
 use Rattle.sqlite.specs.declared.types.Value.TheVariants.{Null}
@@ -11,6 +12,8 @@ use Rattle.sqlite.specs.Kind.TheVariants.{Integer, Text}
 use Rattle.sqlite_schema.specs.declared.schema.Column.{Column}
 use Rattle.sqlite_value.specs.declared.keys.Order.{Order}
 use Rattle.sqlite_schema.specs.declared.schema.Index.{Index}
+use Rattle.osb_tables.specs.declared.schema.Indexes.{Indexes}
+use Rattle.osb_tables.specs.declared.schema.Indexes.TheVariants.{None, Listing, Both}
 
 -- a column of a STRICT table
 abbrev pub column_of : List ℕ → Kind → Column
@@ -41,7 +44,7 @@ plain_table name tree columns primary uniques = record {
   name = name;
   tree = tree;
   columns = columns;
-  key = None;
+  key = std.None;
   primary = primary;
   uniques = uniques;
   orders = map (λ _. record { digits = 0 }) uniques;
@@ -99,6 +102,13 @@ binding_columns =
     ∷ text_column (codes "credentials")
     ∷ []
 
+abbrev pub context_columns : List Column
+context_columns =
+    text_column (codes "instance_id")
+    ∷ number_column (codes "seq")
+    ∷ text_column (codes "context")
+    ∷ []
+
 abbrev pub format_table : Table
 format_table = plain_table (codes "format") 0 format_columns [] []
 
@@ -114,6 +124,10 @@ instances_table = plain_table (codes "instances") 3 instance_columns (1 ∷ []) 
 abbrev pub bindings_table : Table
 bindings_table = plain_table (codes "bindings") 5 binding_columns (1 ∷ 2 ∷ []) ((1 ∷ 2 ∷ []) ∷ [])
 
+-- its key is the instance and the number of the order, or 0 for what stands
+abbrev pub contexts_table : Table
+contexts_table = plain_table (codes "contexts") 7 context_columns (1 ∷ 2 ∷ []) ((1 ∷ 2 ∷ []) ∷ [])
+
 abbrev pub no_schema : Schema
 no_schema = record { tables = []; indexes = []; views = [] }
 
@@ -126,8 +140,13 @@ orders_schema = created format_schema orders_table
 abbrev pub instances_schema : Schema
 instances_schema = created orders_schema instances_table
 
+-- the four tables of version 1
 abbrev pub tables_schema : Schema
 tables_schema = created instances_schema bindings_table
+
+-- the five tables of version 2
+abbrev pub five_tables : Schema
+five_tables = created tables_schema contexts_table
 
 -- an index by the bytes of these columns
 abbrev pub index_of : List ℕ → ℕ → ℕ → List ℕ → Bool → Index
@@ -147,13 +166,33 @@ subject_name = codes "subject_orders"
 abbrev pub subject_index : Index
 subject_index = index_of subject_name 0 1 (1 ∷ 4 ∷ 3 ∷ 2 ∷ []) false
 
--- the four tables and the index of the listing
-abbrev pub listed_schema : Schema
-listed_schema = indexed tables_schema instances_table busy_index
+-- tables with the index of the listing
+abbrev pub with_busy : Schema → Schema
+with_busy schema = indexed schema instances_table busy_index
 
--- the four tables and both indexes
+-- with the index on what orders are about
+abbrev pub with_subject : Schema → Schema
+with_subject schema = indexed schema orders_table subject_index
+
+-- version 1 with one index, and with both
+abbrev pub listed_schema : Schema
+listed_schema = with_busy tables_schema
+
 abbrev pub record_schema : Schema
-record_schema = indexed listed_schema orders_table subject_index
+record_schema = with_subject listed_schema
+
+-- version 2 with one index, and with both
+abbrev pub second_listed : Schema
+second_listed = with_busy five_tables
+
+abbrev pub second_schema : Schema
+second_schema = with_subject second_listed
+
+-- the tables of a version with these indexes
+abbrev pub made : Schema → Indexes → Schema
+made tables None = tables
+made tables Listing = with_busy tables
+made tables Both = with_subject (with_busy tables)
 
 -- the indexes that the keys have, by name
 abbrev pub key_indexes : List Index
@@ -163,9 +202,17 @@ key_indexes =
     ∷ index_of (codes "sqlite_autoindex_bindings_1") 6 5 (1 ∷ 2 ∷ []) true
     ∷ []
 
--- the indexes as they stand in the schema
-abbrev pub busy_found : Index
-busy_found = record busy_index { tree = 7 }
+abbrev pub contexts_index : Index
+contexts_index = index_of (codes "sqlite_autoindex_contexts_1") 8 7 (1 ∷ 2 ∷ []) true
 
-abbrev pub subject_found : Index
-subject_found = record subject_index { tree = 8 }
+-- the indexes as they stand in a schema whose last object has the tree before this one
+abbrev pub busy_at : ℕ → Index
+busy_at tree = record busy_index { tree = tree }
+
+abbrev pub subject_at : ℕ → Index
+subject_at tree = record subject_index { tree = tree }
+
+abbrev pub indexes_at : ℕ → Indexes → List Index
+indexes_at tree None = []
+indexes_at tree Listing = busy_at tree ∷ []
+indexes_at tree Both = busy_at tree ∷ subject_at (tree + 1) ∷ []

@@ -1,23 +1,30 @@
-ghost use Rattle.std.specs.Prelude.{◌≡◌, ◌≢◌, true, false, [], ◌∷◌, ◌++◌, None};
+ghost use Rattle.std.specs.Prelude.{◌≡◌, ◌≢◌, ◌<◌, true, false, [], ◌∷◌, ◌++◌, None, IfSome};
 ghost use Rattle.osb_tables.specs.Tables as spec;
-ghost use Rattle.osb_tables.specs.Tables.{column_of, columns_of, plain_table, index_of, key_indexes, busy_found, subject_found, no_schema, tables_schema, listed_schema, record_schema};
+ghost use Rattle.osb_tables.specs.Tables.{column_of, columns_of, plain_table, index_of, key_indexes, contexts_table, contexts_index, busy_at, subject_at, indexes_at, made, no_schema, tables_schema, five_tables};
 
 use sqlite_items::Items;
 use sqlite_schema::schema::{Column, Index, Kind, Schema, Table};
 use sqlite_value::keys::{Collation, Order};
 use sqlite_value::value::Value;
 
+/// Which of the two indexes are there. The second is never there alone.
+#[derive(Clone, Copy, Debug, PartialEq, Eq)]
+pub enum Indexes {
+    None,
+    /// The index of the listing.
+    Listing,
+    Both,
+}
+
 /// What a database has of the tables.
 #[derive(Clone, Copy, Debug, PartialEq, Eq)]
 pub enum Found {
     /// It is empty.
     Nothing,
-    /// The four tables and nothing else.
-    Tables,
-    /// The four tables and the index of the listing.
-    Listed,
-    /// The four tables and both indexes.
-    All,
+    /// The four tables of version 1 with these indexes, and nothing else.
+    First(Indexes),
+    /// The five tables of version 2 with these indexes, and nothing else.
+    Second(Indexes),
     Others,
 }
 
@@ -62,6 +69,12 @@ const BINDINGS: [(&str, Kind); 9] = [
     ("bind_resource", Kind::Text),
     ("params", Kind::Text),
     ("credentials", Kind::Text),
+];
+
+const CONTEXTS: [(&str, Kind); 3] = [
+    ("instance_id", Kind::Text),
+    ("seq", Kind::Integer),
+    ("context", Kind::Text),
 ];
 
 fn is_column(column: &Column, name: &str, kind: Kind) -> bool
@@ -116,8 +129,14 @@ fn are_plain(orders: &[Order], key: &[usize]) -> bool
 
 /// The table has no rule beside its key.
 fn has_no_more(table: &Table) -> bool
-    ensures is { result ≡ true → (table.now.key ≡ None) × (table.now.checks ≡ []) × (table.now.references ≡ []) × (table.now.computed ≡ []) × (table.now.stamps ≡ record { places = []; terms = []; formats = [] }) × (table.now.is_counted ≡ false) }
-    ensures exact { (table.now.key ≡ None) × (table.now.checks ≡ []) × (table.now.references ≡ []) × (table.now.computed ≡ []) × (table.now.stamps ≡ record { places = []; terms = []; formats = [] }) × (table.now.is_counted ≡ false) → result ≡ true }
+    ensures is { result ≡ true → (table.now.key ≡ None) × (table.now.checks ≡ [])
+        × (table.now.references ≡ []) × (table.now.computed ≡ [])
+        × (table.now.stamps ≡ record { places = []; terms = []; formats = [] })
+        × (table.now.is_counted ≡ false) }
+    ensures exact { (table.now.key ≡ None) × (table.now.checks ≡ []) × (table.now.references ≡ [])
+        × (table.now.computed ≡ [])
+        × (table.now.stamps ≡ record { places = []; terms = []; formats = [] })
+        × (table.now.is_counted ≡ false) → result ≡ true }
 {
     table.key.is_none()
         && table.checks.roots.is_empty()
@@ -130,8 +149,10 @@ fn has_no_more(table: &Table) -> bool
 }
 
 fn has_key(table: &Table, key: &[usize]) -> bool
-    ensures is { result ≡ true → (table.now.primary ≡ key.now) × (table.now.uniques ≡ spec.keys_of key.now) × (table.now.orders ≡ spec.orders_of key.now) }
-    ensures exact { (table.now.primary ≡ key.now) × (table.now.uniques ≡ spec.keys_of key.now) × (table.now.orders ≡ spec.orders_of key.now) → result ≡ true }
+    ensures is { result ≡ true → (table.now.primary ≡ key.now)
+        × (table.now.uniques ≡ spec.keys_of key.now) × (table.now.orders ≡ spec.orders_of key.now) }
+    ensures exact { (table.now.primary ≡ key.now) × (table.now.uniques ≡ spec.keys_of key.now)
+        × (table.now.orders ≡ spec.orders_of key.now) → result ≡ true }
 {
     table.primary.as_slice() == key
         && are_keys(table.uniques.as_slice(), key)
@@ -139,8 +160,12 @@ fn has_key(table: &Table, key: &[usize]) -> bool
 }
 
 fn is_table(table: &Table, name: &str, tree: u32, columns: &[(&str, Kind)], key: &[usize]) -> bool
-    ensures is { result ≡ true → table.now ≡ plain_table name.now tree (columns_of columns.now) key.now (spec.keys_of key.now) }
-    ensures exact { table.now ≡ plain_table name.now tree (columns_of columns.now) key.now (spec.keys_of key.now) → result ≡ true }
+    ensures is { result ≡ true →
+        table.now ≡ plain_table name.now tree (columns_of columns.now) key.now (spec.keys_of
+        key.now) }
+    ensures exact { table.now ≡ plain_table name.now tree (columns_of columns.now) key.now
+        (spec.keys_of key.now) →
+        result ≡ true }
 {
     table.name.as_slice() == name.as_bytes()
         && table.tree == tree
@@ -150,8 +175,11 @@ fn is_table(table: &Table, name: &str, tree: u32, columns: &[(&str, Kind)], key:
 }
 
 fn are_four_tables(format: &Table, orders: &Table, instances: &Table, bindings: &Table) -> bool
-    ensures is { result ≡ true → format.now ∷ orders.now ∷ instances.now ∷ bindings.now ∷ [] ≡ (tables_schema).tables }
-    ensures exact { format.now ∷ orders.now ∷ instances.now ∷ bindings.now ∷ [] ≡ (tables_schema).tables → result ≡ true }
+    ensures is { result ≡ true →
+        format.now ∷ orders.now ∷ instances.now ∷ bindings.now ∷ [] ≡ (tables_schema).tables }
+    ensures exact { format.now ∷ orders.now ∷ instances.now ∷ bindings.now ∷ [] ≡
+        (tables_schema).tables →
+        result ≡ true }
 {
     is_table(format, "format", 0, &FORMAT, &[])
         && is_table(orders, "orders", 1, &ORDERS, &[1, 2])
@@ -160,13 +188,50 @@ fn are_four_tables(format: &Table, orders: &Table, instances: &Table, bindings: 
 }
 
 #[tactic(auto, using(crate::proofs::SchemaLemmas::four_items))]
-fn are_tables(tables: &[Table]) -> bool
+fn are_first_tables(tables: &[Table]) -> bool
     ensures is { result ≡ true → tables.now ≡ (tables_schema).tables }
     ensures exact { tables.now ≡ (tables_schema).tables → result ≡ true }
 {
     match tables {
         [format, orders, instances, bindings] => are_four_tables(
             format, orders, instances, bindings,
+        ),
+        _ => false,
+    }
+}
+
+fn is_contexts_table(table: &Table) -> bool
+    ensures is { result ≡ true → table.now ≡ contexts_table }
+    ensures exact { table.now ≡ contexts_table → result ≡ true }
+{
+    is_table(table, "contexts", 7, &CONTEXTS, &[1, 2])
+}
+
+fn are_five_tables(
+    format: &Table,
+    orders: &Table,
+    instances: &Table,
+    bindings: &Table,
+    contexts: &Table,
+) -> bool
+    ensures is { result ≡ true →
+        format.now ∷ orders.now ∷ instances.now ∷ bindings.now ∷ contexts.now ∷ [] ≡
+        (five_tables).tables }
+    ensures exact { format.now ∷ orders.now ∷ instances.now ∷ bindings.now ∷ contexts.now ∷ [] ≡
+        (five_tables).tables →
+        result ≡ true }
+{
+    are_four_tables(format, orders, instances, bindings) && is_contexts_table(contexts)
+}
+
+#[tactic(auto, using(crate::proofs::SchemaLemmas::five_items))]
+fn are_second_tables(tables: &[Table]) -> bool
+    ensures is { result ≡ true → tables.now ≡ (five_tables).tables }
+    ensures exact { tables.now ≡ (five_tables).tables → result ≡ true }
+{
+    match tables {
+        [format, orders, instances, bindings, contexts] => are_five_tables(
+            format, orders, instances, bindings, contexts,
         ),
         _ => false,
     }
@@ -201,59 +266,82 @@ fn are_key_indexes(orders: &Index, instances: &Index, bindings: &Index) -> bool
         && is_index(bindings, "sqlite_autoindex_bindings_1", 6, 5, &[1, 2], true)
 }
 
-fn is_busy_index(index: &Index) -> bool
-    ensures is { result ≡ true → index.now ≡ busy_found }
-    ensures exact { index.now ≡ busy_found → result ≡ true }
+fn is_contexts_index(index: &Index) -> bool
+    ensures is { result ≡ true → index.now ≡ contexts_index }
+    ensures exact { index.now ≡ contexts_index → result ≡ true }
 {
-    is_index(index, "busy_instances", 7, 3, &[3, 1], false)
+    is_index(index, "sqlite_autoindex_contexts_1", 8, 7, &[1, 2], true)
 }
 
-fn is_subject_index(index: &Index) -> bool
-    ensures is { result ≡ true → index.now ≡ subject_found }
-    ensures exact { index.now ≡ subject_found → result ≡ true }
+fn is_busy_index(index: &Index, tree: u32) -> bool
+    ensures is { result ≡ true → index.now ≡ busy_at tree }
+    ensures exact { index.now ≡ busy_at tree → result ≡ true }
 {
-    is_index(index, "subject_orders", 8, 1, &[1, 4, 3, 2], false)
+    is_index(index, "busy_instances", tree, 3, &[3, 1], false)
 }
 
-/// The indexes beside those of the keys.
-fn found_more(more: &[Index]) -> Found
-    ensures nothing { result ≢ Found.Nothing }
-    ensures tables { result ≡ Found.Tables → more.now ≡ [] }
-    ensures listed { result ≡ Found.Listed → more.now ≡ busy_found ∷ [] }
-    ensures all { result ≡ Found.All → more.now ≡ busy_found ∷ subject_found ∷ [] }
-    ensures others { result ≡ Found.Others → (more.now ≢ []) × (more.now ≢ busy_found ∷ []) × (more.now ≢ busy_found ∷ subject_found ∷ []) }
+fn is_subject_index(index: &Index, tree: u32) -> bool
+    ensures is { result ≡ true → index.now ≡ subject_at tree }
+    ensures exact { index.now ≡ subject_at tree → result ≡ true }
+{
+    is_index(index, "subject_orders", tree, 1, &[1, 4, 3, 2], false)
+}
+
+/// The indexes beside those of the keys, of which the first has this tree.
+fn found_more(more: &[Index], tree: u32) -> Option<Indexes>
+    requires { tree < 100 }
+    ensures some { IfSome result (λ found. more.now ≡ indexes_at tree found) }
+    ensures none { result ≡ None → (found : Indexes) → more.now ≢ indexes_at tree found }
 {
     match more {
-        [] => Found::Tables,
-        [busy] if is_busy_index(busy) => Found::Listed,
-        [busy, subject] if is_busy_index(busy) && is_subject_index(subject) => Found::All,
-        _ => Found::Others,
+        [] => Some(Indexes::None),
+        [busy] if is_busy_index(busy, tree) => Some(Indexes::Listing),
+        [busy, subject] if is_busy_index(busy, tree) && is_subject_index(subject, tree + 1) => {
+            Some(Indexes::Both)
+        }
+        _ => None,
     }
 }
 
-fn found_indexes(indexes: &[Index]) -> Found
-    ensures nothing { result ≢ Found.Nothing }
-    ensures tables { result ≡ Found.Tables → indexes.now ≡ key_indexes }
-    ensures listed { result ≡ Found.Listed → indexes.now ≡ key_indexes ++ busy_found ∷ [] }
-    ensures all { result ≡ Found.All → indexes.now ≡ key_indexes ++ busy_found ∷ subject_found ∷ [] }
-    ensures others { result ≡ Found.Others → (indexes.now ≢ key_indexes) × (indexes.now ≢ key_indexes ++ busy_found ∷ []) × (indexes.now ≢ key_indexes ++ busy_found ∷ subject_found ∷ []) }
+fn found_first(indexes: &[Index]) -> Option<Indexes>
+    ensures some { IfSome result (λ found. indexes.now ≡ key_indexes ++ indexes_at 7 found) }
+    ensures none { result ≡ None → (found : Indexes) →
+        indexes.now ≢ key_indexes ++ indexes_at 7 found }
 {
     match indexes {
         [orders, instances, bindings, more @ ..] if are_key_indexes(orders, instances, bindings) =>
-            found_more(more),
-        _ => Found::Others,
+            { found_more(more, 7) }
+        _ => None,
+    }
+}
+
+fn found_second(indexes: &[Index]) -> Option<Indexes>
+    ensures some { IfSome result (λ found. indexes.now ≡ key_indexes ++ contexts_index ∷
+        indexes_at 9 found) }
+    ensures none { result ≡ None → (found : Indexes) →
+        indexes.now ≢ key_indexes ++ contexts_index ∷ indexes_at 9 found }
+{
+    match indexes {
+        [orders, instances, bindings, contexts, more @ ..]
+            if are_key_indexes(orders, instances, bindings) && is_contexts_index(contexts) => {
+            found_more(more, 9)
+        }
+        _ => None,
     }
 }
 
 /// What the schema has. Each table is compared column by column, with its key, its rules and its
 /// place.
-#[tactic(auto, using(crate::proofs::SchemaLemmas::key_indexes_are, crate::proofs::SchemaLemmas::listed_indexes_are, crate::proofs::SchemaLemmas::all_indexes_are))]
+#[tactic(auto, using(crate::proofs::SchemaLemmas::first_made, crate::proofs::SchemaLemmas::second_made, crate::proofs::SchemaLemmas::first_back, crate::proofs::SchemaLemmas::second_back))]
 pub fn find(schema: &Schema) -> Found
     ensures nothing { result ≡ Found.Nothing → schema.now ≡ no_schema }
-    ensures tables { result ≡ Found.Tables → schema.now ≡ tables_schema }
-    ensures listed { result ≡ Found.Listed → schema.now ≡ listed_schema }
-    ensures all { result ≡ Found.All → schema.now ≡ record_schema }
-    ensures others { result ≡ Found.Others → (schema.now ≢ no_schema) × (schema.now ≢ tables_schema) × (schema.now ≢ listed_schema) × (schema.now ≢ record_schema) }
+    ensures first { (indexes : Indexes) → result ≡ Found.First indexes →
+        schema.now ≡ made tables_schema indexes }
+    ensures second { (indexes : Indexes) → result ≡ Found.Second indexes →
+        schema.now ≡ made five_tables indexes }
+    ensures others { result ≡ Found.Others → (schema.now ≢ no_schema)
+        × ((indexes : Indexes) → schema.now ≢ made tables_schema indexes)
+        × ((indexes : Indexes) → schema.now ≢ made five_tables indexes) }
 {
     if !schema.views.is_empty() {
         return Found::Others;
@@ -261,9 +349,17 @@ pub fn find(schema: &Schema) -> Found
     if schema.tables.is_empty() && schema.indexes.is_empty() {
         return Found::Nothing;
     }
-    if are_tables(schema.tables.as_slice()) {
-        found_indexes(schema.indexes.as_slice())
-    } else {
-        Found::Others
+    if are_first_tables(schema.tables.as_slice()) {
+        return match found_first(schema.indexes.as_slice()) {
+            Some(indexes) => Found::First(indexes),
+            None => Found::Others,
+        };
     }
+    if are_second_tables(schema.tables.as_slice()) {
+        return match found_second(schema.indexes.as_slice()) {
+            Some(indexes) => Found::Second(indexes),
+            None => Found::Others,
+        };
+    }
+    Found::Others
 }

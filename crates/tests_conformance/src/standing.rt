@@ -14,7 +14,7 @@ use tests_support::catalogs::built_in;
 use tests_support::exchange::Exchange;
 use tests_support::serving::after;
 
-/// Appends a plan, its parameters and its maintenance version, where it has one.
+/// Appends a plan, its parameters, and its maintenance version and its context, where it has them.
 fn add_attributes(line: &mut String, attributes: &Attributes) -> Result<(), AllocError> {
     line.push(' ')?;
     line.push_str(attributes.plan.as_str())?;
@@ -23,6 +23,10 @@ fn add_attributes(line: &mut String, attributes: &Attributes) -> Result<(), Allo
     if !attributes.maintenance.is_empty() {
         line.push(' ')?;
         line.push_str(attributes.maintenance.as_str())?;
+    }
+    if attributes.context.as_str() != "{}" {
+        line.push(' ')?;
+        line.push_str(attributes.context.as_str())?;
     }
     Ok(())
 }

@@ -141,6 +141,7 @@ fn attributes(alloc: Global, plan: &str) -> Result<Attributes, AllocError> {
         spot: Text::from_str(alloc, "{}")?,
         parameters: Text::from_str(alloc, "{}")?,
         maintenance: Text::new(alloc),
+        context: Text::from_str(alloc, "{}")?,
     })
 }
 

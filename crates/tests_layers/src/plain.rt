@@ -23,6 +23,7 @@ fn attributes(alloc: Global) -> Result<Attributes, AllocError> {
         spot: Text::new(alloc),
         parameters,
         maintenance: Text::new(alloc),
+        context: Text::from_str(alloc, "{}")?,
     })
 }
 

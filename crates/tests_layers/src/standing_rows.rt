@@ -54,6 +54,7 @@ fn attributes(alloc: Global, parameters: &str) -> Result<Attributes, AllocError>
         spot: Text::new(alloc),
         parameters,
         maintenance: Text::new(alloc),
+        context: Text::from_str(alloc, "{}")?,
     })
 }
 

@@ -3,7 +3,7 @@ ghost use Rattle.std.specs.List.{list_any};
 ghost use Rattle.osb_orders.specs.declared.order.OrderKind.TheVariants.{Bind, Unbind};
 ghost use Rattle.osb_orders.specs.Lists.{from_last, last_where};
 ghost use Rattle.osb_orders.specs.Orders.{is_a, has_succeeded, is_of_binding};
-ghost use Rattle.osb_orders.specs.Bindings.{since_bind, without_maintenance, binding_phase_by, binding_of, binding_since, has_bindings};
+ghost use Rattle.osb_orders.specs.Bindings.{since_bind, of_binding, binding_phase_by, binding_of, binding_since, has_bindings};
 
 use super::instances::since_birth;
 use crate::order::{Attributes, Order, OrderKind, OrderState};
@@ -39,17 +39,18 @@ fn binding_since(
     let credentials = bind.outcome.credentials.clone()?;
     Ok(BindingNow {
         phase: binding_phase_by(last.kind, last.outcome.state),
-        attributes: without_maintenance(alloc, &bind.attributes)?,
+        attributes: of_binding(alloc, &bind.attributes)?,
         credentials,
     })
 }
 
-/// A binding has no maintenance version.
-fn without_maintenance(alloc: Global, attributes: &Attributes) -> Result<Attributes, AllocError>
-    ensures { IfOk result (λ bound. bound ≡ without_maintenance attributes.now) }
+/// A binding has no maintenance version and no context.
+fn of_binding(alloc: Global, attributes: &Attributes) -> Result<Attributes, AllocError>
+    ensures { IfOk result (λ bound. bound ≡ of_binding attributes.now) }
 {
     Ok(Attributes {
         maintenance: Text::new(alloc),
+        context: Text::from_str(alloc, "{}")?,
         ..attributes.clone()?
     })
 }

@@ -1,11 +1,13 @@
-use Rattle.std.proofs.Common.{rules, ◌≡◌}
+use Rattle.std.proofs.Common.{rules, ◌≡◌, refl, subst}
+use Rattle.std.specs.Prelude.{◌≢◌}
 use Rattle.std.specs.FinMap.{empty}
 use Rattle.sqlite.specs.Held.{state}
 use Rattle.sqlite.proofs.StateLemmas.{survives_weaker}
-use Rattle.osb_tables.specs.Tables.{no_schema}
+use Rattle.osb_tables.specs.declared.schema.Indexes.{Indexes}
+use Rattle.osb_tables.specs.Tables.{made, no_schema, tables_schema}
 use Rattle.osb_records.specs.Opened.{HoldsSame}
 use Rattle.osb_records.specs.Steps.{HoldsLives}
-use Rattle.osb_records.proofs.OpenedLemmas.{empty_same}
+use Rattle.osb_records.proofs.OpenedLemmas.{empty_same, others_stand}
 use Rattle.osb_records.proofs.adopt.take_settled.Goals as goal
 
 pub returns-in-Nothing-clause-crash : goal.returns-in-Nothing-clause-crash
@@ -14,3 +16,28 @@ returns-in-Nothing-clause-crash g c =
     let new = state g.S.Store c.make.new.conn in
     let none : old.now.schema ≡ no_schema = search rules in
     survives_weaker old new (HoldsLives empty) (HoldsSame old.now) (λ _ db holds. empty_same old.now none db holds) c.make.ensures.crash
+
+pub returns-in-Others-clause-takes : goal.returns-in-Others-clause-takes
+returns-in-Others-clause-takes g c =
+    let old = state g.S.Store c.args.conn.now in
+    let nothing : old.now.schema ≢ no_schema = search rules in
+    let others : (indexes : Indexes) → old.now.schema ≢ made tables_schema indexes = search rules in
+    record { ready = tt; ok = λ _ _. tt; err = λ _ _. refl; not_ours = λ _ _. others_stand old.now nothing others }
+
+pub take_tables-requires : goal.take_tables-requires
+take_tables-requires g c =
+    let old = state g.S.Store c.args.conn.now in
+    let schema : old.now.schema ≡ made tables_schema c.in-First.indexes = search rules in
+    (c.requires, subst (λ (indexes : Indexes). old.now.schema ≡ made tables_schema indexes) c.in-Both.is schema)
+
+pub complete_tables-requires : goal.complete_tables-requires
+complete_tables-requires g c =
+    let old = state g.S.Store c.args.conn.now in
+    let schema : old.now.schema ≡ made tables_schema c.in-First.indexes = search rules in
+    (c.requires, subst (λ (indexes : Indexes). old.now.schema ≡ made tables_schema indexes) c.in-Listing.is schema)
+
+pub complete_tables-requires-in-None : goal.complete_tables-requires-in-None
+complete_tables-requires-in-None g c =
+    let old = state g.S.Store c.args.conn.now in
+    let schema : old.now.schema ≡ made tables_schema c.in-First.indexes = search rules in
+    (c.requires, subst (λ (indexes : Indexes). old.now.schema ≡ made tables_schema indexes) c.in-None.is schema)

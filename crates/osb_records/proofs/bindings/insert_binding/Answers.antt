@@ -8,6 +8,7 @@ use Rattle.osb_records.specs.Steps.{stored}
 use Rattle.osb_records.proofs.BindingTexts.{insert_binding}
 use Rattle.osb_records.proofs.StepLemmas.{steps_by}
 use Rattle.osb_records.proofs.BindingLemmas.{adds_binding}
+use Rattle.osb_records.proofs.BareLemmas.{stored_bare, instances_bare}
 use Rattle.osb_records.proofs.bindings.insert_binding.Goals as goal
 
 pub returns-clause-ok : goal.returns-clause-ok
@@ -18,6 +19,6 @@ returns-clause-ok g c clean =
     let binding = c.args.binding.now in
     let row = c.args.row.now in
     steps_by insert_binding (binding_row (binding_entry id (binding, row))) old new c.execute_with.result _ c.execute_with.ensures.ended c.execute_with.ensures.inside.survives clean
-    (stored old) (entries_in old.now.trees) (instances_in old.now.trees) (insert_sorted binding_cmp (binding_entry id (binding, row)) (bindings_in old.now.trees)) (λ before live. (c.requires.tables before live).schema)
+    (stored old) (entries_in old.now.trees) (instances_in old.now.trees) (insert_sorted binding_cmp (binding_entry id (binding, row)) (bindings_in old.now.trees)) (stored_bare old.now.trees) (instances_bare old.now.trees) (λ before live. (c.requires.tables before live).schema)
     (λ count before live has h. (adds_binding old new count (c.requires.tables before live) id binding row (c.requires.no_row before live) h, refl))
     (c.execute_with.ensures.runs clean)

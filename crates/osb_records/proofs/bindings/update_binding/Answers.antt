@@ -9,6 +9,7 @@ use Rattle.osb_records.specs.Steps.{stored}
 use Rattle.osb_records.proofs.BindingTexts.{update_binding}
 use Rattle.osb_records.proofs.StepLemmas.{steps_by}
 use Rattle.osb_records.proofs.BindingLemmas.{updates_binding}
+use Rattle.osb_records.proofs.BareLemmas.{stored_bare, instances_bare}
 use Rattle.osb_records.proofs.bindings.update_binding.Goals as goal
 
 pub returns-clause-ok : goal.returns-clause-ok
@@ -19,6 +20,6 @@ returns-clause-ok g c clean =
     let binding = c.args.binding.now in
     let row = c.args.row.now in
     steps_by update_binding (binding_row (binding_entry id (binding, row))) old new c.execute_with.result _ c.execute_with.ensures.ended c.execute_with.ensures.inside.survives clean
-    (stored old) (entries_in old.now.trees) (instances_in old.now.trees) (update_where (is_binding id binding) (with_binding row) (bindings_in old.now.trees)) (λ before live. (c.requires before live).schema)
+    (stored old) (entries_in old.now.trees) (instances_in old.now.trees) (update_where (is_binding id binding) (with_binding row) (bindings_in old.now.trees)) (stored_bare old.now.trees) (instances_bare old.now.trees) (λ before live. (c.requires before live).schema)
     (λ count before live has h. (updates_binding old new count (c.requires before live) id binding row h, refl))
     (c.execute_with.ensures.runs clean)

@@ -14,4 +14,4 @@ returns-clause-ok g c clean =
     let new = state g.S.Store c.execute.new.tx.conn.now in
     then_ok c.execute.result (writes_nothing old new)
     (steps_by insert_version [] old new c.execute.result _ c.execute.ensures.ended c.execute.ensures.inside.survives clean
-    empty [] [] [] (λ before live. (c.requires before live).0) (λ count before live has h. (adds_version old new count has (c.requires before live).1 h, refl)) (c.execute.ensures.runs clean))
+    empty [] [] [] tt tt (λ before live. (c.requires before live).0) (λ count before live has h. (adds_version old new count has (c.requires before live).1 h, refl)) (c.execute.ensures.runs clean))

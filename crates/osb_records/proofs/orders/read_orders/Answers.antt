@@ -21,8 +21,11 @@ returns-clause-ok g c clean =
     let before = clean_before mid new _ c.select-2.ensures.reads.survives clean in
     let same = c.in_ok-ids.ensures.reads.same before in
     let has = c.requires (clean_before old mid _ c.select.ensures.reads.survives before) same.0.was_open in
-    if_ok c.entries_in.result (λ entries is. orders_read old mid new c.in_ok-ids.ids.items c.in_ok-rows.rows.items entries.items has same.0.now_is (c.in_ok-ids.ensures.ok before) (c.in_ok-rows.ensures.ok clean)
-    (subst AreRowids c.deref.ensures.value c.in_ok-check_rowids.ensures.ok) (is ∙ ap (map entry_columns) c.deref-2.ensures.value))
+    if_ok c.entries_in.result (λ entries is. (
+      orders_read old mid new c.in_ok-ids.ids.items c.in_ok-rows.rows.items entries.items has same.0.now_is (c.in_ok-ids.ensures.ok before) (c.in_ok-rows.ensures.ok clean)
+          (subst AreRowids c.deref.ensures.value c.in_ok-check_rowids.ensures.ok) (is.0 ∙ ap (map entry_columns) c.deref-2.ensures.value),
+      is.1,
+    ))
     c.entries_in.ensures.told
 
 pub returns-clause-known : goal.returns-clause-known

@@ -2,6 +2,8 @@ use Rattle.std.proofs.Common.{sym}
 use Rattle.osb_records.specs.Reads.{behind}
 use Rattle.osb_records.specs.Steps.{content}
 use Rattle.osb_records.proofs.StepLemmas.{clean_before}
+use Rattle.osb_records.proofs.SortLemmas.{same_rows}
+use Rattle.osb_records.proofs.BareLemmas.{instances_bare}
 use Rattle.osb_records.proofs.ViewLemmas.{if_ok_with}
 use Rattle.osb_records.proofs.plans.all_instances.Goals as goal
 
@@ -11,5 +13,5 @@ returns-clause-ok g c clean =
     let new = behind g.S.Store c.read_instances.new.tx in
     if_ok_with c.read_instances.result (λ entries same list.
     let records = c.requires (clean_before old new _ c.read_instances.ensures.reads.survives clean) same.0.was_open in
-    sym (list.only (content old).instances records.tables.holds.instances))
+    sym (same_rows (content old).instances entries.items (instances_bare old.now.trees) list.1 (list.0.only (content old).instances records.tables.holds.instances)))
     (c.read_instances.ensures.reads.same clean) (c.read_instances.ensures.ok clean)

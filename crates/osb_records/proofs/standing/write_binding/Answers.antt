@@ -7,6 +7,7 @@ use Rattle.osb_records.specs.Steps.{HasTables, content}
 use Rattle.osb_records.proofs.EditLemmas.{found_row, follows_by}
 use Rattle.sqlite.proofs.StateLemmas.{survives_then}
 use Rattle.osb_records.proofs.StepLemmas.{clean_before}
+use Rattle.osb_bare.specs.Bare.{bare_order}
 use Rattle.osb_records.proofs.standing.write_binding.Goals as goal
 
 pub returns-clause-ok : goal.returns-clause-ok
@@ -15,7 +16,7 @@ returns-clause-ok g c clean live inside sound =
     let mid = state g.S.Store c.read_binding.new.tx.conn.now in
     let new = state g.S.Store c.apply_edit-applied.new.tx.conn.now in
     let id = c.args.instance.now in
-    let order = c.args.order.now in
+    let order = bare_order c.args.order.now in
     let between = clean_before mid new _ c.apply_edit-applied.ensures.inside.survives clean in
     let same = c.in_ok-old.ensures.reads.same between in
     let now = sym same.0.now_is in

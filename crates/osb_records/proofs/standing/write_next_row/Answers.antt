@@ -4,6 +4,7 @@ use Rattle.sqlite.specs.Effect.{Database}
 use Rattle.osb_records.specs.Stored.{instances_in}
 use Rattle.osb_records.proofs.StepLemmas.{clean_before}
 use Rattle.osb_records.proofs.PutLemmas.{written_stands}
+use Rattle.osb_bare.specs.Bare.{bare_order, bare_row}
 use Rattle.osb_records.proofs.standing.write_next_row.Goals as goal
 
 pub returns-clause-ok : goal.returns-clause-ok
@@ -19,7 +20,7 @@ returns-clause-ok g c clean = record {
       let same = c.in_ok-old.ensures.reads.same clean_read in
       let same_again = c.in_ok-row.ensures.reads.same clean_last same.0.is_open in
       let id = c.args.instance.now in
-      written_stands id c.args.order.now c.in_ok-row.row c.in_ok-old.old first.now.trees read.now.trees last.now.trees (instances_in new.now.trees) (ap (λ (d : Database). d.trees) same.0.now_is) (ap (λ (d : Database). d.trees) same_again.0.now_is)
+      written_stands id (bare_order c.args.order.now) (bare_row c.in_ok-row.row) c.in_ok-old.old first.now.trees read.now.trees last.now.trees (instances_in new.now.trees) (ap (λ (d : Database). d.trees) same.0.now_is) (ap (λ (d : Database). d.trees) same_again.0.now_is)
       (c.in_ok-old.ensures.ok clean_read)
       (λ any given told. c.in_ok-row.ensures.ok clean_last any given (c.as_ref.ensures.value ∙ told))
       (c.in_ok-put.ensures.ok clean).puts change written stood;

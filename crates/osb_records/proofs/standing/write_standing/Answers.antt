@@ -2,6 +2,7 @@ use Rattle.sqlite.specs.Held.{state}
 use Rattle.osb_records.proofs.StepLemmas.{clean_before}
 use Rattle.osb_rows.proofs.ResultLemmas.{then_ok}
 use Rattle.osb_records.proofs.StandLemmas.{both_written, both_stand}
+use Rattle.osb_bare.specs.Bare.{bare_order}
 use Rattle.osb_records.proofs.standing.write_standing.Goals as goal
 
 pub returns-clause-ok : goal.returns-clause-ok
@@ -10,7 +11,7 @@ returns-clause-ok g c clean =
     let mid = state g.S.Store c.write_instance.new.tx.conn.now in
     let new = state g.S.Store c.write_bindings.new.tx.conn.now in
     let id = c.args.instance.now in
-    let order = c.args.order.now in
+    let order = bare_order c.args.order.now in
     let row = c.in_ok-write_instance.ensures.ok (clean_before mid new _ c.write_bindings.ensures.inside.survives clean) in
     then_ok c.write_bindings.result (λ bindings. record {
       steps = both_written first mid new id order row.steps bindings;

@@ -5,6 +5,7 @@ use Rattle.osb_records.specs.Steps.{content, stored}
 use Rattle.osb_records.proofs.NoRowLemmas.{no_row_before}
 use Rattle.osb_records.proofs.StepLemmas.{clean_before}
 use Rattle.osb_records.proofs.CommitLemmas.{append_written, written_after}
+use Rattle.osb_bare.specs.Bare.{bare_order}
 use Rattle.osb_records.proofs.writing.append_order.Goals as goal
 
 pub returns-clause-ok : goal.returns-clause-ok
@@ -16,15 +17,15 @@ returns-clause-ok g c clean =
     let clean_first = clean_before first mid _ c.write_standing.ensures.inside.survives clean_mid in
     let rows = c.in_ok-write_standing.ensures.ok clean_mid in
     let id = c.args.instance.now in
-    let order = c.args.order.now in
+    let order = bare_order c.args.order.now in
     let live = rows.steps.within.was_open in
     let written = append_written (stored first) id order (c.requires.records clean_first live).lives (c.requires.whole clean_first live) in
-    written_after first mid new id (Append order) rows.steps (rows.stands (Append order) written (c.requires.standing clean_first live)) (c.in_ok-insert_order.ensures.ok clean)
+    written_after first mid new id (Append order) rows.steps (rows.stands (Append order) written (c.requires.records clean_first live).standing) (c.in_ok-insert_order.ensures.ok clean)
 
 pub write_standing-requires-clause-no_row : goal.write_standing-requires-clause-no_row
 write_standing-requires-clause-no_row g c clean live first =
     let old = state g.S.Store c.args.tx.now.conn.now in
     let id = c.args.instance.now in
-    let order = c.args.order.now in
+    let order = bare_order c.args.order.now in
     let written = append_written (stored old) id order (c.requires.records clean live).lives (c.requires.whole clean live) in
-    no_row_before (stored old) id order (content old).instances written (eqb-true order.number 1 first) (c.requires.standing clean live).instances
+    no_row_before (stored old) id order (content old).instances written (eqb-true order.number 1 first) (c.requires.records clean live).standing.instances

@@ -1,0 +1,6 @@
+pub mod ListLemmas
+pub mod LifeLemmas
+pub mod WordLemmas
+pub mod LivesLemmas
+pub mod ViewLemmas
+pub mod ContextLemmas

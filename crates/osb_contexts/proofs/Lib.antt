@@ -1,0 +1,11 @@
+pub mod Texts
+pub mod TestLemmas
+pub mod SortLemmas
+pub mod StepLemmas
+pub mod SchemaLemmas
+pub mod ContextLemmas
+pub mod ReadLemmas
+pub mod WholeLemmas
+pub mod TableReads
+pub mod FormatLemmas
+pub mod MigrationLemmas

@@ -1,0 +1,19 @@
+-- Loops over rows.
+use Rattle.std.proofs.Common.{◌≡◌, ℕ, zero, suc, ◌+◌, ◌<◌, add-one, List, [], ◌∷◌, ◌++◌, length, map, take, get_or, refl, sym, ap, ◌∙◌, arith}
+use Rattle.std.proofs.lemmas.List.{map-append}
+
+told_next : {R A : Type 0} (told : R → A) (rows : List R) (i : ℕ) (row : R) → i < length rows → row ≡ get_or rows i row → map told (take (suc i) rows) ≡ map told (take i rows) ++ told row ∷ []
+told_next told [] i row low is = absurd (omega (arith, low))
+told_next told (first ∷ rows) zero row low is = ap (λ r. told r ∷ []) (sym is)
+told_next told (first ∷ rows) (suc i) row low is = ap (λ items. told first ∷ items) (told_next told rows i row (omega (arith, low)) is)
+
+told_push : {R A : Type 0} (told : R → A) (rows : List R) (i : ℕ) (row : R) (old new : List A) (item : A) → i < length rows → row ≡ get_or rows i row → old ≡ map told (take i rows) → new ≡ old ++ item ∷ [] → item ≡ told row
+    → new ≡ map told (take (i + 1) rows)
+told_push told rows i row old new item low at was grown is =
+    grown ∙ ap (λ items. items ++ item ∷ []) was ∙ ap (λ last. map told (take i rows) ++ last ∷ []) is ∙ sym (told_next told rows i row low at) ∙ ap (λ n. map told (take n rows)) (sym (add-one i))
+
+-- the same where the items are compared by what they show
+pub told_more : {R A B : Type 0} (shown : A → B) (told : R → B) (rows : List R) (at : ℕ) (row : R) (found next : List A) (item : A) → at < length rows → row ≡ get_or rows at row → map shown found ≡ map told (take at rows) → shown item ≡ told row
+    → next ≡ found ++ item ∷ [] → map shown next ≡ map told (take (at + 1) rows)
+told_more shown told rows at row found next item low is were tells grown =
+    ap (map shown) grown ∙ map-append shown found (item ∷ []) ∙ told_push told rows at row (map shown found) (map shown found ++ shown item ∷ []) (shown item) low is were refl tells

@@ -1,0 +1,61 @@
+//! Cells of a row as values.
+
+ghost use Rattle.std.specs.Prelude.{◌≡◌, true, pos, map, IfOk, OnOk};
+ghost use Rattle.std.specs.Ordering.{nat_cmp};
+ghost use Rattle.std.specs.List.Sorted.{IsStrictlySortedBy};
+ghost use Rattle.sqlite.specs.declared.types.Value.TheVariants.{Int, Text as Words};
+ghost use Rattle.sqlite.specs.Order.{column};
+ghost use Rattle.sqlite_trees.specs.Tree.{rowid};
+ghost use Rattle.osb_contexts.specs.Read.{rowid_shown, AreRowids};
+
+use osb_text::Text;
+use sqlite::{Error, ErrorCode, Row};
+use std::alloc::Global;
+
+pub(crate) fn text_in(row: &Row, at: usize) -> Result<Text, Error>
+    ensures { IfOk result (λ text. column row.now at ≡ Words text) }
+{
+    let string: String = row.get(at)?;
+    Ok(Text::from(string))
+}
+
+pub(crate) fn number_in(row: &Row, at: usize) -> Result<u32, Error>
+    ensures { IfOk result (λ number. column row.now at ≡ Int (pos number)) }
+{
+    row.get(at)
+}
+
+fn rowid_in(row: &Row) -> Result<u64, Error>
+    ensures { IfOk result (λ id. rowid_shown id ≡ rowid row.now) }
+{
+    row.get(0)
+}
+
+/// The rowids of the rows, none of them negative.
+fn rowids_in(alloc: Global, rows: &[Row]) -> Result<Vec<u64>, Error>
+    ensures { IfOk result (λ ids. map rowid_shown ids.items ≡ map rowid rows.now) }
+{
+    let mut ids = Vec::new(alloc);
+    for row in rows {
+        ids.push(rowid_in(row)?)?;
+    }
+    Ok(ids)
+}
+
+fn rise(ids: &[u64]) -> bool
+    ensures { result ≡ true → IsStrictlySortedBy nat_cmp ids.now }
+{
+    ids.is_sorted_by(|id, next| id < next)
+}
+
+/// Refuses rows that are no rising rowids.
+pub(crate) fn check_rowids(alloc: Global, rows: &[Row]) -> Result<(), Error>
+    ensures { OnOk result (AreRowids rows.now) }
+{
+    let ids = rowids_in(alloc, rows)?;
+    if rise(&ids) {
+        Ok(())
+    } else {
+        Err(Error::SqliteFailure(ErrorCode::NotADatabase))
+    }
+}

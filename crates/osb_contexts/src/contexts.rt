@@ -1,0 +1,155 @@
+//! The table of contexts: its rows, and the statements on it.
+
+ghost use Rattle.std.specs.Prelude.{◌≡◌, [], ◌∷◌, IsTrue, List, map, filter, IfOk};
+ghost use Rattle.sqlite.specs.State.{HasCleanDisk};
+ghost use Rattle.sqlite_keyed.specs.Lists.{insert_sorted, update_where};
+ghost use Rattle.osb_tables.specs.Tables.{tables_schema, second_schema};
+ghost use Rattle.osb_joined.specs.Contexts.{context_entry, context_cmp, is_context, with_context, AreRising};
+ghost use Rattle.osb_contexts.specs.Contexts.{context_row, AreContextsOf};
+ghost use Rattle.osb_contexts.specs.Read.{context_columns, context_shown};
+ghost use Rattle.osb_contexts.specs.Inside.{ShowsSchema};
+ghost use Rattle.osb_contexts.specs.Made.{MakesContexts};
+ghost use Rattle.osb_contexts.specs.Steps.{contexts, ShowsContexts, ContextSteps};
+ghost use Rattle.osb_contexts.specs.Reads.{Reads, Finds, behind, StaysInside, Does};
+
+use crate::cells::{check_rowids, number_in, text_in};
+use crate::sql::{execute, select};
+use osb_joined::ContextEntry;
+use osb_text::Text;
+use sqlite::{Alter, Error, Row, Transaction, params};
+use std::alloc::Global;
+
+/// Makes the table of contexts behind the tables of version 1, which have no index.
+pub(crate) fn create_contexts<S: Alter>(tx: &mut Transaction<'_, S>) -> Result<usize, Error>
+    requires { ShowsSchema tables_schema (behind S.Store tx.old) }
+    ensures ok { Does S.Store tx.old tx.new result (λ old new. MakesContexts old new) }
+    ensures inside { StaysInside S.Store tx.old tx.new }
+{
+    execute(
+        tx,
+        "CREATE TABLE contexts (instance_id TEXT NOT NULL, seq INTEGER NOT NULL, context TEXT NOT NULL, PRIMARY KEY (instance_id, seq)) STRICT",
+        &[],
+    )
+}
+
+/// Inserts the context of an order, or with the number 0 of what stands, where there is none of that key.
+pub fn insert_context<S: Alter>(
+    tx: &mut Transaction<'_, S>,
+    instance: &str,
+    number: u32,
+    context: &str,
+) -> Result<usize, Error>
+    requires tables { ShowsContexts (behind S.Store tx.old) }
+    requires no_row { HasCleanDisk (behind S.Store tx.old) →
+        IsTrue (behind S.Store tx.old).is_open →
+        filter (is_context instance.now number) (contexts (behind S.Store tx.old)) ≡ [] }
+    ensures ok { Does S.Store tx.old tx.new result (λ old new.
+        ContextSteps old new (insert_sorted context_cmp
+        (context_entry instance.now number context.now) (contexts old))) }
+    ensures inside { StaysInside S.Store tx.old tx.new }
+{
+    execute(
+        tx,
+        "INSERT INTO contexts (instance_id, seq, context) VALUES (?1, ?2, ?3)",
+        params![instance, number, context],
+    )
+}
+
+/// Gives the key another context, where it has one.
+pub fn update_context<S: Alter>(
+    tx: &mut Transaction<'_, S>,
+    instance: &str,
+    number: u32,
+    context: &str,
+) -> Result<usize, Error>
+    requires { ShowsContexts (behind S.Store tx.old) }
+    ensures ok { Does S.Store tx.old tx.new result (λ old new.
+        ContextSteps old new (update_where (is_context instance.now number)
+        (with_context context.now) (contexts old))) }
+    ensures inside { StaysInside S.Store tx.old tx.new }
+{
+    execute(
+        tx,
+        "UPDATE contexts SET context = ?1 WHERE instance_id = ?2 AND seq = ?3",
+        params![context, instance, number],
+    )
+}
+
+fn select_context<S: Alter>(
+    tx: &mut Transaction<'_, S>,
+    instance: &str,
+    number: u32,
+) -> Result<Vec<Row>, Error>
+    requires { ShowsContexts (behind S.Store tx.old) }
+    ensures ok { Finds S.Store tx.old tx.new result (λ s rows.
+        (rows.items ≡ map context_shown (filter (is_context instance.now number) (contexts s)))
+        × AreRising (contexts s)) }
+    ensures reads { Reads S.Store tx.old tx.new result }
+{
+    select(
+        tx,
+        "SELECT context FROM contexts WHERE instance_id = ?1 AND seq = ?2 ORDER BY instance_id, seq",
+        params![instance, number],
+    )
+}
+
+/// The context of the key. Where there is none, that is an error.
+pub fn read_context<S: Alter>(
+    tx: &mut Transaction<'_, S>,
+    instance: &str,
+    number: u32,
+) -> Result<Text, Error>
+    requires { ShowsContexts (behind S.Store tx.old) }
+    ensures ok { Finds S.Store tx.old tx.new result (λ s context.
+        filter (is_context instance.now number) (contexts s) ≡
+        context_entry instance.now number context ∷ []) }
+    ensures reads { Reads S.Store tx.old tx.new result }
+{
+    let rows = select_context(tx, instance, number)?;
+    match rows.first() {
+        Some(row) => text_in(row, 0),
+        None => Err(Error::QueryReturnedNoRows),
+    }
+}
+
+fn entry_in(row: &Row) -> Result<ContextEntry, Error>
+    ensures { IfOk result (λ entry. context_row entry ≡ context_columns row.now) }
+{
+    Ok(ContextEntry {
+        number: number_in(row, 1)?,
+        instance: text_in(row, 0)?,
+        context: text_in(row, 2)?,
+    })
+}
+
+/// The entries that the rows show.
+fn entries_in(alloc: Global, rows: &[Row]) -> Result<Vec<ContextEntry>, Error>
+    ensures { IfOk result (λ entries.
+        map context_row entries.items ≡ map context_columns rows.now) }
+{
+    let mut entries = Vec::new(alloc);
+    for row in rows {
+        entries.push(entry_in(row)?)?;
+    }
+    Ok(entries)
+}
+
+/// The rows of the contexts, by their keys.
+pub fn read_contexts<S: Alter>(
+    tx: &mut Transaction<'_, S>,
+    alloc: Global,
+) -> Result<Vec<ContextEntry>, Error>
+    requires { ShowsSchema second_schema (behind S.Store tx.old) }
+    ensures ok { Finds S.Store tx.old tx.new result (λ s entries.
+        AreContextsOf s.now.trees entries.items) }
+    ensures reads { Reads S.Store tx.old tx.new result }
+{
+    let ids = select(tx, "SELECT rowid FROM contexts ORDER BY rowid", &[])?;
+    let rows = select(
+        tx,
+        "SELECT instance_id, seq, context FROM contexts ORDER BY instance_id, seq",
+        &[],
+    )?;
+    check_rowids(alloc, &ids)?;
+    entries_in(alloc, &rows)
+}

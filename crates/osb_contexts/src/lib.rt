@@ -1,0 +1,17 @@
+//! The table of contexts of version 2, and how a database of version 1 becomes one of version 2. Each function works
+//! inside a transaction that its caller began.
+#![tactic(auto)]
+
+mod cells;
+mod contexts;
+mod format;
+mod indexes;
+mod migration;
+mod sql;
+#[cfg(test)]
+mod tests;
+
+pub use contexts::{insert_context, read_context, read_contexts, update_context};
+pub use format::set_version;
+pub use indexes::reshape;
+pub use migration::{insert_contexts, migrate};

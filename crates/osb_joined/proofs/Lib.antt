@@ -1,0 +1,9 @@
+pub mod ListLemmas
+pub mod InstanceLemmas
+pub mod LivesLemmas
+pub mod JoinLemmas
+pub mod AfterLemmas
+pub mod ChangeLemmas
+pub mod PassLemmas
+pub mod WithLemmas
+pub mod AuditLemmas

@@ -1,0 +1,5 @@
+pub mod Contexts
+pub mod Joined
+pub mod After
+pub mod Join
+pub mod Laws

@@ -1,0 +1,9 @@
+use osb_text::Text;
+
+/// The context of an order, or with the number 0 of what stands of the instance.
+#[derive(Clone, Debug, Drop, PartialEq, Eq)]
+pub struct ContextEntry {
+    pub instance: Text,
+    pub number: u32,
+    pub context: Text,
+}
