@@ -15,10 +15,11 @@ import sys
 import tempfile
 
 from conversations import ASYNC, B, BIND, I, LATER, LEAVE, REPORT, SUCCEEDED, SYNC, SYNC_LEAVE
-from conversations import FETCHED_LARGE, LARGE_PARAMETERS, operation, reply, request
+from conversations import FETCHED_LARGE, LARGE_PARAMETERS, MEMORY_1, SYNC_BIND, UPDATE, operation, reply, request
 from refused import REFUSED as NO_ROOM
 from serving import SETTINGS, Serving, new_database, tell
 
+VERSION_1 = os.path.join(os.path.dirname(os.path.abspath(__file__)), "version-1.sql")
 R = I[:-1] + "r"
 G = I[:-1] + "g"
 CREDENTIALS = '{"state":"succeeded","credentials":{"k":"v"}}'
@@ -68,6 +69,50 @@ ASKED_AGAIN = [
     ("GET", R + "/last_operation", "", 200, IN_PROGRESS),
     ("PUT", R + LATER, ASYNC, 202, operation("create-1")),
     ("GET", G + "/last_operation", "", 410, "{}"),
+]
+
+
+def at(instance):
+    return f"/v2/service_instances/{instance}"
+
+
+def report(instance, number):
+    return f"/backend/v1/orders/{instance}/{number}"
+
+
+# What is answered from the file that version-1.sql makes, and changes nothing.
+MADE_BEFORE = [
+    ("GET", at("bound"), "", 200, '{"parameters":{},"plan_id":"p-async","service_id":"svc"}'),
+    ("GET", at("bound/service_bindings/b"), "", 200, '{"credentials":{"k":"v"},"parameters":{}}'),
+    ("GET", at("bound/service_bindings/c"), "", 404, "{}"),
+    ("GET", at("failed/last_operation"), "", 200, '{"description":"no disk","state":"failed"}'),
+    ("GET", at("gone/last_operation"), "", 410, "{}"),
+    ("PUT", at("new") + LATER, ASYNC, 202, operation("create-1")),
+    ("PUT", at("small/service_bindings/b"), SYNC_BIND, 200, MEMORY_1),
+    ("PATCH", at("updated") + LATER, UPDATE, 202, operation("update-2")),
+    (
+        "GET",
+        "/backend/v1/orders",
+        "",
+        200,
+        '{"orders":[{"app_guid":"","bind_resource":{},"binding_id":"c","instance_id":"bound","kind":"bind",'
+        '"parameters":{},"plan_id":"p-async","seq":3,"service_id":"svc"},'
+        '{"instance_id":"new","kind":"create","maintenance_version":"1.2.0","organization_guid":"o",'
+        '"parameters":{},"plan_id":"p-async","seq":1,"service_id":"svc","space_guid":"s"},'
+        '{"instance_id":"updated","kind":"update","maintenance_version":"1.2.0","organization_guid":"o",'
+        '"parameters":{"n":1},"plan_id":"p-async","seq":2,"service_id":"svc","space_guid":"s"}]}',
+    ),
+]
+
+# What ran in it goes on.
+GOES_ON = [
+    ("PUT", report("bound", 3), CREDENTIALS, 200, "{}"),
+    ("GET", at("bound/service_bindings/c"), "", 200, '{"credentials":{"k":"v"},"parameters":{}}'),
+    ("PUT", report("new", 1), SUCCEEDED, 200, "{}"),
+    ("GET", at("new"), "", 200, '{"parameters":{},"plan_id":"p-async","service_id":"svc"}'),
+    ("PUT", report("updated", 2), SUCCEEDED, 200, "{}"),
+    ("GET", at("updated"), "", 200, '{"parameters":{"n":1},"plan_id":"p-async","service_id":"svc"}'),
+    ("DELETE", at("failed") + LEAVE, "", 202, operation("delete-2")),
 ]
 
 
@@ -322,6 +367,29 @@ def try_harmless(program, folder, path):
         yield f"{name}: the indexes", indexes(copied(other, folder)), INDEXES
 
 
+def made_before(folder, count):
+    """A file that this program made while version 1 was the only one, with so many indexes beside those of the keys."""
+    path = new_database(folder)
+    with open(VERSION_1, encoding="utf-8") as file:
+        lines = [line for line in file if line.rstrip(";\n") not in INDEXES[count:]]
+    subprocess.run(["sqlite3", path], input="".join(lines), text=True, check=True)
+    return path
+
+
+def try_made_before(program, folder):
+    """The forms of files that this program ever made are served on."""
+    for count in range(len(INDEXES) + 1):
+        path = made_before(folder, count)
+        yield f"{count} indexes before", indexes(path), INDEXES[:count]
+        before = tables(path)
+        with Serving(program, path) as serving:
+            yield from goes(serving, MADE_BEFORE)
+            yield "nothing is changed", tables(copied(path, folder)), before
+            yield from goes(serving, GOES_ON)
+        yield f"both indexes after {count}", indexes(copied(path, folder)), INDEXES
+        yield "its integrity", integrity(copied(path, folder)), {"ok"}
+
+
 def try_others(program, folder):
     """Databases of others, and files that are none."""
     for made in ["CREATE TABLE orders (a)", "CREATE TABLE format (version INTEGER NOT NULL) STRICT"]:
@@ -549,6 +617,7 @@ def tries(program):
         yield from try_reading(program, folder, path)
         yield from try_spoiled(program, folder, path)
         yield from try_harmless(program, folder, path)
+        yield from try_made_before(program, folder)
         yield from try_others(program, folder)
         yield from try_plans(program, folder)
         yield from try_order(program, folder)
