@@ -118,7 +118,7 @@ bound_key id binding entry hit = go (is_bound id entry) refl hit
 
 -- ---- finding a row
 
--- the binding without a maintenance version
+-- the binding as its row keeps it
 abbrev as_kept : BindingNow → BindingNow
 as_kept row = record row { attributes = of_binding row.attributes }
 
