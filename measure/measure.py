@@ -1,11 +1,12 @@
 #!/usr/bin/env python3
 """Measures `serve` of several built programs and of a small server in C, side by side: requests a
-second, the processor time of one, and starts over many instances. Prints the tables of
-docs/MEASUREMENTS.md.
+second, the processor time and the bytes written for one, starts over many instances, and the first
+start over another program's file. Prints the tables of docs/MEASUREMENTS.md.
 
 usage: measure/measure.py [--rounds N] [--seconds S] [--folder F] [--kinds K,..] [--instances N,..] NAME=PROGRAM..
 
-In each round all servers are measured one after the other, each over a new database in the folder.
+In each round all servers are measured one after the other, each over a new database in the folder,
+and starts over a database that the same program made.
 A ratio is that of the last program to another server in the same round; of all rounds the median
 stands in the tables, with the least and the most. The server in C needs libsqlite3 and its header.
 """
@@ -29,6 +30,7 @@ BARE = "the C server"
 KINDS = {
     "catalog": ("the catalog", 293, False),
     "create": ("a new instance each time", 2, True),
+    "context": ("the same with a context", 2, True),
     "repeat": ("the same instance again", 2, False),
     "life": ("a whole life", 2, True),
 }
@@ -72,6 +74,12 @@ def processor_seconds(process):
         return int(file.read().split()[0]) / 1e9
 
 
+def bytes_written(process):
+    """What it wrote to files and sockets."""
+    with open(f"/proc/{process.pid}/io", encoding="ascii") as file:
+        return next(int(line.split()[1]) for line in file if line.startswith("wchar"))
+
+
 class Bench:
     def __init__(self, options, folder):
         self.options = options
@@ -90,18 +98,18 @@ class Bench:
         return [self.bare, str(port), str(each), str(body), *([database] if inserts else [])]
 
     def cell(self, name, kind, each, clients):
-        """Requests a second, and the microseconds of the processor for one."""
+        """Requests a second, and the microseconds of the processor and the bytes written for one."""
         place = tempfile.mkdtemp(dir=self.folder)
         port = free_port()
         words = self.words(name, port, kind, each, os.path.join(place, "broker.db"))
         with running(words, port) as server:
-            before = processor_seconds(server)
+            before, written = processor_seconds(server), bytes_written(server)
             asked = [self.load, str(port), kind, str(clients), str(each), str(self.options.seconds)]
             told = subprocess.run(asked, check=True, stdout=subprocess.PIPE).stdout
-            used = processor_seconds(server) - before
+            used, written = processor_seconds(server) - before, bytes_written(server) - written
         shutil.rmtree(place)
         count, seconds = map(float, told.split())
-        return count / seconds, used / count * 1e6
+        return count / seconds, used / count * 1e6, written / count
 
     def start(self, name, database):
         """The seconds up to the first line, and the most memory in megabytes."""
@@ -162,30 +170,67 @@ def requests(bench):
     others = [name for name in bench.programs if name != bench.last]
     titles = [f"to {name}{part}" for name in others for part in ("", ", processor time")]
     titles = ["what is asked", "requests a connection", "clients", f"{bench.last}, a second", *titles, f"to {BARE}"]
+    titles += [f"{name}, bytes written for one" for name in bench.programs]
     row(*titles)
     row(*["---"] * len(titles))
     for kind in bench.options.kinds:
         for each, clients in CELLS:
             found = bench.rounds([*bench.programs, BARE], lambda name: bench.cell(name, kind, each, clients))
             ratios = [ratio(found, bench.last, name, part) for name in others for part in (0, 1)]
-            rate = middle([rate for rate, _ in found[bench.last]], 0)
-            row(KINDS[kind][0], str(each), str(clients), rate, *ratios, ratio(found, bench.last, BARE, 0))
+            rate = middle([it[0] for it in found[bench.last]], 0)
+            written = [middle([it[2] for it in found[name]], 0) for name in bench.programs]
+            row(KINDS[kind][0], str(each), str(clients), rate, *ratios, ratio(found, bench.last, BARE, 0), *written)
+
+
+def size(database):
+    """The bytes of a file and its log, in megabytes."""
+    files = [database + ending for ending in ("", "-wal")]
+    return sum(os.path.getsize(file) for file in files if os.path.exists(file)) / 1e6
+
+
+def first_start(bench, database):
+    """A start of the last program over a copy of a file: the seconds, the most memory, and the megabytes
+    that there are then."""
+    place = tempfile.mkdtemp(dir=bench.folder)
+    copy = os.path.join(place, "broker.db")
+    for ending in ("", "-wal"):
+        if os.path.exists(database + ending):
+            shutil.copy(database + ending, copy + ending)
+    seconds, most = bench.start(bench.last, copy)
+    grown = size(copy)
+    shutil.rmtree(place)
+    return seconds, most, grown
+
+
+def row_of_starts(bench, databases, instances):
+    """Each program starts over its own file, and the last one over those of the others for the first time."""
+    others = [name for name in bench.programs if name != bench.last]
+    found = bench.rounds(bench.programs, lambda name: bench.start(name, databases[name]))
+    ratios = [ratio(found, bench.last, name, 0) for name in others]
+    seconds, most = (middle([it[part] for it in found[bench.last]], 2 - 2 * part) for part in (0, 1))
+    cells = [f"{instances:,} instances", seconds, *ratios, f"{most} MB", f"{size(databases[bench.last]):,.0f} MB"]
+    firsts = bench.rounds(others, lambda name: first_start(bench, databases[name]))
+    for name in others:
+        seconds, most, grown = (middle(part, max(2 - 2 * at, 0)) for at, part in enumerate(zip(*firsts[name])))
+        cells += [seconds, f"{most} MB", f"{size(databases[name]):,.0f} to {grown} MB"]
+    row(*cells)
 
 
 def starts(bench):
     others = [name for name in bench.programs if name != bench.last]
-    titles = ["a start over", f"{bench.last}, seconds", *[f"to {name}" for name in others], "most memory"]
+    titles = ["a start over", f"{bench.last}, seconds", *[f"to {name}" for name in others]]
+    titles += ["most memory", "file and log"]
+    for name in others:
+        titles += [f"first over the file of {name}, seconds", "most memory", "file and log"]
     row(*titles)
     row(*["---"] * len(titles))
-    database = os.path.join(bench.folder, "starts.db")
+    databases = {name: os.path.join(bench.folder, f"starts-{number}.db") for number, name in enumerate(bench.programs)}
     made = 0
     for instances in bench.options.instances:
-        fill(bench.programs[bench.last], database, made, instances)
+        for name, database in databases.items():
+            fill(bench.programs[name], database, made, instances)
         made = instances
-        found = bench.rounds(bench.programs, lambda name: bench.start(name, database))
-        ratios = [ratio(found, bench.last, name, 0) for name in others]
-        seconds, most = (middle([it[part] for it in found[bench.last]], 2 - 2 * part) for part in (0, 1))
-        row(f"{instances:,} instances", seconds, *ratios, f"{most} MB")
+        row_of_starts(bench, databases, instances)
 
 
 def words():

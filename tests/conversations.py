@@ -114,10 +114,44 @@ ASYNC_BINDING = [
 ]
 
 LARGE = '{"text":"' + "x" * 199_989 + '"}'
+X = '{"platform":"x"}'
+Y = '{"platform":"y"}'
 
 
 def with_parameters(body, parameters):
     return f'{body[:-1]},"parameters":{parameters}}}'
+
+
+def with_context(body, context):
+    return f'{body[:-1]},"context":{context}}}'
+
+
+def listed(seq, kind, context):
+    """The listing of an order of the instance `i` with the plan `p-async`."""
+    return (
+        f'{{"orders":[{{{context}"instance_id":"i","kind":"{kind}","maintenance_version":"1.2.0",'
+        f'"organization_guid":"o","parameters":{{}},"plan_id":"p-async","seq":{seq},'
+        '"service_id":"svc","space_guid":"s"}]}'
+    )
+
+
+# The context is kept and shown to the backend. An update with a context alone changes nothing where the
+# service doesn't allow it.
+CONTEXTS = [
+    ("PUT", I + LATER, with_context(ASYNC, X), 202, operation("create-1")),
+    ("PUT", I + LATER, with_context(ASYNC, Y), 202, operation("create-1")),
+    ("GET", "/backend/v1/orders", "", 200, listed(1, "create", f'"context":{X},')),
+    ("PUT", REPORT + "1", SUCCEEDED, 200, "{}"),
+    ("PATCH", I + LATER, with_context('{"service_id":"svc"}', Y), 200, "{}"),
+    ("PUT", B + LATER, with_context(BIND, Y), 202, operation("bind-2")),
+    ("PUT", REPORT + "2", SUCCEEDED, 200, "{}"),
+    ("PUT", B + LATER, BIND, 200, '{"credentials":{}}'),
+    ("DELETE", B + LEAVE, "", 202, operation("unbind-3")),
+    ("PUT", REPORT + "3", SUCCEEDED, 200, "{}"),
+    ("DELETE", I + LEAVE, "", 202, operation("delete-4")),
+    ("GET", "/backend/v1/orders", "", 200, listed(4, "delete", f'"context":{X},')),
+    ("PUT", REPORT + "4", SUCCEEDED, 200, "{}"),
+]
 
 
 LARGE_SYNC = with_parameters(SYNC, LARGE)
@@ -142,6 +176,20 @@ LARGE_PARAMETERS = [
     ("PUT", I + LATER, ASYNC, 409, "{}"),
 ]
 
+# Where the service allows it, a context alone is an update.
+CONTEXT_UPDATED = [
+    ("PUT", I + LATER, with_context(ASYNC, X), 202, operation("create-1")),
+    ("PUT", REPORT + "1", SUCCEEDED, 200, "{}"),
+    ("PATCH", I + LATER, with_context('{"service_id":"svc"}', Y), 202, operation("update-2")),
+    ("PATCH", I + LATER, with_context('{"service_id":"svc"}', Y), 202, operation("update-2")),
+    ("PATCH", I + LATER, with_context('{"service_id":"svc"}', "{}"), 422, BUSY),
+    ("GET", "/backend/v1/orders", "", 200, listed(2, "update", f'"context":{Y},')),
+    ("PUT", REPORT + "2", SUCCEEDED, 200, "{}"),
+    ("PATCH", I + LATER, with_context('{"service_id":"svc"}', Y), 200, "{}"),
+    ("DELETE", I + LEAVE, "", 202, operation("delete-3")),
+    ("GET", "/backend/v1/orders", "", 200, listed(3, "delete", f'"context":{Y},')),
+]
+
 SYNC_BINDING = [
     ("PUT", I, SYNC, 201, "{}"),
     ("PUT", B, SYNC_BIND, 201, MEMORY_1),
@@ -160,4 +208,5 @@ CONVERSATIONS = {
     "async_binding": ASYNC_BINDING,
     "sync_binding": SYNC_BINDING,
     "large_parameters": LARGE_PARAMETERS,
+    "contexts": CONTEXTS,
 }

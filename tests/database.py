@@ -15,7 +15,8 @@ import sys
 import tempfile
 
 from conversations import ASYNC, B, BIND, I, LATER, LEAVE, REPORT, SUCCEEDED, SYNC, SYNC_LEAVE
-from conversations import FETCHED_LARGE, LARGE_PARAMETERS, MEMORY_1, SYNC_BIND, UPDATE, operation, reply, request
+from conversations import FETCHED_LARGE, LARGE, LARGE_PARAMETERS, MEMORY_1, SYNC_BIND, UPDATE, X, Y
+from conversations import listed, operation, reply, request, with_context
 from refused import REFUSED as NO_ROOM
 from serving import SETTINGS, Serving, new_database, tell
 
@@ -28,18 +29,18 @@ FETCHED = '{"parameters":{},"plan_id":"p-sync","service_id":"svc"}'
 
 # An instance with a binding, one whose creation runs, and one that is gone.
 BEGUN = [
-    ("PUT", I + LATER, ASYNC, 202, operation("create-1")),
+    ("PUT", I + LATER, with_context(ASYNC, X), 202, operation("create-1")),
     ("PUT", REPORT + "1", SUCCEEDED, 200, "{}"),
-    ("PUT", B + LATER, BIND, 202, operation("bind-2")),
+    ("PUT", B + LATER, with_context(BIND, Y), 202, operation("bind-2")),
     ("PUT", REPORT + "2", CREDENTIALS, 200, "{}"),
     ("PUT", R + LATER, ASYNC, 202, operation("create-1")),
-    ("PUT", G, SYNC, 201, "{}"),
+    ("PUT", G, with_context(SYNC, X), 201, "{}"),
     ("DELETE", G + SYNC_LEAVE, "", 200, "{}"),
 ]
 
 # What the tables then have, in the order of their keys.
 TABLES = {
-    "format": [(1,)],
+    "format": [(2,)],
     "orders": [
         ("g", 1, 1, "", "svc", "p-sync", "o", "s", "{}", "", 1, "", "{}"),
         ("g", 2, 3, "", "svc", "p-sync", "o", "s", "{}", "", 1, "", "{}"),
@@ -53,7 +54,38 @@ TABLES = {
         ("r", 1, 1, 1, "svc", "p-async", "o", "s", "{}", "1.2.0"),
     ],
     "bindings": [("i", "b", 2, "svc", "p-async", "", "{}", "{}", '{"k":"v"}')],
+    "contexts": [
+        ("g", 0, ""),
+        ("g", 1, X),
+        ("g", 2, X),
+        ("i", 0, X),
+        ("i", 1, X),
+        ("i", 2, Y),
+        ("r", 0, "{}"),
+        ("r", 1, "{}"),
+    ],
 }
+
+# The tables and indexes of version 2, in the order in which they stand in the schema. SQLite names the
+# indexes of the keys.
+NAMES = [
+    "format",
+    "orders",
+    "sqlite_autoindex_orders_1",
+    "instances",
+    "sqlite_autoindex_instances_1",
+    "bindings",
+    "sqlite_autoindex_bindings_1",
+    "contexts",
+    "sqlite_autoindex_contexts_1",
+    "busy_instances",
+    "subject_orders",
+]
+
+CONTEXTS_TABLE = (
+    "CREATE TABLE contexts (instance_id TEXT NOT NULL, seq INTEGER NOT NULL, context TEXT NOT NULL, "
+    "PRIMARY KEY (instance_id, seq)) STRICT"
+)
 
 # The indexes beside those of the keys, in the order in which they were made.
 INDEXES = [
@@ -131,11 +163,11 @@ def run(path, *statements):
         connection.commit()
 
 
-def tables(path):
+def tables(path, names=TABLES):
     """The rows of each table, by Python's sqlite3, or why it doesn't read them."""
     try:
         with contextlib.closing(sqlite3.connect(path, timeout=0.1)) as connection:
-            rows = {name: connection.execute(f"SELECT * FROM {name}") for name in TABLES}
+            rows = {name: connection.execute(f"SELECT * FROM {name}") for name in names}
             return {name: sorted(found) for name, found in rows.items()}
     except sqlite3.Error as error:
         return str(error)
@@ -154,6 +186,12 @@ def indexes(path):
     with contextlib.closing(sqlite3.connect(path)) as connection:
         made = connection.execute("SELECT sql FROM sqlite_schema WHERE type = 'index' AND sql IS NOT NULL ORDER BY rowid")
         return [row[0] for row in made]
+
+
+def names(path):
+    """The names of the tables and the indexes, in the schema's order."""
+    with contextlib.closing(sqlite3.connect(path)) as connection:
+        return [row[0] for row in connection.execute("SELECT name FROM sqlite_schema ORDER BY rowid")]
 
 
 def integrity(path):
@@ -226,6 +264,7 @@ def try_reading(program, folder, path):
 
 
 ORDER = "INSERT INTO orders SELECT instance_id, 2, 2, '', service_id, plan_id, place, spot, params, maint, {state}, '', '{{}}' FROM orders WHERE instance_id = 'r'"
+ITS_CONTEXT = "INSERT INTO contexts VALUES ('r', 2, '{}')"
 
 # Databases that aren't of well-formed lives: what is done to the tables above.
 SPOILED = {
@@ -235,37 +274,52 @@ SPOILED = {
     "another last number": ["UPDATE instances SET last_seq = 3 WHERE instance_id = 'i'"],
     "another space": ["UPDATE instances SET space = 't' WHERE instance_id = 'i'"],
     "other credentials": ["UPDATE bindings SET credentials = '{}'"],
-    "an instance without a row": ["DELETE FROM instances WHERE instance_id = 'i'"],
-    "an absent instance without a row": ["DELETE FROM instances WHERE instance_id = 'g'"],
-    "a row without an instance": ["INSERT INTO instances VALUES ('z', 0, 0, 0, '', '', '', '', '', '')"],
+    "an instance without a row": [
+        "DELETE FROM instances WHERE instance_id = 'i'",
+        "DELETE FROM contexts WHERE instance_id = 'i' AND seq = 0",
+    ],
+    "an absent instance without a row": [
+        "DELETE FROM instances WHERE instance_id = 'g'",
+        "DELETE FROM contexts WHERE instance_id = 'g' AND seq = 0",
+    ],
+    "a row without an instance": [
+        "INSERT INTO instances VALUES ('z', 0, 0, 0, '', '', '', '', '', '')",
+        "INSERT INTO contexts VALUES ('z', 0, '')",
+    ],
     "a binding without a row": ["DELETE FROM bindings"],
     "a row without a binding": [
         "INSERT INTO bindings VALUES ('i', 'c', 2, 'svc', 'p-async', '', '{}', '{}', '{}')"
     ],
     "a number left out": [
         "UPDATE orders SET seq = 3 WHERE instance_id = 'i' AND seq = 2",
+        "UPDATE contexts SET seq = 3 WHERE instance_id = 'i' AND seq = 2",
         "UPDATE instances SET last_seq = 3 WHERE instance_id = 'i'",
     ],
     "two running orders": [
         ORDER.format(state=0),
+        ITS_CONTEXT,
         "UPDATE instances SET last_seq = 2, phase = 4 WHERE instance_id = 'r'",
     ],
     "an order behind a running one": [
         ORDER.format(state=1),
+        ITS_CONTEXT,
         "UPDATE instances SET last_seq = 2, phase = 2, busy = 0 WHERE instance_id = 'r'",
     ],
     "an order of an absent instance": [
         "INSERT INTO orders VALUES ('g', 3, 2, '', 'svc', 'p-sync', 'o', 's', '{}', '', 1, '', '{}')",
+        "INSERT INTO contexts VALUES ('g', 3, '{}')",
         "UPDATE instances SET last_seq = 3 WHERE instance_id = 'g'",
     ],
     "a first order that creates nothing": ["UPDATE orders SET kind = 2 WHERE instance_id = 'r'"],
     "an id that is no id text": [
         "UPDATE orders SET instance_id = char(7) WHERE instance_id = 'r'",
         "UPDATE instances SET instance_id = char(7) WHERE instance_id = 'r'",
+        "UPDATE contexts SET instance_id = char(7) WHERE instance_id = 'r'",
     ],
     "an empty id": [
         "UPDATE orders SET instance_id = '' WHERE instance_id = 'r'",
         "UPDATE instances SET instance_id = '' WHERE instance_id = 'r'",
+        "UPDATE contexts SET instance_id = '' WHERE instance_id = 'r'",
     ],
     "a text that isn't compact": [
         "UPDATE orders SET params = '{ }' WHERE instance_id = 'r'",
@@ -275,10 +329,34 @@ SPOILED = {
         "UPDATE orders SET params = '[]' WHERE instance_id = 'r'",
         "UPDATE instances SET params = '[]' WHERE instance_id = 'r'",
     ],
-    "another version": ["UPDATE format SET version = 2"],
+    "an order without its context": ["DELETE FROM contexts WHERE instance_id = 'i' AND seq = 2"],
+    "an instance without a context": ["DELETE FROM contexts WHERE instance_id = 'i' AND seq = 0"],
+    "an absent instance without one": ["DELETE FROM contexts WHERE instance_id = 'g' AND seq = 0"],
+    "no contexts": ["DELETE FROM contexts"],
+    "a context without an order": ["INSERT INTO contexts VALUES ('i', 3, '{}')"],
+    "a context without an instance": ["INSERT INTO contexts VALUES ('z', 0, '')"],
+    "a context that isn't compact": ["UPDATE contexts SET context = '{ }' WHERE instance_id = 'r'"],
+    "a context that is no object": ["UPDATE contexts SET context = '[]' WHERE instance_id = 'r'"],
+    "an empty context": ["UPDATE contexts SET context = '' WHERE instance_id = 'r'"],
+    "a binding's context that isn't compact": ["UPDATE contexts SET context = '{ }' WHERE seq = 2 AND instance_id = 'i'"],
+    "an unlike context that stands": ["UPDATE contexts SET context = '{}' WHERE instance_id = 'i' AND seq = 0"],
+    "an unlike context of a creation": ["UPDATE contexts SET context = '{}' WHERE instance_id = 'i' AND seq = 1"],
+    "an absent instance with a context": ["UPDATE contexts SET context = '{}' WHERE instance_id = 'g' AND seq = 0"],
+    "version 0": ["UPDATE format SET version = 0"],
+    "version 1": ["UPDATE format SET version = 1"],
+    "version 3": ["UPDATE format SET version = 3"],
     "no version": ["DELETE FROM format"],
-    "two versions": ["INSERT INTO format VALUES (1)"],
+    "two versions": ["INSERT INTO format VALUES (2)"],
     "a table is missing": ["DROP TABLE bindings"],
+    "the table of contexts is missing": ["DROP TABLE contexts"],
+    "the table of contexts behind the indexes": [
+        *[f"DROP INDEX {name}" for name in ("subject_orders", "busy_instances")],
+        "ALTER TABLE contexts RENAME TO moved",
+        *INDEXES,
+        CONTEXTS_TABLE,
+        "INSERT INTO contexts SELECT * FROM moved",
+        "DROP TABLE moved",
+    ],
     "a further table": ["CREATE TABLE more (a TEXT)"],
     "a further index": ["CREATE INDEX more ON orders (kind)"],
     "the second index alone": ["DROP INDEX busy_instances"],
@@ -308,6 +386,26 @@ UNREADABLE = {
     "a number of more than 32 bits": "UPDATE orders SET seq = 4294967296 WHERE instance_id = 'r'",
     "a rowid below 0": "UPDATE orders SET rowid = -1 WHERE instance_id = 'r'",
     "a text that is no UTF-8": "UPDATE orders SET note = CAST(x'ff' AS TEXT)",
+    "a number of a context below 0": "UPDATE contexts SET seq = -1 WHERE instance_id = 'r' AND seq = 1",
+    "a rowid of a context below 0": "UPDATE contexts SET rowid = -1 WHERE instance_id = 'r' AND seq = 1",
+    "a context that is no UTF-8": "UPDATE contexts SET context = CAST(x'ff' AS TEXT)",
+}
+
+# What is done to a file of version 1.
+SPOILED_BEFORE = {
+    "version 0 without contexts": ["UPDATE format SET version = 0"],
+    "version 2 without contexts": ["UPDATE format SET version = 2"],
+    "version 3 without contexts": ["UPDATE format SET version = 3"],
+    "version 1 with contexts": [CONTEXTS_TABLE],
+    "version 2 with contexts behind the indexes": [
+        CONTEXTS_TABLE,
+        "UPDATE format SET version = 2",
+        "INSERT INTO contexts SELECT instance_id, 0, iif(phase = 0, '', '{}') FROM instances",
+        "INSERT INTO contexts SELECT instance_id, seq, '{}' FROM orders",
+    ],
+    "a phase of another order before": ["UPDATE instances SET phase = 2 WHERE instance_id = 'new'"],
+    "a binding without a row before": ["DELETE FROM bindings WHERE instance_id = 'small'"],
+    "a table of bindings that is missing before": ["DROP TABLE bindings"],
 }
 
 # What may be done to the file without a change of its rows.
@@ -338,14 +436,20 @@ def made_from(path, folder, make):
     return other
 
 
-def try_spoiled(program, folder, path):
-    """What doesn't stand for well-formed lives isn't taken, and stays as it is."""
-    for name, statements in SPOILED.items():
+def refuses_spoiled(program, folder, path, spoiled):
+    """Each of these copies of a database is refused and stays as it is."""
+    for name, statements in spoiled.items():
         copy = copied(path, folder)
         run(copy, *statements)
         before = content(copy)
         yield name, starts(program, copy), NOT_OURS
         yield f"{name} stays", content(copy), before
+
+
+def try_spoiled(program, folder, path):
+    """What doesn't stand for well-formed lives isn't taken, and stays as it is."""
+    yield from refuses_spoiled(program, folder, path, SPOILED)
+    yield from refuses_spoiled(program, folder, made_before(folder, 2), SPOILED_BEFORE)
     other = made_from(path, folder, dumped)
     yield "another order of the tables", starts(program, other), NOT_OURS
     for name, statement in UNREADABLE.items():
@@ -365,6 +469,7 @@ def try_harmless(program, folder, path):
             yield from goes(serving, ASKED_AGAIN)
         yield name, tables(copied(other, folder)), TABLES
         yield f"{name}: the indexes", indexes(copied(other, folder)), INDEXES
+        yield f"{name}: the schema", names(copied(other, folder)), NAMES
 
 
 def made_before(folder, count):
@@ -376,18 +481,42 @@ def made_before(folder, count):
     return path
 
 
+def migrated(before):
+    """The tables of version 2 by those of version 1: no order and no instance has a context, and an absent
+    instance has none."""
+    standing = [(row[0], 0, "{}" if row[1] else "") for row in before["instances"]]
+    of_orders = [(row[0], row[1], "{}") for row in before["orders"]]
+    return {**before, "format": [(2,)], "contexts": sorted(standing + of_orders)}
+
+
+def try_migrated(program, folder, path, expected):
+    """A file that was brought to version 2 is served on, whatever is done to it without a change of its rows."""
+    yield "its schema", names(copied(path, folder)), NAMES
+    yield "its table of contexts", CONTEXTS_TABLE in [row[2] for row in content(copied(path, folder))[0]], True
+    yield "its integrity", integrity(copied(path, folder)), {"ok"}
+    for name, statements in HARMLESS.items():
+        other = copied(path, folder)
+        run(other, *statements)
+        with Serving(program, other) as serving:
+            yield from goes(serving, MADE_BEFORE)
+        yield f"migrated, {name}", tables(copied(other, folder)), expected
+        yield f"migrated, {name}: the schema", names(copied(other, folder)), NAMES
+
+
 def try_made_before(program, folder):
-    """The forms of files that this program ever made are served on."""
+    """The forms of files of version 1 that this program ever made are brought to version 2 and served on."""
     for count in range(len(INDEXES) + 1):
         path = made_before(folder, count)
         yield f"{count} indexes before", indexes(path), INDEXES[:count]
-        before = tables(path)
+        expected = migrated(tables(path, ["format", "orders", "instances", "bindings"]))
         with Serving(program, path) as serving:
             yield from goes(serving, MADE_BEFORE)
-            yield "nothing is changed", tables(copied(path, folder)), before
-            yield from goes(serving, GOES_ON)
+            yield "nothing else is changed", tables(copied(path, folder)), expected
         yield f"both indexes after {count}", indexes(copied(path, folder)), INDEXES
-        yield "its integrity", integrity(copied(path, folder)), {"ok"}
+        yield from try_migrated(program, folder, path, expected)
+        with Serving(program, path) as serving:
+            yield from goes(serving, GOES_ON)
+        yield "its integrity in the end", integrity(copied(path, folder)), {"ok"}
 
 
 def try_others(program, folder):
@@ -489,7 +618,7 @@ def try_taken_away(program, folder):
 
 
 def try_large(program, folder):
-    """Parameters of 200,000 bytes are found again at the next start."""
+    """Parameters and a context of 200,000 bytes are found again at the next start."""
     path = new_database(folder)
     with Serving(program, path) as serving:
         yield from goes(serving, LARGE_PARAMETERS[:2])
@@ -498,6 +627,14 @@ def try_large(program, folder):
     with Serving(program, path) as serving:
         yield from goes(serving, [("GET", I, "", 200, FETCHED_LARGE)])
     yield "its integrity", integrity(copied(path, folder)), {"ok"}
+    path = new_database(folder)
+    large = with_context(ASYNC, LARGE)
+    with Serving(program, path) as serving:
+        yield from goes(serving, [("PUT", I + LATER, large, 202, operation("create-1"))])
+    with Serving(program, path) as serving:
+        shown = listed(1, "create", f'"context":{LARGE},')
+        yield from goes(serving, [("GET", "/backend/v1/orders", "", 200, shown)])
+        yield from goes(serving, [("PUT", I + LATER, ASYNC, 202, operation("create-1"))])
 
 
 @contextlib.contextmanager
@@ -554,6 +691,23 @@ def try_full_disk(program, folder):
         with Serving(program, path) as serving:
             yield from goes(serving, known)
             yield "the change after a start", serving.sends(sent), reply(200, "{}")
+
+
+def try_full_disk_before(program, folder):
+    """A file of version 1 stays one where the disk is full, and is brought to version 2 once there is room."""
+    with small_disk(folder) as (disk, lacking):
+        if lacking:
+            return
+        path = os.path.join(disk, "broker.db")
+        shutil.copy(made_before(folder, 2), path)
+        before = content(copied(path, folder))
+        fill(os.path.join(disk, "filling"))
+        yield "version 1 on a full disk", starts(program, path), REFUSED
+        yield "it stays version 1", content(copied(path, folder)), before
+        os.remove(os.path.join(disk, "filling"))
+        with Serving(program, path) as serving:
+            yield from goes(serving, MADE_BEFORE)
+            yield "version 2 with room", tables(copied(path, folder))["format"], [(2,)]
 
 
 def settings_with(folder, plans):
@@ -625,6 +779,7 @@ def tries(program):
         yield from try_modes(program, folder)
         yield from try_taken_away(program, folder)
         yield from try_full_disk(program, folder)
+        yield from try_full_disk_before(program, folder)
 
 
 if __name__ == "__main__":

@@ -1,12 +1,14 @@
 #!/usr/bin/env python3
-"""Kills the built program at twenty moments of one history, and looks at what its database then has.
+"""Kills the built program at twenty moments of one history and at some of a start, and looks at what its
+database then has.
 
 usage: tests/killed.py PROGRAM
 
 The program is killed (SIGKILL) after an answer, while a request is in flight, while one is being
-sent, or while it starts. After each kill what was answered is there, once, and what was in flight is
-there whole or not at all: sent again, it acts once. The system goes on, so these trials say nothing
-of a power failure.
+sent, while it starts, or while it brings a file of version 1 to version 2. After each kill what was
+answered is there, once, and what was in flight is there whole or not at all: sent again, it acts
+once. A file of version 1 is that still, or is of version 2 with the same orders. The system goes on,
+so these trials say nothing of a power failure.
 """
 
 import contextlib
@@ -18,14 +20,15 @@ import tempfile
 import time
 from dataclasses import dataclass
 
-from conversations import ASYNC, BIND, LATER, LEAVE, SUCCEEDED, SYNC, SYNC_BIND, SYNC_LEAVE, UPDATE
-from conversations import FAILED, MEMORY_1, operation, reply, request
-from database import copied, integrity
-from serving import Serving, new_database, read_to_end, tell
+from conversations import ASYNC, BIND, LATER, LEAVE, SUCCEEDED, SYNC, SYNC_BIND, SYNC_LEAVE, UPDATE, X, Y
+from conversations import FAILED, MEMORY_1, operation, reply, request, with_context
+from database import copied, integrity, made_before, migrated, run, tables
+from serving import Serving, new_database, read_to_end, settings_with_contexts, tell
 
 CREATE, UPDATING, DELETE, BINDING, UNBINDING = range(1, 6)
 RUNS, DONE, BROKEN = range(3)
 KINDS = dict(enumerate(["create", "update", "delete", "bind", "unbind"], start=1))
+BACK = with_context('{"service_id":"svc"}', X)
 
 
 @dataclass
@@ -39,6 +42,7 @@ class Step:
     number: int
     kind: int
     state: int
+    context: str
 
     def expected(self):
         return reply(*self.answer), reply(*self.again)
@@ -49,14 +53,16 @@ def at_once(instance):
     place = f"/v2/service_instances/{instance}"
     bound = place + "/service_bindings/b"
     made, empty, gone = (201, "{}"), (200, "{}"), (410, "{}")
-    for number, kind, method, target, body, answer, again in [
-        (1, CREATE, "PUT", place, SYNC, made, empty),
-        (2, BINDING, "PUT", bound, SYNC_BIND, (201, MEMORY_1), (200, MEMORY_1)),
-        (3, UPDATING, "PATCH", place, UPDATE, empty, empty),
-        (4, UNBINDING, "DELETE", bound + SYNC_LEAVE, "", empty, gone),
-        (5, DELETE, "DELETE", place + SYNC_LEAVE, "", empty, gone),
+    create, bind, update = with_context(SYNC, X), with_context(SYNC_BIND, X), with_context(UPDATE, Y)
+    for number, kind, method, target, body, answer, again, context in [
+        (1, CREATE, "PUT", place, create, made, empty, X),
+        (2, BINDING, "PUT", bound, bind, (201, MEMORY_1), (200, MEMORY_1), X),
+        (3, UPDATING, "PATCH", place, update, empty, empty, Y),
+        (4, UNBINDING, "DELETE", bound + SYNC_LEAVE, "", empty, gone, "{}"),
+        (5, DELETE, "DELETE", place + SYNC_LEAVE, "", empty, gone, Y),
     ]:
-        yield Step(instance, request(method, target, body), answer, again, number, kind, DONE)
+        sent = request(method, target, body)
+        yield Step(instance, sent, answer, again, number, kind, DONE, context)
 
 
 def later(instance):
@@ -64,18 +70,21 @@ def later(instance):
     place = f"/v2/service_instances/{instance}"
     bound = place + "/service_bindings/b"
     bind_done = '{"state":"succeeded","credentials":{"k":"v"}}'
-    for number, kind, method, target, body, name, report, state in [
-        (1, CREATE, "PUT", place + LATER, ASYNC, "create-1", SUCCEEDED, DONE),
-        (2, BINDING, "PUT", bound + LATER, BIND, "bind-2", bind_done, DONE),
-        (3, UPDATING, "PATCH", place + LATER, UPDATE, "update-3", FAILED, BROKEN),
-        (4, UNBINDING, "DELETE", bound + LEAVE, "", "unbind-4", SUCCEEDED, DONE),
-        (5, UPDATING, "PATCH", place + LATER, UPDATE, "update-5", None, RUNS),
+    create, update = with_context(ASYNC, X), with_context(UPDATE, Y)
+    for number, kind, method, target, body, name, report, state, context in [
+        (1, CREATE, "PUT", place + LATER, create, "create-1", SUCCEEDED, DONE, X),
+        (2, BINDING, "PUT", bound + LATER, BIND, "bind-2", bind_done, DONE, "{}"),
+        (3, UPDATING, "PATCH", place + LATER, update, "update-3", FAILED, BROKEN, Y),
+        (4, UNBINDING, "DELETE", bound + LEAVE, "", "unbind-4", SUCCEEDED, DONE, "{}"),
+        (5, UPDATING, "PATCH", place + LATER, update, "update-5", SUCCEEDED, DONE, Y),
+        (6, UPDATING, "PATCH", place + LATER, BACK, "update-6", None, RUNS, X),
     ]:
         opened = (202, operation(name))
-        yield Step(instance, request(method, target, body), opened, opened, number, kind, RUNS)
+        sent = request(method, target, body)
+        yield Step(instance, sent, opened, opened, number, kind, RUNS, context)
         if report:
             told = request("PUT", f"/backend/v1/orders/{instance}/{number}", report)
-            yield Step(instance, told, (200, "{}"), (200, "{}"), number, kind, state)
+            yield Step(instance, told, (200, "{}"), (200, "{}"), number, kind, state, context)
 
 
 def history():
@@ -87,41 +96,66 @@ def history():
 
 
 class Noted:
-    """What was answered: the orders that there have to be, and each instance's last step."""
+    """What was answered: the orders that there have to be with their contexts, the contexts that stand, and
+    each instance's last step."""
 
     def __init__(self):
         self.orders = {}
+        self.standing = {}
         self.last = {}
 
     def take(self, step):
-        self.orders[step.instance, step.number] = (step.kind, step.state)
+        self.orders[step.instance, step.number] = (step.kind, step.state, step.context)
         self.last[step.instance] = step
+        if step.kind == CREATE or (step.kind, step.state) == (UPDATING, DONE):
+            self.standing[step.instance] = step.context
+        elif (step.kind, step.state) == (DELETE, DONE):
+            self.standing[step.instance] = ""
 
     def rows(self):
-        return sorted((*key, *order) for key, order in self.orders.items())
+        orders = sorted((*key, *order) for key, order in self.orders.items())
+        return orders, sorted(self.standing.items())
 
     def running(self):
         """The listing of the backend: each instance with a running order once."""
         return [
-            (instance, number, KINDS[kind])
-            for instance, number, kind, state in self.rows()
+            (instance, number, KINDS[kind], context)
+            for instance, number, kind, state, context in self.rows()[0]
             if state == RUNS
         ]
 
 
+# The orders with their contexts, and a context that has no order.
+ORDERS = """
+    SELECT instance_id, seq, kind, state, context FROM orders LEFT JOIN contexts USING (instance_id, seq)
+    UNION ALL
+    SELECT instance_id, seq, NULL, NULL, context FROM contexts
+    WHERE seq > 0 AND (instance_id, seq) NOT IN (SELECT instance_id, seq FROM orders)
+    ORDER BY 1, 2
+"""
+
+
 def rows_in(path, folder):
-    """The orders in a database whose program was killed, read from a copy."""
+    """The orders and the contexts that stand in a database whose program was killed, read from a copy."""
     copy = copied(path, folder)
     with contextlib.closing(sqlite3.connect(copy)) as connection:
-        rows = connection.execute("SELECT instance_id, seq, kind, state FROM orders")
-        return sorted(rows.fetchall())
+        orders = connection.execute(ORDERS).fetchall()
+        standing = connection.execute("SELECT instance_id, context FROM contexts WHERE seq = 0")
+        return orders, sorted(standing.fetchall())
 
 
 def listed(serving):
     """What the backend's listing has."""
     body = serving.sends(request("GET", "/backend/v1/orders", "")).partition(b"\r\n\r\n")[2]
     orders = json.loads(body)["orders"]
-    return [(order["instance_id"], order["seq"], order["kind"]) for order in orders]
+    return [
+        (order["instance_id"], order["seq"], order["kind"], compact(order.get("context", {})))
+        for order in orders
+    ]
+
+
+def compact(value):
+    return json.dumps(value, separators=(",", ":"), sort_keys=True)
 
 
 def killed_in_flight(serving, sent, pause):
@@ -149,11 +183,15 @@ class Trial:
     def __init__(self, program, folder):
         self.program = program
         self.folder = folder
+        self.settings = settings_with_contexts(folder)
         self.path = new_database(folder)
         self.steps = history()
         self.noted = Noted()
         self.times = []
         self.acted = 0
+
+    def serving(self):
+        return Serving(self.program, self.path, settings=self.settings)
 
     def answered(self, serving, count):
         """Takes so many steps to their answers."""
@@ -209,12 +247,12 @@ class Trial:
         yield "the listing", listed(serving), self.noted.running()
 
     def round(self, moment, count):
-        with Serving(self.program, self.path) as serving:
+        with self.serving() as serving:
             yield from self.answered(serving, count)
             step = yield from self.flown(serving, moment)
         before = self.acted
         yield from self.kept(moment, step)
-        with Serving(self.program, self.path) as serving:
+        with self.serving() as serving:
             yield from self.sent_again(serving, step, self.acted > before)
         yield f"the orders in the end, {moment}", rows_in(self.path, self.folder), self.noted.rows()
 
@@ -244,10 +282,45 @@ def try_starts(program, folder):
         yield f"its integrity, {share}", integrity(copied(path, folder)), {"ok"}
 
 
+# Two thousand instances of version 1 that were made at once.
+MANY = [
+    "WITH RECURSIVE n(i) AS (SELECT 1 UNION ALL SELECT i + 1 FROM n WHERE i < 2000) INSERT INTO orders "
+    "SELECT 'many' || i, 1, 1, '', 'svc', 'p-sync', 'o', 's', '{}', '', 1, '', '{}' FROM n",
+    "INSERT INTO instances SELECT instance_id, 2, 0, 1, service_id, plan_id, place, spot, params, maint "
+    "FROM orders WHERE instance_id LIKE 'many%'",
+]
+FIRST = ["format", "orders", "instances", "bindings"]
+
+
+def try_migrations(program, folder):
+    """Killed while it brings a file of version 1 to version 2."""
+    first = made_before(folder, 2)
+    run(first, *MANY)
+    expected = migrated(tables(first, FIRST))
+    usual = time.monotonic()
+    with Serving(program, copied(first, folder)):
+        usual = time.monotonic() - usual
+    left = []
+    for share in [0.3, 0.5, 0.7, 0.8, 0.9, 0.95, 1.0, 1.05, 1.1, 1.2, 1.5]:
+        path = copied(first, folder)
+        killed = Serving(program, path)
+        time.sleep(usual * share)
+        killed.kill()
+        yield f"its integrity, {share}", integrity(copied(path, folder)), {"ok"}
+        version = tables(copied(path, folder), ["format"])["format"]
+        left += version
+        whole = tables(first, FIRST) if version == [(1,)] else expected
+        yield f"what is left, {share}", tables(copied(path, folder), whole), whole
+        with Serving(program, path):
+            yield f"after a start, {share}", tables(copied(path, folder)), expected
+    print(f"killed: {left.count((1,))} starts over version 1 left it so, and {left.count((2,))} left version 2")
+
+
 def tries(program):
     with tempfile.TemporaryDirectory() as folder:
         yield from try_history(program, folder)
         yield from try_starts(program, folder)
+        yield from try_migrations(program, folder)
 
 
 if __name__ == "__main__":

@@ -14,8 +14,8 @@ import subprocess
 import sys
 import tempfile
 
-from conversations import CONVERSATIONS, FETCHED_LARGE, I, LARGE_SYNC, PUT_TWICE, REPORT, SUCCEEDED
-from conversations import reply, request
+from conversations import ASYNC, CONVERSATIONS, FETCHED_LARGE, I, LARGE, LARGE_SYNC, LATER, PUT_TWICE, REPORT, SUCCEEDED
+from conversations import listed, operation, reply, request, with_context
 from serving import ROOT, Serving, new_database
 
 REFUSED = (
@@ -53,6 +53,9 @@ ONE_ORDER = [
 
 LARGE_PUT = ("PUT", I, LARGE_SYNC, 201, "{}")
 LARGE_ORDER = [*ONE_ORDER, ("GET", I, "", 200, FETCHED_LARGE.replace("p-async", "p-sync"))]
+
+LARGE_CONTEXT_PUT = ("PUT", I + LATER, with_context(ASYNC, LARGE), 202, operation("create-1"))
+LARGE_CONTEXT = [("GET", "/backend/v1/orders", "", 200, listed(1, "create", f'"context":{LARGE},'))]
 
 
 class Wrong(Exception):
@@ -122,6 +125,7 @@ def main():
         tries = {
             "commit_refused": lambda: commit_refused(serve, PUT_TWICE[0], ONE_ORDER),
             "large_commit_refused": lambda: commit_refused(serve, LARGE_PUT, LARGE_ORDER),
+            "large_context_refused": lambda: commit_refused(serve, LARGE_CONTEXT_PUT, LARGE_CONTEXT),
         }
         for name, conversation in CONVERSATIONS.items():
             tries[name] = lambda conversation=conversation: each_refused(serve, conversation)

@@ -13,8 +13,8 @@ import subprocess
 import sys
 import tempfile
 
-from conversations import CONVERSATIONS, I
-from serving import EXAMPLES, SETTINGS, Serving, new_database, tell
+from conversations import CONTEXT_UPDATED, CONVERSATIONS, I
+from serving import EXAMPLES, SETTINGS, Serving, new_database, settings_with_contexts, tell
 
 PLATFORM = {
     "X-Broker-API-Version": "2.17",
@@ -43,9 +43,9 @@ TWO_REPLIES = (
 class Served(Serving):
     """The program, serving a number of connections over a new database."""
 
-    def __init__(self, program, folder, connections, *more):
+    def __init__(self, program, folder, connections, *more, settings=SETTINGS):
         database = new_database(folder)
-        super().__init__(program, database, "--connections", str(connections), *more)
+        super().__init__(program, database, "--connections", str(connections), *more, settings=settings)
         self.listens()
 
     def is_done(self):
@@ -208,6 +208,15 @@ def try_conversations(program, folder):
         yield f"{name} ends", served.is_done(), True
 
 
+def try_contexts(program, folder):
+    """Over settings that allow contexts to be updated."""
+    settings = settings_with_contexts(folder)
+    served = Served(program, folder, 1, "--per-connection", "1000", settings=settings)
+    for target, found, expected in converse(served, CONTEXT_UPDATED):
+        yield f"context updated: {target}", found, expected
+    yield "context updated ends", served.is_done(), True
+
+
 def try_sockets(program, folder):
     served = Served(program, folder, 2, "--per-connection", "2")
     yield "put twice", served.sends(PUT_TWICE), TWO_REPLIES
@@ -242,7 +251,7 @@ def try_words(program, folder):
 
 def tries(program):
     with tempfile.TemporaryDirectory() as folder:
-        for trial in (try_life, try_conversations, try_sockets, try_words):
+        for trial in (try_life, try_conversations, try_contexts, try_sockets, try_words):
             yield from trial(program, folder)
 
 

@@ -1,5 +1,6 @@
 """The built program as a server on loopback, and how a trial tells what it found."""
 
+import json
 import os
 import socket
 import subprocess
@@ -20,6 +21,17 @@ def free_address():
 def new_database(folder):
     """The name of a database file that isn't there yet, in a folder of its own."""
     return os.path.join(tempfile.mkdtemp(dir=folder), "broker.db")
+
+
+def settings_with_contexts(folder):
+    """A settings file with a service whose instances may change their context."""
+    with open(SETTINGS, encoding="utf-8") as file:
+        settings = json.load(file)
+    settings["catalog"]["services"][0]["allow_context_updates"] = True
+    path = os.path.join(tempfile.mkdtemp(dir=folder), "settings.json")
+    with open(path, "w", encoding="utf-8") as file:
+        json.dump(settings, file)
+    return path
 
 
 class Serving:

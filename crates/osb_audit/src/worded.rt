@@ -33,13 +33,14 @@ fn are_of_instance(alloc: Global, attributes: &Attributes) -> Result<bool, Alloc
     ensures { IfOk result (λ yes. (yes ≡ true) ↔ AreOfInstance attributes.now) }
 {
     let parameters = is_object_text(alloc, attributes.parameters.as_str())?;
+    let context = is_object_text(alloc, attributes.context.as_str())?;
     Ok(
         is_id(attributes.service.as_str())
             && is_id(attributes.plan.as_str())
             && is_id(attributes.place.as_str())
             && is_id(attributes.spot.as_str())
             && parameters
-            && attributes.context.as_str() == "{}",
+            && context,
     )
 }
 
@@ -48,13 +49,14 @@ fn are_of_binding(alloc: Global, attributes: &Attributes) -> Result<bool, AllocE
 {
     let bind_resource = is_object_text(alloc, attributes.spot.as_str())?;
     let parameters = is_object_text(alloc, attributes.parameters.as_str())?;
+    let context = is_object_text(alloc, attributes.context.as_str())?;
     Ok(
         is_id(attributes.service.as_str())
             && is_id(attributes.plan.as_str())
             && is_id_or_empty(attributes.place.as_str())
             && bind_resource
             && parameters
-            && attributes.context.as_str() == "{}",
+            && context,
     )
 }
 

@@ -16,7 +16,7 @@ use Rattle.osb_audit.specs.Orders.{Entry, lives_in}
 use Rattle.osb_bare.specs.Bare.{bare_order, bare_life, bare_instance, bare_lives, bare_change, bare_entry}
 use Rattle.osb_bare.proofs.ListLemmas.{cond-some}
 use Rattle.osb_bare.proofs.LifeLemmas.{changed-bare}
-use Rattle.osb_bare.proofs.WordLemmas.{instance-bare, instance_is_bare}
+use Rattle.osb_bare.proofs.WordLemmas.{instance-bare}
 
 abbrev by_bytes : List ℕ → List ℕ → Ordering
 by_bytes = slice_cmp nat_cmp
@@ -70,9 +70,6 @@ same_lives one other same = same_map nat_list_cmp_total (slice_cmp-IsAntisymmetr
 
 pub is_lives-bare : (lives : Lives) → IsLives lives → IsLives (bare_lives lives)
 is_lives-bare lives h = λ id. subst (λ (found : Option Life). IfSome found (IsInstance id)) (sym (get-bare lives id)) (instance-bare id (get lives id) (h id))
-
-pub lives_are_bare : (lives : Lives) → IsLives lives → bare_lives lives ≡ lives
-lives_are_bare lives h = same_lives (bare_lives lives) lives (λ id. get-bare lives id ∙ instance_is_bare id (get lives id) (h id))
 
 -- ---- one life more
 

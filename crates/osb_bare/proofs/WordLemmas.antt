@@ -1,13 +1,14 @@
--- That bare lives are well formed, and that well-formed lives are bare.
+-- That bare lives are well formed.
 use Rattle.std.proofs.Common.{◌≡◌, ◌≢◌, ℕ, ◌+◌, ◌<◌, ◌≤◌, Bool, true, false, List, [], ◌∷◌, ◌++◌, length, Option, None, Some, refl, sym, ◌∙◌, ap, subst}
 use Rattle.std.specs.Prelude.{IfSome, option_map}
 use Rattle.std.specs.List.{AllByRecursion}
 use Rattle.std.proofs.lemmas.List.{length-map, map-append}
+use Rattle.osb_text.proofs.ReadableLemmas.{empty_object as empty_is_object}
 use Rattle.osb_orders.specs.declared.order.Attributes.{Attributes}
 use Rattle.osb_orders.specs.declared.order.Order.{Order}
 use Rattle.osb_orders.specs.declared.order.Change.{Change}
 use Rattle.osb_orders.specs.declared.order.Change.TheVariants.{Nothing, Append, Finish}
-use Rattle.osb_orders.specs.Orders.{no_context, is_about_binding}
+use Rattle.osb_orders.specs.Orders.{is_about_binding}
 use Rattle.osb_orders.specs.Life.{Life}
 use Rattle.osb_orders.specs.IsLife.{AreWorded, IsWorded, IsNext, IsLifeAfter, IsLife, IsInstance}
 use Rattle.osb_orders.specs.Allowed.{IsAllowed}
@@ -17,8 +18,8 @@ use Rattle.osb_bare.proofs.LifeLemmas.{ends_running-bare, is_absent-bare}
 -- ---- bare lives are well formed
 
 texts-bare : (about : Bool) (binding : List ℕ) (a : Attributes) → AreWorded about binding a → AreWorded about binding (bare_attributes a)
-texts-bare false binding a h = (h.0, record { service = h.1.service; plan = h.1.plan; organization = h.1.organization; space = h.1.space; parameters = h.1.parameters; context = refl })
-texts-bare true binding a h = (h.0, record { service = h.1.service; plan = h.1.plan; app_guid = h.1.app_guid; bind_resource = h.1.bind_resource; parameters = h.1.parameters; context = refl })
+texts-bare false binding a h = (h.0, record { service = h.1.service; plan = h.1.plan; organization = h.1.organization; space = h.1.space; parameters = h.1.parameters; context = empty_is_object })
+texts-bare true binding a h = (h.0, record { service = h.1.service; plan = h.1.plan; app_guid = h.1.app_guid; bind_resource = h.1.bind_resource; parameters = h.1.parameters; context = empty_is_object })
 
 worded-bare : (order : Order) → IsWorded order → IsWorded (bare_order order)
 worded-bare order h = record { texts = texts-bare (is_about_binding order.kind) order.binding order.attributes h.texts; credentials = h.credentials }
@@ -70,30 +71,3 @@ opened-bare (order ∷ later) h = λ is. cc
 pub instance-bare : (id : List ℕ) (found : Option Life) → IfSome found (IsInstance id) → IfSome (option_map bare_life found) (IsInstance id)
 instance-bare id None h = h
 instance-bare id (Some life) h = record { id = h.id; opened = opened-bare life h.opened; life = is_life-bare life h.life }
-
--- ---- well-formed lives are bare
-
-no_context_in : (about : Bool) (binding : List ℕ) (a : Attributes) → AreWorded about binding a → a.context ≡ no_context
-no_context_in false binding a h = h.1.context
-no_context_in true binding a h = h.1.context
-
-pub order_is_bare : (order : Order) → IsWorded order → bare_order order ≡ order
-order_is_bare order h =
-    let none : order.attributes.context ≡ no_context = no_context_in (is_about_binding order.kind) order.binding order.attributes h.texts in
-    ap (λ (context : List ℕ). record order { attributes = record order.attributes { context = context } }) (sym none)
-
-worded_is_bare : (life : Life) → AllByRecursion IsWorded life → bare_life life ≡ life
-worded_is_bare [] h = refl
-worded_is_bare (order ∷ later) h = λ i. order_is_bare order h.0 i ∷ worded_is_bare later h.1 i
-
-pub life_is_bare : (life : Life) → IsLife life → bare_life life ≡ life
-life_is_bare life h = worded_is_bare life h.texts
-
-pub change_is_bare : (life : Life) (change : Change) → IsAllowed life change → bare_change change ≡ change
-change_is_bare life Nothing h = refl
-change_is_bare life (Append order) h = ap Append (order_is_bare order h.texts)
-change_is_bare life (Finish number outcome) h = refl
-
-pub instance_is_bare : (id : List ℕ) (found : Option Life) → IfSome found (IsInstance id) → option_map bare_life found ≡ found
-instance_is_bare id None h = refl
-instance_is_bare id (Some life) h = ap Some (life_is_bare life h.life)

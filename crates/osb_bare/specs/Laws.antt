@@ -30,10 +30,6 @@ use Rattle.osb_bare.specs.Context.{standing_context, context_edit}
 abbrev pub BareLivesHaveNoContext : Type 0
 BareLivesHaveNoContext = (life : Life) → AllByRecursion (λ order. order.attributes.context ≡ no_context) (bare_life life)
 
--- no context is kept as yet
-abbrev pub WellFormedLivesAreBare : Type 0
-WellFormedLivesAreBare = (lives : Lives) → IsLives lives → bare_lives lives ≡ lives
-
 abbrev pub BareLivesAreWellFormed : Type 0
 BareLivesAreWellFormed = (lives : Lives) → IsLives lives → IsLives (bare_lives lives)
 

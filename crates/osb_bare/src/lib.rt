@@ -3,17 +3,15 @@
 //! so what they tell is bare.
 #![tactic(auto)]
 
-ghost use Rattle.osb_bare.specs.Laws.{BareLivesHaveNoContext, WellFormedLivesAreBare, BareLivesAreWellFormed, LifeOfBare, LivesInBare};
+ghost use Rattle.osb_bare.specs.Laws.{BareLivesHaveNoContext, BareLivesAreWellFormed, LifeOfBare, LivesInBare};
 ghost use Rattle.osb_bare.specs.Laws.{StandingOfBare, RowOfBare, BindingsOfBare, BareBindingsRemain, BirthOfBare};
 ghost use Rattle.osb_bare.specs.Laws.{LastOfBare, NamedInBare, SubjectOfBare, ListingOfBare, PlansOfBare};
 ghost use Rattle.osb_bare.specs.Laws.{BareLifeChanged, BareLivesChanged, BareOrderWritten, BareLifeIsWellFormed, BareChangeIsAllowed};
 ghost use Rattle.osb_bare.specs.Laws.{RowAfterBare, EditOfBare, ContextStands};
 
-/// No order of a bare life has a context, and lives are bare instance by instance. Well-formed lives
-/// have no context as yet.
+/// No order of a bare life has a context, and lives are bare instance by instance.
 pub fn bare_lives()
     ensures no_context { BareLivesHaveNoContext }
-    ensures well_formed { WellFormedLivesAreBare }
     ensures kept { BareLivesAreWellFormed }
     ensures life { LifeOfBare }
     ensures entries { LivesInBare }

@@ -23,8 +23,8 @@ use Rattle.osb_rows.proofs.StoresLemmas.{one_hit, all_hit}
 use Rattle.osb_rows.proofs.TableLemmas.{cast_int, insert_stores, update_stores}
 use Rattle.osb_contexts.proofs.SortLemmas.{context_total, contexts_are, held_again}
 use Rattle.osb_contexts.proofs.StepLemmas.{Leaves}
-use Rattle.osb_contexts.proofs.TestLemmas.{at_key, at_updated, by_both, context_keeps, hit_key, key_free, one_keyed}
-use Rattle.osb_contexts.proofs.Texts.{insert_context, insert_context_is, insert_context_terms, update_context, update_context_is, update_context_query, updated_cells, select_context, select_context_is, by_key, every, is_at}
+use Rattle.osb_contexts.proofs.TestLemmas.{at_key, at_updated, by_both, context_keeps, has_other, hit_key, key_free, one_keyed, other_keyed, updated_others}
+use Rattle.osb_contexts.proofs.Texts.{insert_context, insert_context_is, insert_context_terms, update_context, update_context_is, update_context_query, updated_cells, select_context, select_context_is, by_key, every, is_at, is_not_at}
 
 cast_row : (entry : ContextEntry) → cast_all context_columns (context_row entry) ≡ context_row entry
 cast_row entry = rw (cast_int (pos entry.number)) refl
@@ -74,9 +74,10 @@ module _ (old new : State) (count : ℕ) (tables : HasContexts old.now) (id : Li
       let applied = did.2.1 in
       let others = applied.tables in (
         (did.2.0, (others.0 (λ e. absurd (omega (arith, e))), (others.1.0 (λ e. absurd (omega (arith, e))), (others.1.1.0 (λ e. absurd (omega (arith, e))), (others.1.1.1.0 (λ e. absurd (omega (arith, e))), tt)))), w.sound),
-        update_stores second_schema _ old.now.trees new.now.trees (codes "contexts") 7 context_columns (1 ∷ 2 ∷ []) ((1 ∷ 2 ∷ []) ∷ []) context_cmp context_total context_cells context_row (overlay old.now.trees []) refl params (is_at 1 1 ∷ is_at 2 2 ∷ [])
-            (is_context id number) (λ _. refl) (at_updated context id number) (one_keyed id number) (with_context context) (context_keeps (is_context id number) context) updated_cells (λ _ _. refl)
-            (λ stored entry is hits. updated_row params context stored entry refl is) entries did.0 did.1 tables.holds applied,
+        subst (λ next. HoldsContexts next new.now.trees) (updated_others context id number entries)
+            (update_stores second_schema _ old.now.trees new.now.trees (codes "contexts") 7 context_columns (1 ∷ 2 ∷ []) ((1 ∷ 2 ∷ []) ∷ []) context_cmp context_total context_cells context_row (overlay old.now.trees []) refl params (is_at 1 1 ∷ is_at 2 2 ∷ is_not_at 3 0 ∷ [])
+            (has_other context id number) (λ _. refl) (at_updated context id number) (other_keyed context id number) (with_context context) (context_keeps (has_other context id number) context) updated_cells (λ _ _. refl)
+            (λ stored entry is hits. updated_row params context stored entry refl is) entries did.0 did.1 tables.holds applied),
       )
 
 -- ---- the query of one key

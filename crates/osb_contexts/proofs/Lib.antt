@@ -9,3 +9,4 @@ pub mod WholeLemmas
 pub mod TableReads
 pub mod FormatLemmas
 pub mod MigrationLemmas
+pub mod OrderLemmas

@@ -134,13 +134,13 @@ still_none mid next none it = rw (it.reshapes.kept.0) none
 pub still_running : (mid next : State) → VersionSteps mid next → IsRunning next
 still_running mid next it = record { inside = it.reshapes.within.inside; is_open = it.reshapes.within.is_open; sound = it.reshapes.sound }
 
-pub migrated : (old mid next new : State) (entries : List ContextEntry) → ContextSteps old mid [] → VersionSteps mid next → ContextSteps next new entries → Migrates old new entries
-migrated old mid next new entries one two it =
-    let first = one.kept in let second = two.reshapes.kept in let third = it.kept in record {
-      within = within_then old next new (within_then old mid next one.within two.reshapes.within) it.within;
+pub migrated : (old mid new : State) (entries : List ContextEntry) → VersionSteps old mid → ContextSteps mid new entries → Migrates old new entries
+migrated old mid new entries one it =
+    let first = one.reshapes.kept in let next = it.kept in record {
+      within = within_then old mid new one.reshapes.within it.within;
       tables = it.tables;
-      version = rw (third.0) two.version;
+      version = rw (next.0) one.version;
       contexts_are = it.contexts_are;
-      kept = (third.1.0 ∙ second.1.0 ∙ first.1.0, (third.1.1.0 ∙ second.1.1.0 ∙ first.1.1.0, (third.1.1.1.0 ∙ second.1.1.1.0 ∙ first.1.1.1.0, tt)));
+      kept = (next.1.0 ∙ first.1.0, (next.1.1.0 ∙ first.1.1.0, (next.1.1.1.0 ∙ first.1.1.1.0, tt)));
       sound = it.sound;
     }

@@ -1,26 +1,27 @@
 -- What the tests of WHERE and the keys of ORDER BY say of entries.
-use Rattle.std.proofs.Common.{◌≡◌, inl, inr, ℕ, ◌==◌, pos, List, [], ◌∷◌, filter, Bool, true, false, cond, ◌&&◌, bytes_eq, Some, Ordering, Less, Equal, Greater, is_eq, ltb, nat_cmp, refl, sym, ap, ap₂, ◌∙◌, arith, true≢false}
+use Rattle.std.proofs.Common.{◌≡◌, inl, inr, ℕ, ◌==◌, pos, List, [], ◌∷◌, filter, Bool, true, false, cond, not, ◌&&◌, bytes_eq, Some, Ordering, Less, Equal, Greater, is_eq, ltb, nat_cmp, refl, sym, ap, ap₂, ◌∙◌, arith, true≢false}
 use Rattle.std.specs.Cmp.Lexicographic.{slice_cmp}
-use Rattle.std.specs.Ordering.{ordering_then}
+use Rattle.std.specs.Ordering.{is_ne, ordering_then}
 use Rattle.std.specs.List.{AllByRecursion, list_all}
 use Rattle.std.proofs.lemmas.Bool.{cases_Bool, and_parts}
 use Rattle.std.proofs.lemmas.Bool.Decides.{nat_tests}
 use Rattle.std.proofs.lemmas.Map.Text.{is_eq-slice_cmp}
 use Rattle.std.proofs.lemmas.Slice.Eq.{bytes_eq-Decides}
 use Rattle.sqlite.specs.declared.types.Value.TheVariants.{Null, Int, Text}
+use Rattle.sqlite_keyed.specs.Lists.{update_where}
 use Rattle.sqlite.specs.Order.{value_cmp}
 use Rattle.sqlite.specs.Query.{key_cmp}
 use Rattle.sqlite_value.specs.Keys.{ascending}
 use Rattle.sqlite_value.proofs.OrderLemmas.{value_cmp-Text, value_cmp-Int}
 use Rattle.sqlite_value.specs.declared.keys.Collation.TheVariants.{Binary}
 use Rattle.sqlite_sql.specs.declared.ops.BinaryOp.TheVariants.{Compare}
-use Rattle.sqlite_sql.specs.declared.ops.CompareOp.TheVariants.{Eq}
+use Rattle.sqlite_sql.specs.declared.ops.CompareOp.TheVariants.{Eq, Ne}
 use Rattle.sqlite.specs.Ops.{binary, is_true, from_truth}
 use Rattle.sqlite.specs.Term.{holds}
 use Rattle.osb_joined.specs.declared.entry.ContextEntry.{ContextEntry}
 use Rattle.osb_joined.specs.Contexts.{context_cmp, is_context, context_entry, with_context}
 use Rattle.osb_contexts.specs.Contexts.{context_row}
-use Rattle.osb_contexts.proofs.Texts.{is_at}
+use Rattle.osb_contexts.proofs.Texts.{is_at, is_not_at}
 
 truth_back : (b : Bool) → is_true (from_truth (Some b)) ≡ b
 truth_back true = refl
@@ -29,6 +30,15 @@ truth_back false = refl
 same_text : (a b : List ℕ) → is_true (binary (Compare Eq Binary) (Text a) (Text b)) ≡ bytes_eq a b
 unfolding binary
 same_text a b = truth_back _ ∙ ap is_eq (value_cmp-Text a b) ∙ is_eq-slice_cmp a b
+
+other_text : (a b : List ℕ) → is_true (binary (Compare Ne Binary) (Text a) (Text b)) ≡ not (bytes_eq a b)
+unfolding binary
+other_text a b = truth_back _ ∙ ap is_ne (value_cmp-Text a b) ∙ turned (slice_cmp nat_cmp a b) ∙ ap not (is_eq-slice_cmp a b)
+  where
+    turned : (o : Ordering) → is_ne o ≡ not (is_eq o)
+    turned Less = refl
+    turned Equal = refl
+    turned Greater = refl
 
 same_number : (m n : ℕ) → is_true (binary (Compare Eq Binary) (Int (pos m)) (Int (pos n))) ≡ (m == n)
 unfolding binary
@@ -49,12 +59,20 @@ number_cmp m n = value_cmp-Int (pos m) (pos n) ∙ same m n
 
 -- ---- WHERE
 
--- the test of the key, of a query and of an update
+-- the test of the key
 pub at_key : (id : List ℕ) (number : ℕ) (entry : ContextEntry) → list_all (holds ((Text id ∷ Int (pos number) ∷ []) ∷ (Null ∷ context_row entry) ∷ [])) (is_at 1 0 ∷ is_at 2 1 ∷ []) ≡ is_context id number entry
 at_key id number entry = rw (same_text entry.instance id, same_number entry.number number, and_true (entry.number == number)) refl
 
-pub at_updated : (context id : List ℕ) (number : ℕ) (entry : ContextEntry) → list_all (holds ((Text context ∷ Text id ∷ Int (pos number) ∷ []) ∷ (Null ∷ context_row entry) ∷ [])) (is_at 1 1 ∷ is_at 2 2 ∷ []) ≡ is_context id number entry
-at_updated context id number entry = rw (same_text entry.instance id, same_number entry.number number, and_true (entry.number == number)) refl
+-- the entry has the key and another context
+abbrev pub has_other : List ℕ → List ℕ → ℕ → ContextEntry → Bool
+has_other context id number entry = is_context id number entry && not (bytes_eq entry.context context)
+
+pub at_updated : (context id : List ℕ) (number : ℕ) (entry : ContextEntry) → list_all (holds ((Text context ∷ Text id ∷ Int (pos number) ∷ []) ∷ (Null ∷ context_row entry) ∷ [])) (is_at 1 1 ∷ is_at 2 2 ∷ is_not_at 3 0 ∷ []) ≡ has_other context id number entry
+at_updated context id number entry = rw (same_text entry.instance id, same_number entry.number number, other_text entry.context context, and_true (not (bytes_eq entry.context context))) (grouped (bytes_eq entry.instance id) (entry.number == number) (not (bytes_eq entry.context context)))
+  where
+    grouped : (a b c : Bool) → (a && (b && c)) ≡ ((a && b) && c)
+    grouped true b c = refl
+    grouped false b c = refl
 
 -- ---- ORDER BY
 
@@ -97,6 +115,19 @@ one_keyed id number a b p q =
     let ids : a.instance ≡ b.instance = a'.0 ∙ sym b'.0 in
     let numbers : a.number ≡ b.number = a'.1 ∙ sym b'.1 in
     rw (ids, numbers, text_itself b.instance, number_itself b.number) refl
+
+pub other_keyed : (context id : List ℕ) (number : ℕ) (a b : ContextEntry) → has_other context id number a ≡ true → has_other context id number b ≡ true → context_cmp a b ≡ Equal
+other_keyed context id number a b p q = one_keyed id number a b (and_parts _ _ p).0 (and_parts _ _ q).0
+
+-- an entry that has the context is left as it is
+pub updated_others : (context id : List ℕ) (number : ℕ) (entries : List ContextEntry) → update_where (has_other context id number) (with_context context) entries ≡ update_where (is_context id number) (with_context context) entries
+updated_others context id number [] = refl
+updated_others context id number (entry ∷ entries) = λ i. item (is_context id number entry) (bytes_eq entry.context context) refl i ∷ updated_others context id number entries i
+  where
+    item : (hit same : Bool) → bytes_eq entry.context context ≡ same → cond (hit && not same) (with_context context entry) entry ≡ cond hit (with_context context entry) entry
+    item false same is = refl
+    item true false is = refl
+    item true true is = ap (λ context. with_context context entry) (same_bytes entry.context context is)
 
 -- another context leaves the key
 pub context_keeps : (hit : ContextEntry → Bool) (context : List ℕ) (a b : ContextEntry) → context_cmp (cond (hit a) (with_context context a) a) (cond (hit b) (with_context context b) b) ≡ context_cmp a b

@@ -8,7 +8,7 @@ use Rattle.sqlite.specs.Command.TheVariants.{Insert, Select, Update, Delete, Cre
 use Rattle.sqlite.specs.Compile.{table_defined_by, index_defined_by}
 use Rattle.sqlite_sql.specs.Term.{op2}
 use Rattle.sqlite_sql.specs.declared.ops.BinaryOp.TheVariants.{Compare}
-use Rattle.sqlite_sql.specs.declared.ops.CompareOp.TheVariants.{Eq}
+use Rattle.sqlite_sql.specs.declared.ops.CompareOp.TheVariants.{Eq, Ne}
 use Rattle.sqlite_value.specs.declared.keys.Collation.TheVariants.{Binary}
 use Rattle.sqlite_value.specs.declared.keys.Key.{Key}
 use Rattle.sqlite_value.specs.Keys.{ascending}
@@ -29,6 +29,10 @@ every = lit (Int (negsuc 0))
 -- the column has the value of the parameter
 abbrev pub is_at : ℕ → ℕ → Term
 is_at place param = op2 (Compare Eq Binary) (col 1 place) (col 0 param)
+
+-- it has another value
+abbrev pub is_not_at : ℕ → ℕ → Term
+is_not_at place param = op2 (Compare Ne Binary) (col 1 place) (col 0 param)
 
 -- ---- the schema
 
@@ -128,13 +132,13 @@ unfolding understood everything
 insert_context_is = (refl, (refl, refl))
 
 abbrev pub update_context : List ℕ
-update_context = codes "UPDATE contexts SET context = ?1 WHERE instance_id = ?2 AND seq = ?3"
+update_context = codes "UPDATE contexts SET context = ?1 WHERE instance_id = ?2 AND seq = ?3 AND context <> ?1"
 
 abbrev pub updated_cells : List Term
 updated_cells = col 1 1 ∷ col 1 2 ∷ col 0 0 ∷ []
 
 abbrev pub update_context_query : Query
-update_context_query = over 7 (is_at 1 1 ∷ is_at 2 2 ∷ []) (col 1 0 ∷ col 1 0 ∷ updated_cells) [] every
+update_context_query = over 7 (is_at 1 1 ∷ is_at 2 2 ∷ is_not_at 3 0 ∷ []) (col 1 0 ∷ col 1 0 ∷ updated_cells) [] every
 
 pub update_context_is : (command_of (understood second_schema update_context) ≡ Update 4 (record { lets = []; body = update_context_query })) × IsPlain (understood second_schema update_context)
 unfolding understood everything

@@ -5,3 +5,4 @@ pub mod Made
 pub mod Read
 pub mod Reads
 pub mod Steps
+pub mod Ended

@@ -55,7 +55,7 @@ pub fn insert_context<S: Alter>(
     )
 }
 
-/// Gives the key another context, where it has one.
+/// Gives the key this context, where it has another one. A row that has it isn't written.
 pub fn update_context<S: Alter>(
     tx: &mut Transaction<'_, S>,
     instance: &str,
@@ -70,7 +70,7 @@ pub fn update_context<S: Alter>(
 {
     execute(
         tx,
-        "UPDATE contexts SET context = ?1 WHERE instance_id = ?2 AND seq = ?3",
+        "UPDATE contexts SET context = ?1 WHERE instance_id = ?2 AND seq = ?3 AND context <> ?1",
         params![context, instance, number],
     )
 }

@@ -2,7 +2,7 @@
 
 ghost use Rattle.std.specs.Prelude.{[]};
 ghost use Rattle.osb_tables.specs.Tables.{tables_schema, five_tables, listed_schema, record_schema, second_listed, second_schema, made};
-ghost use Rattle.osb_contexts.specs.Inside.{ShowsSchema, Reshapes};
+ghost use Rattle.osb_contexts.specs.Inside.{ShowsSchema, Reshapes, second_lacking};
 ghost use Rattle.osb_contexts.specs.Made.{MakesContexts};
 ghost use Rattle.osb_contexts.specs.Steps.{ContextSteps};
 ghost use Rattle.osb_contexts.specs.Reads.{behind, StaysInside, Does};
@@ -68,6 +68,21 @@ fn create_indexes<S: Alter>(tx: &mut Transaction<'_, S>) -> Result<usize, Error>
     create_subject_index(tx)
 }
 
+/// Makes the indexes that a database of version 2 lacks. `is_listed` says whether that of the listing is there.
+pub fn complete<S: Alter>(tx: &mut Transaction<'_, S>, is_listed: bool) -> Result<(), Error>
+    requires { ShowsSchema (second_lacking is_listed) (behind S.Store tx.old) }
+    ensures ok { Does S.Store tx.old tx.new result (λ old new.
+        Reshapes second_schema (five_tables).tables old new) }
+    ensures inside { StaysInside S.Store tx.old tx.new }
+{
+    if is_listed {
+        create_subject_index(tx)?;
+    } else {
+        create_indexes(tx)?;
+    }
+    Ok(())
+}
+
 /// Makes the table of contexts where the index of the listing is there, which it drops.
 #[tactic(auto, using(crate::proofs::SchemaLemmas::makes_then))]
 fn replace_listing<S: Alter>(tx: &mut Transaction<'_, S>) -> Result<usize, Error>
@@ -112,6 +127,6 @@ pub fn reshape<S: Alter>(tx: &mut Transaction<'_, S>, indexes: Indexes) -> Resul
     ensures inside { StaysInside S.Store tx.old tx.new }
 {
     replace_indexes(tx, indexes)?;
-    create_indexes(tx)?;
+    complete(tx, false)?;
     Ok(())
 }

@@ -7,11 +7,13 @@ mod contexts;
 mod format;
 mod indexes;
 mod migration;
+mod orders;
 mod sql;
 #[cfg(test)]
 mod tests;
 
 pub use contexts::{insert_context, read_context, read_contexts, update_context};
 pub use format::set_version;
-pub use indexes::reshape;
+pub use indexes::{complete, reshape};
 pub use migration::{insert_contexts, migrate};
+pub use orders::{append_context, end_context};

@@ -2,17 +2,13 @@
 
 ghost use Rattle.std.specs.Prelude.{◌≡◌, [], IsTrue};
 ghost use Rattle.sqlite.specs.State.{HasCleanDisk};
-ghost use Rattle.osb_tables.specs.Tables.{made, tables_schema};
 ghost use Rattle.osb_joined.specs.Contexts.{AreRising};
-ghost use Rattle.osb_contexts.specs.Inside.{ShowsSchema};
 ghost use Rattle.osb_contexts.specs.Steps.{contexts, ShowsContexts, ContextSteps, Migrates};
 ghost use Rattle.osb_contexts.specs.Reads.{behind, StaysInside, Does, MayDo};
 
 use crate::contexts::insert_context;
 use crate::format::set_version;
-use crate::indexes::reshape;
 use osb_joined::ContextEntry;
-use osb_tables::Indexes;
 use sqlite::{Alter, Error, Transaction};
 use std::alloc::Global;
 
@@ -40,20 +36,21 @@ pub fn insert_contexts<S: Alter>(
     Ok(())
 }
 
-/// Makes a database of version 1 with these indexes one of version 2 with these contexts, whose keys rise.
+/// Makes a database of version 1, which has the tables of version 2 already and no contexts, one of
+/// version 2 with these contexts, whose keys rise.
 #[tactic(auto, using(crate::proofs::MigrationLemmas::migrated))]
 pub fn migrate<S: Alter>(
     tx: &mut Transaction<'_, S>,
     alloc: Global,
-    indexes: Indexes,
     entries: &[ContextEntry],
 ) -> Result<(), Error>
-    requires schema { ShowsSchema (made tables_schema indexes) (behind S.Store tx.old) }
+    requires tables { ShowsContexts (behind S.Store tx.old) }
+    requires blank { HasCleanDisk (behind S.Store tx.old) → IsTrue (behind S.Store tx.old).is_open →
+        contexts (behind S.Store tx.old) ≡ [] }
     requires rising { AreRising entries.now }
     ensures ok { Does S.Store tx.old tx.new result (λ old new. Migrates old new entries.now) }
     ensures inside { StaysInside S.Store tx.old tx.new }
 {
-    reshape(tx, indexes)?;
     set_version(tx, alloc)?;
     insert_contexts(tx, entries)
 }

@@ -2,15 +2,15 @@
 
 ghost use Rattle.std.specs.Prelude.{◌≡◌, false, IfOk};
 ghost use Rattle.sqlite.specs.Held.{state};
-ghost use Rattle.osb_tables.specs.Tables.{made, tables_schema};
+ghost use Rattle.osb_tables.specs.Tables.{made, five_tables, tables_schema};
 ghost use Rattle.osb_joined.specs.Contexts.{context_entry, AreRising};
 ghost use Rattle.osb_contexts.specs.Inside.{ShowsSchema};
 ghost use Rattle.osb_contexts.specs.Steps.{HasContexts};
 ghost use Rattle.osb_contexts.specs.Reads.{behind, Does};
 
 use crate::{
-    insert_context, insert_contexts, migrate, read_context, read_contexts, reshape, set_version,
-    update_context,
+    complete, insert_context, insert_contexts, migrate, read_context, read_contexts, reshape,
+    set_version, update_context,
 };
 use osb_joined::ContextEntry;
 use osb_tables::{Found, Indexes, find};
@@ -25,6 +25,9 @@ const TABLES: [&str; 4] = [
     "CREATE TABLE instances (instance_id TEXT NOT NULL, phase INTEGER NOT NULL, busy INTEGER NOT NULL, last_seq INTEGER NOT NULL, service_id TEXT NOT NULL, plan_id TEXT NOT NULL, organization TEXT NOT NULL, space TEXT NOT NULL, params TEXT NOT NULL, maint TEXT NOT NULL, PRIMARY KEY (instance_id)) STRICT",
     "CREATE TABLE bindings (instance_id TEXT NOT NULL, binding_id TEXT NOT NULL, phase INTEGER NOT NULL, service_id TEXT NOT NULL, plan_id TEXT NOT NULL, app_guid TEXT NOT NULL, bind_resource TEXT NOT NULL, params TEXT NOT NULL, credentials TEXT NOT NULL, PRIMARY KEY (instance_id, binding_id)) STRICT",
 ];
+
+const CONTEXTS: &str =
+    "CREATE TABLE contexts (instance_id TEXT NOT NULL, seq INTEGER NOT NULL, context TEXT NOT NULL, PRIMARY KEY (instance_id, seq)) STRICT";
 
 const BUSY: &str = "CREATE INDEX busy_instances ON instances (busy, instance_id)";
 
@@ -129,7 +132,8 @@ fn migrate_in<S: Alter>(
     let indexes = indexes_of(conn)?;
     let entries = three(alloc)?;
     let mut tx = conn.transaction();
-    migrate(&mut tx, alloc, indexes, &entries)?;
+    reshape(&mut tx, indexes)?;
+    migrate(&mut tx, alloc, &entries)?;
     if is_kept {
         tx.commit()
     } else {
@@ -184,6 +188,57 @@ fn a_rollback_leaves_version_1(rt: HostRuntime) -> Result<(), Fail> {
     Ok(())
 }
 
+// ---- indexes
+
+/// The indexes of a database of version 2 over which no transaction runs.
+fn second_indexes_of<S: Alter>(conn: &Connection<S>) -> Result<Indexes, Error>
+    ensures { IfOk result (λ indexes. ((state S.Store conn.now).in_transaction ≡ false)
+        × ((state S.Store conn.now).now.schema ≡ made five_tables indexes)) }
+{
+    if !conn.is_autocommit() {
+        return Err(Error::InvalidQuery);
+    }
+    match find(conn.schema()) {
+        Found::Second(indexes) => Ok(indexes),
+        _ => Err(Error::InvalidQuery),
+    }
+}
+
+fn complete_with<S: Alter>(tx: &mut Transaction<'_, S>, indexes: Indexes) -> Result<(), Error>
+    requires { ShowsSchema (made five_tables indexes) (behind S.Store tx.old) }
+{
+    match indexes {
+        Indexes::None => complete(tx, false),
+        Indexes::Listing => complete(tx, true),
+        Indexes::Both => Ok(()),
+    }
+}
+
+fn complete_in<S: Alter>(conn: &mut Connection<S>) -> Result<(), Error> {
+    let indexes = second_indexes_of(conn)?;
+    let mut tx = conn.transaction();
+    complete_with(&mut tx, indexes)?;
+    tx.commit()
+}
+
+/// What is found of a database of version 2 that had these indexes, once it is complete.
+fn completed(alloc: Global, indexes: &[&str]) -> Result<Found, Error> {
+    let mut conn = Connection::open_in_memory(alloc)?;
+    run(&mut conn, &TABLES)?;
+    run(&mut conn, &[CONTEXTS])?;
+    run(&mut conn, indexes)?;
+    complete_in(&mut conn)?;
+    Ok(find(conn.schema()))
+}
+
+#[test]
+fn lacking_indexes_are_made(rt: HostRuntime) -> Result<(), Fail> {
+    let second = Found::Second(Indexes::Both);
+    assert_eq!(rt; completed(rt.alloc(), &[])?, second);
+    assert_eq!(rt; completed(rt.alloc(), &[BUSY])?, second);
+    Ok(())
+}
+
 // ---- single calls
 
 /// Makes the table of contexts, with one context that is then another one.
@@ -209,6 +264,14 @@ fn context_of<S: Alter>(
     read_context(&mut tx, instance, number)
 }
 
+/// How many rows are written where the key gets this context after that.
+fn written_by<S: Alter>(conn: &mut Connection<S>, context: &str) -> Result<usize, Error> {
+    let indexes = indexes_of(conn)?;
+    let mut tx = conn.transaction();
+    change(&mut tx, indexes)?;
+    update_context(&mut tx, "i", 1, context)
+}
+
 /// The contexts after a few went in at once.
 fn contexts_of<S: Alter>(
     conn: &mut Connection<S>,
@@ -228,6 +291,11 @@ fn is_context(alloc: Global, number: u32, context: &str) -> Result<bool, Error> 
     let mut conn = first(alloc, &[BUSY, SUBJECT])?;
     let found = context_of(&mut conn, "i", number)?;
     Ok(found.as_str() == context)
+}
+
+fn written(alloc: Global, context: &str) -> Result<usize, Error> {
+    let mut conn = first(alloc, &[BUSY, SUBJECT])?;
+    written_by(&mut conn, context)
 }
 
 fn reads_what_went_in(alloc: Global) -> Result<bool, Error> {
@@ -260,6 +328,13 @@ fn a_context_becomes_another(rt: HostRuntime) -> Result<(), Fail> {
         is_context(rt.alloc(), 0, "{}"),
         Err(Error::QueryReturnedNoRows)
     );
+    Ok(())
+}
+
+#[test]
+fn a_context_that_is_there_is_not_written(rt: HostRuntime) -> Result<(), Fail> {
+    assert_eq!(rt; written(rt.alloc(), "{}")?, 1);
+    assert_eq!(rt; written(rt.alloc(), "{\"a\":1}")?, 0);
     Ok(())
 }
 

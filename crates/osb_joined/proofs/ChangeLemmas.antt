@@ -21,12 +21,13 @@ use Rattle.osb_audit.proofs.LivesLemmas.{key_is}
 use Rattle.osb_audit.proofs.RunLemmas.{same_text, text_itself}
 use Rattle.osb_joined.specs.declared.entry.ContextEntry.{ContextEntry}
 use Rattle.osb_joined.specs.Contexts.{context_entry, context_cmp, AreRising, is_context, with_context, context_of_standing, contexts_of_instance, contexts_of}
-use Rattle.osb_bare.specs.Context.{standing_context}
+use Rattle.osb_bare.specs.Context.{standing_context, context_edit}
 use Rattle.osb_joined.specs.After.{standing_set, contexts_after}
+use Rattle.osb_joined.specs.Laws.{ContextsChanged}
 use Rattle.osb_joined.proofs.ListLemmas.{update_same, same_rising}
 use Rattle.osb_joined.proofs.InstanceLemmas.{context_total, is_context_of, IsNumberedFrom, numbered_after, numbered_push, higher_number}
-use Rattle.osb_joined.proofs.AfterLemmas.{create_edit}
-use Rattle.osb_joined.proofs.LivesLemmas.{AreNumbered, numbered, of_instance, contexts_rise, context_of_standing_is}
+use Rattle.osb_joined.proofs.AfterLemmas.{create_edit, set_rises, set_own, set_other, appended_rises, appended_own, appended_other, instance_after}
+use Rattle.osb_joined.proofs.LivesLemmas.{AreNumbered, numbered, of_instance, contexts_rise, context_of_standing_is, no_life, no_later_number}
 
 -- lists that rise are the same where they have the same of each instance
 pub same_contexts : (xs ys : List ContextEntry) → AreRising xs → AreRising ys → ((id : List ℕ) → filter (is_context_of id) xs ≡ filter (is_context_of id) ys) → xs ≡ ys
@@ -108,3 +109,25 @@ create_ends lives id number outcome order whole w is =
     ap (λ edit. standing_set false edit id (contexts_of lives)) (create_edit order.kind order.outcome.state context is)
     ∙ update_same (is_context id 0) (with_context context) (context_of_standing id (standing_of life)) (contexts_of lives) (context_of_standing_is lives id whole (had_orders life number outcome order w))
     (ap (λ context. context_entry id 0 context) (sym (stands_already life number outcome order w is)))
+
+-- ---- any change
+
+pub contexts_changed : ContextsChanged
+contexts_changed lives id Nothing order whole w = let none : None ≡ Some order = w.writes in cc
+contexts_changed lives id (Append o) order whole w =
+    let contexts : List ContextEntry = contexts_of lives in
+    let life : Life = life_of lives id in
+    let number : order.number ≡ length life + 1 = ap (λ (o : Order). o.number) (sym (same_Some o order w.writes)) ∙ w.allowed.next.number in
+    let free : filter (is_context id order.number) contexts ≡ [] = no_later_number lives id order.number whole (omega (arith, number)) in
+    let free_0 : (order.number == 1) ≡ true → filter (is_context id 0) contexts ≡ [] = λ first. no_life lives id 0 (is_first lives id whole order.number life number first) in
+    put_in lives id whole (changed (Append o) life) (contexts_after (Append o) order id contexts) (numbered-changed life (Append o) order w)
+    (appended_rises id order contexts (up lives id whole) free o free_0)
+    (appended_own id order contexts (up lives id whole) free o ∙ ap (contexts_after (Append o) order id) (of_instance lives id) ∙ sym (instance_after id life (Append o) order w))
+    (appended_other id order contexts (up lives id whole) o)
+contexts_changed lives id (Finish number outcome) order whole w =
+    let contexts : List ContextEntry = contexts_of lives in
+    let life : Life = life_of lives id in
+    put_in lives id whole (changed (Finish number outcome) life) (contexts_after (Finish number outcome) order id contexts) (numbered-changed life (Finish number outcome) order w)
+    (set_rises id false (context_edit order) contexts (up lives id whole) (λ e. cc))
+    (set_own id false (context_edit order) contexts (up lives id whole) ∙ ap (contexts_after (Finish number outcome) order id) (of_instance lives id) ∙ sym (instance_after id life (Finish number outcome) order w))
+    (set_other id false (context_edit order) contexts)

@@ -41,7 +41,7 @@ pub numbered_push : (n : ℕ) (life : Life) (order : Order) → IsNumberedFrom n
 numbered_push n [] order h is = (omega (arith, is), tt)
 numbered_push n (first ∷ life) order h is = (h.0, numbered_push (n + 1) life order h.1 (omega (arith, is)))
 
-numbers_above : (n : ℕ) (life : Life) → IsNumberedFrom n life → AllByRecursion (λ (order : Order). n < order.number) life
+pub numbers_above : (n : ℕ) (life : Life) → IsNumberedFrom n life → AllByRecursion (λ (order : Order). n < order.number) life
 numbers_above n [] h = tt
 numbers_above n (order ∷ later) h = (omega (arith, h.0), all_weaker (λ (order : Order). n + 1 < order.number) (λ (order : Order). n < order.number) (λ order above. omega (arith, above)) later (numbers_above (n + 1) later h.1))
 

@@ -1,8 +1,10 @@
 -- Bare lives with their contexts are the lives.
 use Rattle.std.proofs.Common.{◌≡◌, ◌≢◌, ℕ, List, [], ◌∷◌, map, filter, slice_get, bytes_eq, Bool, true, false, cond, T, ◌&&◌, Option, None, Some, option_map, refl, sym, ap, subst, ◌∙◌}
+use Rattle.std.specs.Prelude.{unwrap_or}
 use Rattle.std.specs.Option.{option_map_or}
 use Rattle.std.specs.Ordering.{is_lt, eq_by_cmp}
-use Rattle.std.specs.FinMap.{get, get-entries, get-from_sorted, entries, entries_sorted}
+use Rattle.std.specs.Cmp.Lexicographic.{nat_list_cmp_total}
+use Rattle.std.specs.FinMap.{get, get-entries, get-from_sorted, entries, entries_sorted, same_map, slice_cmp-IsAntisymmetric, nat_cmp-IsAntisymmetric}
 use Rattle.std.specs.FinMap.Entries.{find as found_in, below_all, is_sorted}
 use Rattle.sqlite_keyed.proofs.ListLemmas.{slice_get-filter}
 use Rattle.osb_orders.specs.declared.order.Order.{Order}
@@ -14,9 +16,10 @@ use Rattle.osb_orders.specs.IsLife.{IsLives}
 use Rattle.osb_standing.specs.Rows.{row_by, row_of}
 use Rattle.osb_audit.proofs.LivesLemmas.{key_is}
 use Rattle.osb_audit.proofs.RunLemmas.{same_text, by_bytes}
-use Rattle.osb_bare.specs.Bare.{bare_life, bare_standing, bare_row}
+use Rattle.osb_bare.specs.Bare.{bare_order, bare_life, bare_lives, bare_standing, bare_row}
 use Rattle.osb_bare.specs.Context.{standing_context}
 use Rattle.osb_bare.proofs.LifeLemmas.{standing_of-bare, row_of-bare}
+use Rattle.osb_bare.proofs.LivesLemmas.{get-bare}
 use Rattle.osb_joined.specs.declared.entry.ContextEntry.{ContextEntry}
 use Rattle.osb_joined.specs.Contexts.{context_entry, is_context, contexts_of}
 use Rattle.osb_joined.specs.Joined.{context_at, joined_life, joined_instance, joined_lives, joined_standing, joined_row}
@@ -64,6 +67,29 @@ module _ (contexts : List ContextEntry) where
       get-from_sorted by_bytes (map (joined_instance contexts) (entries lives)) id (subst T (sym (sorted-joined (entries lives))) (entries_sorted lives))
       ∙ found-joined id (entries lives)
       ∙ ap (option_map (joined_life contexts id)) (sym (get-entries lives id))
+
+  life_found : (id : List ℕ) (found : Option Life) → unwrap_or (option_map (joined_life contexts id) found) [] ≡ joined_life contexts id (unwrap_or found [])
+  life_found id None = refl
+  life_found id (Some life) = refl
+
+  pub life_of-joined : (lives : Lives) (id : List ℕ) → life_of (joined_lives contexts lives) id ≡ joined_life contexts id (life_of lives id)
+  life_of-joined lives id = ap (λ found. unwrap_or found []) (get-joined lives id) ∙ life_found id (get lives id)
+
+  bare_life-joined : (id : List ℕ) (life : Life) → bare_life (joined_life contexts id life) ≡ bare_life life
+  bare_life-joined id [] = refl
+  bare_life-joined id (order ∷ later) = ap (λ (life : Life). bare_order order ∷ life) (bare_life-joined id later)
+
+  bare_found : (id : List ℕ) (found : Option Life) → option_map bare_life (option_map (joined_life contexts id) found) ≡ option_map bare_life found
+  bare_found id None = refl
+  bare_found id (Some life) = ap Some (bare_life-joined id life)
+
+  -- the contexts aside they are the same lives
+  pub bare-joined : (lives : Lives) → bare_lives (joined_lives contexts lives) ≡ bare_lives lives
+  bare-joined lives = same_map nat_list_cmp_total (slice_cmp-IsAntisymmetric nat_cmp-IsAntisymmetric) (bare_lives (joined_lives contexts lives)) (bare_lives lives) (λ id.
+      get-bare (joined_lives contexts lives) id
+      ∙ ap (option_map bare_life) (get-joined lives id)
+      ∙ bare_found id (get lives id)
+      ∙ sym (get-bare lives id))
 
 -- where the instance stands, its context is found
 module _ (lives : Lives) (id : List ℕ) (whole : IsLives lives) where

@@ -7,3 +7,6 @@ pub mod ChangeLemmas
 pub mod PassLemmas
 pub mod WithLemmas
 pub mod AuditLemmas
+pub mod GatherLemmas
+pub mod OrderLemmas
+pub mod AuditedLemmas

@@ -136,11 +136,11 @@ rows_once contexts rows one other h k = same_Some one other (sym (rows_found con
 
 -- ---- in the loops
 
-pub front : (contexts : List ContextEntry) (i : ℕ) (context : ContextEntry) → i < length contexts → context ≡ get_or contexts i context → drop i contexts ≡ context ∷ drop (i + 1) contexts
-front contexts i context low is = drop_more contexts i context low ∙ ap (λ (entry : ContextEntry). entry ∷ drop (i + 1) contexts) (sym is)
+pub front : {X : Type 0} (items : List X) (i : ℕ) (item : X) → i < length items → item ≡ get_or items i item → drop i items ≡ item ∷ drop (i + 1) items
+front items i item low is = drop_more items i item low ∙ ap (λ item. item ∷ drop (i + 1) items) (sym is)
 
-pub back : (contexts : List ContextEntry) (i : ℕ) → length contexts ≤ i → drop i contexts ≡ []
-back contexts i end = drop_all i contexts (omega (arith, end))
+pub back : {X : Type 0} (items : List X) (i : ℕ) → length items ≤ i → drop i items ≡ []
+back items i end = drop_all i items (omega (arith, end))
 
 pub of_order : (number : ℕ) → (number ≡ 0 → ⊥) → not (number == 0) ≡ true
 of_order number other = grind (arith, nat_tests)

@@ -8,6 +8,7 @@ use Rattle.osb_orders.specs.declared.view.Standing.{Standing}
 use Rattle.osb_orders.specs.Life.{Life}
 use Rattle.osb_orders.specs.Lives.{Lives}
 use Rattle.osb_standing.specs.declared.row.InstanceRow.{InstanceRow}
+use Rattle.osb_audit.specs.Orders.{Entry}
 use Rattle.osb_joined.specs.declared.entry.ContextEntry.{ContextEntry}
 use Rattle.osb_joined.specs.Contexts.{is_context}
 
@@ -36,6 +37,10 @@ joined_life contexts id life = map (joined_order contexts id) life
 -- an instance's id with its life
 abbrev pub joined_instance : List ContextEntry → (List ℕ × Life) → (List ℕ × Life)
 joined_instance contexts instance = (instance.0, joined_life contexts instance.0 instance.1)
+
+-- an instance's id with one of its orders
+abbrev pub joined_entry : List ContextEntry → Entry → Entry
+joined_entry contexts entry = (entry.0, joined_order contexts entry.0 entry.1)
 
 abbrev pub joined_lives : List ContextEntry → Lives → Lives
 joined_lives contexts lives = from_sorted (map (joined_instance contexts) (entries lives))

@@ -1,15 +1,19 @@
 -- That the contexts of lives and their bare orders are the lives, and how the contexts change with them.
 use Rattle.std.specs.Prelude.{ℕ, ◌≡◌, ◌≢◌, ◌<◌, true, List, [], ◌∷◌, length, map, filter, option_map}
 use Rattle.std.specs.List.{AllByRecursion}
+use Rattle.osb_asks.specs.declared.ask.Ask.{Ask}
 use Rattle.osb_orders.specs.declared.order.Order.{Order}
 use Rattle.osb_orders.specs.declared.order.Outcome.{Outcome}
 use Rattle.osb_orders.specs.declared.order.OrderKind.TheVariants.{Create}
 use Rattle.osb_orders.specs.declared.order.Change.{Change}
 use Rattle.osb_orders.specs.declared.order.Change.TheVariants.{Finish}
+use Rattle.osb_orders.specs.Lists.{last_of}
 use Rattle.osb_orders.specs.Orders.{is_a}
 use Rattle.osb_orders.specs.Life.{standing_of}
 use Rattle.osb_orders.specs.Lives.{Lives, life_of}
 use Rattle.osb_orders.specs.Changed.{lives_changed}
+use Rattle.osb_orders.specs.Named.{subject, named_in}
+use Rattle.osb_orders.specs.Listing.{listing}
 use Rattle.osb_orders.specs.IsLife.{IsLives}
 use Rattle.osb_standing.specs.Rows.{row_of}
 use Rattle.osb_standing.specs.Written.{IsWritten}
@@ -20,7 +24,7 @@ use Rattle.osb_audit.specs.Audit.{AreRowsOfLives}
 use Rattle.osb_bare.specs.Bare.{bare_life, bare_lives, bare_entry}
 use Rattle.osb_joined.specs.declared.entry.ContextEntry.{ContextEntry}
 use Rattle.osb_joined.specs.Contexts.{AreRising, is_context, context_of_order, context_of_standing, contexts_of}
-use Rattle.osb_joined.specs.Joined.{joined_lives, joined_standing, joined_row}
+use Rattle.osb_joined.specs.Joined.{joined_order, joined_life, joined_entry, joined_lives, joined_standing, joined_row}
 use Rattle.osb_joined.specs.After.{contexts_after}
 use Rattle.osb_joined.specs.Join.{bare_instance_entry, AreJoined}
 
@@ -34,6 +38,30 @@ StandingJoined = (lives : Lives) (id : List ℕ) → IsLives lives → option_ma
 
 abbrev pub RowJoined : Type 0
 RowJoined = (lives : Lives) (id : List ℕ) → IsLives lives → option_map (joined_row (contexts_of lives) id) (row_of (bare_life (life_of lives id))) ≡ row_of (life_of lives id)
+
+-- any contexts leave the rest of the lives as it is
+abbrev pub BareOfJoined : Type 0
+BareOfJoined = (contexts : List ContextEntry) (lives : Lives) → bare_lives (joined_lives contexts lives) ≡ bare_lives lives
+
+abbrev pub LifeOfJoined : Type 0
+LifeOfJoined = (contexts : List ContextEntry) (lives : Lives) (id : List ℕ) → life_of (joined_lives contexts lives) id ≡ joined_life contexts id (life_of lives id)
+
+-- ---- joined order by order
+
+abbrev pub LifeJoined : Type 0
+LifeJoined = (lives : Lives) (id : List ℕ) → IsLives lives → joined_life (contexts_of lives) id (bare_life (life_of lives id)) ≡ life_of lives id
+
+abbrev pub LastJoined : Type 0
+LastJoined = (lives : Lives) (id : List ℕ) → IsLives lives → option_map (joined_order (contexts_of lives) id) (last_of (bare_life (life_of lives id))) ≡ last_of (life_of lives id)
+
+abbrev pub NamedJoined : Type 0
+NamedJoined = (ask : Ask) (lives : Lives) (id : List ℕ) → IsLives lives → option_map (joined_order (contexts_of lives) id) (named_in ask (bare_life (life_of lives id))) ≡ named_in ask (life_of lives id)
+
+abbrev pub SubjectJoined : Type 0
+SubjectJoined = (ask : Ask) (lives : Lives) (id : List ℕ) → IsLives lives → option_map (joined_order (contexts_of lives) id) (last_of (subject ask (bare_life (life_of lives id)))) ≡ last_of (subject ask (life_of lives id))
+
+abbrev pub ListingJoined : Type 0
+ListingJoined = (lives : Lives) (after : List ℕ) (limit : ℕ) → IsLives lives → map (joined_entry (contexts_of lives)) (listing (bare_lives lives) after limit) ≡ listing lives after limit
 
 -- ---- key by key
 

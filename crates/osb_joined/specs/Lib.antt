@@ -3,3 +3,4 @@ pub mod Joined
 pub mod After
 pub mod Join
 pub mod Laws
+pub mod Audit

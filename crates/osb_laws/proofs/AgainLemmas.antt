@@ -2,7 +2,7 @@
 use Rattle.std.proofs.Common.{◌≡◌, ℕ, Bool, true, false, cond, not, ◌&&◌, ◌==◌, List, [], ◌∷◌, ◌++◌, length, Option, None, Some, refl, sym, ◌∙◌, ap, subst}
 use Rattle.std.specs.Prelude.{nat_le, bytes_eq, unwrap_or}
 use Rattle.std.specs.List.{find}
-use Rattle.osb_catalog.specs.Rules.{Rules}
+use Rattle.osb_catalog.specs.Rules.{Rules, allows_context_updates}
 use Rattle.osb_asks.specs.declared.ask.Provision.{Provision}
 use Rattle.osb_asks.specs.declared.ask.Update.{Update}
 use Rattle.osb_asks.specs.declared.ask.Deprovision.{Deprovision}
@@ -39,7 +39,7 @@ use Rattle.osb_machine.specs.Plans.{catalog_version, is_bindable}
 use Rattle.osb_machine.specs.Same.{are_same}
 use Rattle.osb_machine.specs.Opened.{Opening, running, succeeded_with, next_order, opened, is_busy, is_unlike}
 use Rattle.osb_machine.specs.Provision.{creation, provision_at, provision}
-use Rattle.osb_machine.specs.Update.{target_plan, target_maintenance, target, update_opening, forbids_change, update_ready, update_by, update_checked, update_over, update_at}
+use Rattle.osb_machine.specs.Update.{target_plan, target_maintenance, target_context, target, update_opening, forbids_change, update_ready, update_by, update_checked, update_over, update_at}
 use Rattle.osb_machine.specs.Deprovision.{deletion, deprovision_over, deprovision_at}
 use Rattle.osb_machine.specs.Bind.{bind_opening, is_of_plan, bind_by, bind_in, bind_at}
 use Rattle.osb_machine.specs.Unbind.{unbind_opening, unbind_over, unbind_at}
@@ -108,6 +108,13 @@ module _ (rules : Rules) (s : Attributes) (a : Update) where
       let same : target_plan aim a ≡ aim.plan = ap (unwrap_or a.plan) plan ∙ given_twice a.plan s.plan ∙ sym plan in
       ap (λ same. cond same aim.maintenance (catalog_version rules aim.service (target_plan aim a))) (ap (λ plan. bytes_eq plan aim.plan) same ∙ same_bytes aim.plan)
 
+  context_twice : target_context rules (target rules s a) a ≡ target_context rules s a
+  context_twice = go (allows_context_updates rules s.service) refl
+    where
+      go : (b : Bool) → allows_context_updates rules s.service ≡ b → target_context rules (target rules s a) a ≡ target_context rules s a
+      go true is = rw (is) (given_twice a.context s.context)
+      go false is = rw (is) refl
+
   -- an instance that has its target
   target_twice : target rules (target rules s a) a ≡ target rules s a
   target_twice = λ i. record {
@@ -117,11 +124,11 @@ module _ (rules : Rules) (s : Attributes) (a : Update) where
     spot = s.spot;
     parameters = given_twice a.parameters s.parameters i;
     maintenance = maintenance_twice a.maintenance (target rules s a) refl refl i;
-    context = s.context;
+    context = context_twice i;
   }
 
 same_twice : (a : Attributes) → are_same a a ≡ true
-same_twice a = rw (same_bytes a.service, same_bytes a.plan, same_bytes a.place, same_bytes a.spot, same_bytes a.parameters, same_bytes a.maintenance) refl
+same_twice a = rw (same_bytes a.service, same_bytes a.plan, same_bytes a.place, same_bytes a.spot, same_bytes a.parameters, same_bytes a.maintenance, same_bytes a.context) refl
 
 -- Answers that change nothing, to what is there
 

@@ -4,7 +4,7 @@ use Rattle.std.specs.Prelude.{nat_le, bytes_eq, unwrap_or, filter, IfSome}
 use Rattle.std.specs.List.{AllByRecursion, list_any, find}
 use Rattle.std.specs.Option.{option_map_or}
 use Rattle.std.proofs.Math.Bool.{or-true}
-use Rattle.osb_catalog.specs.Rules.{Rules}
+use Rattle.osb_catalog.specs.Rules.{Rules, allows_context_updates}
 use Rattle.osb_asks.specs.declared.ask.Provision.{Provision}
 use Rattle.osb_asks.specs.declared.ask.Update.{Update}
 use Rattle.osb_asks.specs.declared.ask.Deprovision.{Deprovision}
@@ -127,7 +127,7 @@ binding_words : (id : List ℕ) (since : Life) → Era (λ o. is_a kind.Bind o &
 binding_words id [] era = tt
 binding_words id (bind ∷ later) era =
     let words = bind_words bind.kind (is_of_binding id bind) bind.binding bind.attributes era.0 era.1.0.texts in
-    record { service = words.service; plan = words.plan; app_guid = words.app_guid; bind_resource = words.bind_resource; parameters = words.parameters; context = refl }
+    record { service = words.service; plan = words.plan; app_guid = words.app_guid; bind_resource = words.bind_resource; parameters = words.parameters; context = empty_is_object }
 
 -- What an ask writes
 
@@ -163,7 +163,7 @@ module _ (rules : Rules) (facts : Facts) where
   provisioning a asked = past (is_unlike a.maintenance (catalog_version rules a.service a.plan)) _ _ tt (at facts.standing)
     where
       at : (s : Option Standing) → Words (provision_at rules facts a s)
-      at None = opening (creation rules a) (refl, record { service = asked.1; plan = asked.2; organization = asked.3; space = asked.4; parameters = asked.6; context = refl }) empty_is_object
+      at None = opening (creation rules a) (refl, record { service = asked.1; plan = asked.2; organization = asked.3; space = asked.4; parameters = asked.6; context = asked.5 }) empty_is_object
       at (Some s) = quiet _ (provision_over_quiet s.phase _ a facts)
 
   updating : (a : Update) (s : Option Standing) → asks.IsWorded (the.Update a) → IfSome s (λ s. AreOfInstance s.attributes) → Words (update_at rules facts a s)
@@ -185,7 +185,7 @@ module _ (rules : Rules) (facts : Facts) where
               organization = words.organization;
               space = words.space;
               parameters = given_words IsObject s.attributes.parameters a.parameters words.parameters asked.4;
-              context = words.context;
+              context = choose IsObject (allows_context_updates rules s.attributes.service) _ _ (λ _. given_words IsObject s.attributes.context a.context words.context asked.3) (λ _. words.context);
             },
           ) empty_is_object)))
 
@@ -213,7 +213,7 @@ module _ (rules : Rules) (facts : Facts) where
       by : (b : Option BindingNow) → Words (bind_by rules facts s.attributes a b)
       by None =
           past (is_busy facts) _ _ tt (past (not (is_of_plan a s.attributes)) _ _ tt (past (not (is_bindable rules s.attributes.service s.attributes.plan)) _ _ tt
-          (opening (bind_opening rules s.attributes a) (asked.1, record { service = asked.2; plan = asked.3; app_guid = app_words a.app_guid asked.4; bind_resource = asked.5; parameters = asked.7; context = refl }) (good s.attributes.plan))))
+          (opening (bind_opening rules s.attributes a) (asked.1, record { service = asked.2; plan = asked.3; app_guid = app_words a.app_guid asked.4; bind_resource = asked.5; parameters = asked.7; context = asked.6 }) (good s.attributes.plan))))
       by (Some b) = quiet _ (bind_over_quiet b.phase _ b facts a)
 
       over : (p : InstancePhase) → Words (bind_in p rules facts s.attributes a)

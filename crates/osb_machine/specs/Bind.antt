@@ -13,7 +13,6 @@ use Rattle.osb_orders.specs.declared.view.BindingPhase.{BindingPhase}
 use Rattle.osb_orders.specs.declared.view.BindingPhase.TheVariants as binding_phase
 use Rattle.osb_orders.specs.declared.view.Standing.{Standing}
 use Rattle.osb_orders.specs.declared.view.BindingNow.{BindingNow}
-use Rattle.osb_orders.specs.Orders.{no_context}
 use Rattle.osb_orders.specs.Facts.{Facts}
 use Rattle.osb_machine.specs.Reaction.{Reaction, says, refuses, not_found, conflict}
 use Rattle.osb_machine.specs.Texts.{credentials_body}
@@ -21,9 +20,9 @@ use Rattle.osb_machine.specs.Plans.{is_bindable, bindings_run, plan_credentials}
 use Rattle.osb_machine.specs.Same.{app_guid_of, is_same_binding}
 use Rattle.osb_machine.specs.Opened.{Opening, opened, accepted, is_busy}
 
--- those of the request; a binding has no maintenance version, and its context isn't kept as yet
+-- those of the request; a binding has no maintenance version
 abbrev pub bound_attributes : Bind → Attributes
-bound_attributes ask = record { service = ask.service; plan = ask.plan; place = app_guid_of ask; spot = ask.bind_resource; parameters = ask.parameters; maintenance = []; context = no_context }
+bound_attributes ask = record { service = ask.service; plan = ask.plan; place = app_guid_of ask; spot = ask.bind_resource; parameters = ask.parameters; maintenance = []; context = ask.context }
 
 -- by the mode of the plan that the instance has
 abbrev pub bind_opening : Rules → Attributes → Bind → Opening

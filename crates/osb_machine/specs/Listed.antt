@@ -1,11 +1,11 @@
 -- The listing of running orders for the backend that carries them out: a compact JSON text whose names are in byte order.
 -- All of it is this project's own.
-use Rattle.std.specs.Prelude.{ℕ, Bool, true, false, ◌==◌, List, [], ◌∷◌, ◌++◌, length, codes, if◌then◌else◌}
+use Rattle.std.specs.Prelude.{ℕ, Bool, true, false, ◌==◌, List, [], ◌∷◌, ◌++◌, length, codes, bytes_eq, if◌then◌else◌}
 use Rattle.std.specs.Fmt.{decimal}
 use Rattle.json.specs.Print.{quoted}
 use Rattle.osb_replies.specs.declared.status.Status.TheVariants as status
 use Rattle.osb_orders.specs.declared.order.Order.{Order}
-use Rattle.osb_orders.specs.Orders.{is_about_binding, kind_text}
+use Rattle.osb_orders.specs.Orders.{is_about_binding, kind_text, no_context}
 use Rattle.osb_machine.specs.Reaction.{Reaction, says}
 use Rattle.osb_machine.specs.Texts.{joined}
 
@@ -13,9 +13,13 @@ use Rattle.osb_machine.specs.Texts.{joined}
 abbrev pub maintenance_member : List ℕ → List ℕ
 maintenance_member version = if length version == 0 then [] else joined (codes ",\"maintenance_version\":" ∷ quoted version ∷ [])
 
--- the members from `instance_id` to `maintenance_version`
+-- the context, where it has members
+abbrev pub context_member : List ℕ → List ℕ
+context_member context = if bytes_eq context no_context then [] else joined (codes "\"context\":" ∷ context ∷ codes "," ∷ [])
+
+-- the members from `context` to `maintenance_version`
 abbrev pub first_members : List ℕ → Order → List ℕ
-first_members id order = joined (codes "\"instance_id\":" ∷ quoted id ∷ codes ",\"kind\":\"" ∷ kind_text order.kind ∷ codes "\"" ∷ maintenance_member order.attributes.maintenance ∷ [])
+first_members id order = joined (context_member order.attributes.context ∷ codes "\"instance_id\":" ∷ quoted id ∷ codes ",\"kind\":\"" ∷ kind_text order.kind ∷ codes "\"" ∷ maintenance_member order.attributes.maintenance ∷ [])
 
 -- the members from `parameters` to `service_id`
 abbrev pub last_members : Order → List ℕ

@@ -9,16 +9,15 @@ use Rattle.osb_orders.specs.declared.order.Attributes.{Attributes}
 use Rattle.osb_orders.specs.declared.view.InstancePhase.{InstancePhase}
 use Rattle.osb_orders.specs.declared.view.InstancePhase.TheVariants as phase
 use Rattle.osb_orders.specs.declared.view.Standing.{Standing}
-use Rattle.osb_orders.specs.Orders.{no_context}
 use Rattle.osb_orders.specs.Facts.{Facts}
 use Rattle.osb_machine.specs.Reaction.{Reaction, refuses, done, conflict, empty_object}
 use Rattle.osb_machine.specs.Plans.{catalog_version, instances_run}
 use Rattle.osb_machine.specs.Same.{is_same_instance}
 use Rattle.osb_machine.specs.Opened.{Opening, opened, accepted, is_unlike}
 
--- those of the request, with the catalog's maintenance version; its context isn't kept as yet
+-- those of the request, with the catalog's maintenance version
 abbrev pub created_attributes : Rules → Provision → Attributes
-created_attributes rules ask = record { service = ask.service; plan = ask.plan; place = ask.organization; spot = ask.space; parameters = ask.parameters; maintenance = catalog_version rules ask.service ask.plan; context = no_context }
+created_attributes rules ask = record { service = ask.service; plan = ask.plan; place = ask.organization; spot = ask.space; parameters = ask.parameters; maintenance = catalog_version rules ask.service ask.plan; context = ask.context }
 
 abbrev pub creation : Rules → Provision → Opening
 creation rules ask = record {

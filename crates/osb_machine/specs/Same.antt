@@ -1,13 +1,13 @@
 -- When a request asks for what is there already (OSB API 2.17, "Provisioning" and "Binding": the same parameters; which
--- attributes count is this project's own, and contexts don't).
+-- attributes count is this project's own). The context counts for an update alone.
 use Rattle.std.specs.Prelude.{ℕ, Bool, ◌&&◌, List, [], bytes_eq, unwrap_or}
 use Rattle.osb_asks.specs.declared.ask.Provision.{Provision}
 use Rattle.osb_asks.specs.declared.ask.Bind.{Bind}
 use Rattle.osb_orders.specs.declared.order.Attributes.{Attributes}
 
--- equal in all but the context
+-- equal in all seven
 abbrev pub are_same : Attributes → Attributes → Bool
-are_same one other = bytes_eq one.service other.service && bytes_eq one.plan other.plan && bytes_eq one.place other.place && bytes_eq one.spot other.spot && bytes_eq one.parameters other.parameters && bytes_eq one.maintenance other.maintenance
+are_same one other = bytes_eq one.service other.service && bytes_eq one.plan other.plan && bytes_eq one.place other.place && bytes_eq one.spot other.spot && bytes_eq one.parameters other.parameters && bytes_eq one.maintenance other.maintenance && bytes_eq one.context other.context
 
 abbrev pub is_same_instance : Provision → Attributes → Bool
 is_same_instance ask there = bytes_eq ask.service there.service && bytes_eq ask.plan there.plan && bytes_eq ask.organization there.place && bytes_eq ask.space there.spot && bytes_eq ask.parameters there.parameters

@@ -3,7 +3,7 @@
 -- project's own).
 use Rattle.std.specs.Prelude.{ℕ, Bool, false, not, ◌&&◌, List, [], bytes_eq, Option, None, Some, unwrap_or, if◌then◌else◌}
 use Rattle.std.specs.Option.{option_map_or}
-use Rattle.osb_catalog.specs.Rules.{Rules}
+use Rattle.osb_catalog.specs.Rules.{Rules, allows_context_updates}
 use Rattle.osb_replies.specs.declared.status.Status.TheVariants as status
 use Rattle.osb_replies.specs.declared.fixed_error.FixedError.TheVariants.{ConcurrencyError, MaintenanceInfoConflict, Mismatch, NoPlanChange}
 use Rattle.osb_asks.specs.declared.ask.Update.{Update}
@@ -33,9 +33,13 @@ target_maintenance rules instance ask None =
     if bytes_eq (target_plan instance ask) instance.plan then instance.maintenance
     else catalog_version rules instance.service (target_plan instance ask)
 
--- what the instance is to have; its context stays
+-- the given context, where the service allows that; otherwise the one that it has
+abbrev pub target_context : Rules → Attributes → Update → List ℕ
+target_context rules instance ask = if allows_context_updates rules instance.service then unwrap_or ask.context instance.context else instance.context
+
+-- what the instance is to have
 abbrev pub target : Rules → Attributes → Update → Attributes
-target rules instance ask = record { service = instance.service; plan = target_plan instance ask; place = instance.place; spot = instance.spot; parameters = target_parameters instance ask; maintenance = target_maintenance rules instance ask ask.maintenance; context = instance.context }
+target rules instance ask = record { service = instance.service; plan = target_plan instance ask; place = instance.place; spot = instance.spot; parameters = target_parameters instance ask; maintenance = target_maintenance rules instance ask ask.maintenance; context = target_context rules instance ask }
 
 -- by the mode of the plan that the instance has
 abbrev pub update_opening : Rules → Attributes → Update → Attributes → Opening

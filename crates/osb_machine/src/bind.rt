@@ -143,6 +143,6 @@ fn bound_attributes(alloc: Global, ask: &Bind) -> Result<Attributes, AllocError>
         spot: Text::from_str(alloc, ask.bind_resource.as_str())?,
         parameters: Text::from_str(alloc, ask.parameters.as_str())?,
         maintenance: Text::new(alloc),
-        context: Text::from_str(alloc, "{}")?,
+        context: Text::from_str(alloc, ask.context.as_str())?,
     })
 }

@@ -1,7 +1,7 @@
 //! The listing of running orders.
 
 ghost use Rattle.std.specs.Prelude.{◌≡◌, IfOk, string_bytes};
-ghost use Rattle.osb_machine.specs.Listed.{maintenance_member, first_members, last_members, listed_of_binding, listed_of_instance, listed, listed_after, orders_body, orders};
+ghost use Rattle.osb_machine.specs.Listed.{maintenance_member, context_member, first_members, last_members, listed_of_binding, listed_of_instance, listed, listed_after, orders_body, orders};
 ghost use Rattle.osb_machine.specs.Steps.{reaction};
 
 use crate::step::Step;
@@ -80,14 +80,26 @@ fn listed_of_instance(alloc: Global, id: &Text, order: &Order) -> Result<String,
     )
 }
 
-/// From `instance_id` to `maintenance_version`.
+/// From `context` to `maintenance_version`.
 fn first_members(alloc: Global, id: &Text, order: &Order) -> Result<String, AllocError>
     ensures { IfOk result (λ s. string_bytes s ≡ first_members id.now order.now) }
 {
+    let context = context_member(alloc, &order.attributes.context)?;
     let instance = in_quotes(alloc, id)?;
     let kind = order.kind.as_str();
     let maintenance = maintenance_member(alloc, &order.attributes.maintenance)?;
-    format!(in alloc; "\"instance_id\":{instance},\"kind\":\"{kind}\"{maintenance}")
+    format!(in alloc; "{context}\"instance_id\":{instance},\"kind\":\"{kind}\"{maintenance}")
+}
+
+/// The context, where it has members.
+fn context_member(alloc: Global, context: &Text) -> Result<String, AllocError>
+    ensures { IfOk result (λ s. string_bytes s ≡ context_member context.now) }
+{
+    if context.as_str() == "{}" {
+        return Ok(String::new(alloc));
+    }
+    let text = context.as_str();
+    format!(in alloc; "\"context\":{text},")
 }
 
 /// The maintenance version, where it isn't empty.

@@ -107,6 +107,6 @@ fn created_attributes(
         spot: Text::from_str(alloc, ask.space.as_str())?,
         parameters: Text::from_str(alloc, ask.parameters.as_str())?,
         maintenance: Text::from_str(alloc, version)?,
-        context: Text::from_str(alloc, "{}")?,
+        context: Text::from_str(alloc, ask.context.as_str())?,
     })
 }

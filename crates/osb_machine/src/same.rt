@@ -6,7 +6,7 @@ ghost use Rattle.osb_machine.specs.Same.{are_same, is_same_instance, app_guid_of
 use osb_asks::{Bind, Provision};
 use osb_orders::Attributes;
 
-/// Equal in all but the context.
+/// Equal in all seven.
 pub(crate) fn are_same(one: &Attributes, other: &Attributes) -> bool
     ensures { result ≡ are_same one.now other.now }
 {
@@ -16,6 +16,7 @@ pub(crate) fn are_same(one: &Attributes, other: &Attributes) -> bool
         && one.spot == other.spot
         && one.parameters == other.parameters
         && one.maintenance == other.maintenance
+        && one.context == other.context
 }
 
 /// The instance that is asked for is the one that is there.

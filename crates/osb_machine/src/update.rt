@@ -4,7 +4,7 @@ ghost use Rattle.std.specs.Prelude.{◌≡◌, IfOk};
 ghost use Rattle.osb_catalog.specs.Rules.{rules_of};
 ghost use Rattle.osb_orders.specs.Facts.{facts};
 ghost use Rattle.osb_machine.specs.Opened.{opened};
-ghost use Rattle.osb_machine.specs.Update.{target_plan, target_parameters, target_maintenance, target, update_opening, forbids_change, update_ready, is_order_to, update_running, update_by, update_checked, update};
+ghost use Rattle.osb_machine.specs.Update.{target_plan, target_parameters, target_maintenance, target_context, target, update_opening, forbids_change, update_ready, is_order_to, update_running, update_by, update_checked, update};
 ghost use Rattle.osb_machine.specs.Steps.{reaction, opening_of};
 
 use crate::opening::{Opening, accepted, is_busy, is_unlike, open};
@@ -170,7 +170,7 @@ fn update_opening<'a>(
     })
 }
 
-/// What the instance is to have. Its context stays.
+/// What the instance is to have.
 fn target(
     alloc: Global,
     settings: &Settings,
@@ -186,7 +186,7 @@ fn target(
         spot: instance.spot.clone()?,
         parameters: Text::from_str(alloc, target_parameters(instance, ask))?,
         maintenance: Text::from_str(alloc, target_maintenance(settings, instance, ask))?,
-        context: instance.context.clone()?,
+        context: Text::from_str(alloc, target_context(settings, instance, ask))?,
     })
 }
 
@@ -205,6 +205,15 @@ fn target_parameters<'a>(instance: &'a Attributes, ask: &'a Update) -> &'a str
     match &ask.parameters {
         Some(parameters) => parameters.as_str(),
         None => instance.parameters.as_str(),
+    }
+}
+
+fn target_context<'a>(settings: &Settings, instance: &'a Attributes, ask: &'a Update) -> &'a str
+    ensures { result.now ≡ target_context (rules_of settings.now) instance.now ask.now }
+{
+    match &ask.context {
+        Some(context) if settings.context_updates(instance.service.as_str()) => context.as_str(),
+        _ => instance.context.as_str(),
     }
 }
 

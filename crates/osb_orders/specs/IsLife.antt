@@ -10,7 +10,7 @@ use Rattle.osb_orders.specs.declared.order.OrderState.TheVariants.{Running}
 use Rattle.osb_orders.specs.declared.order.Attributes.{Attributes}
 use Rattle.osb_orders.specs.declared.order.Order.{Order}
 use Rattle.osb_orders.specs.Lists.{last_of}
-use Rattle.osb_orders.specs.Orders.{is_a, is_now, is_about_binding, no_context}
+use Rattle.osb_orders.specs.Orders.{is_a, is_now, is_about_binding}
 use Rattle.osb_orders.specs.Life.{Life, since_birth}
 use Rattle.osb_orders.specs.Lives.{Lives}
 
@@ -38,26 +38,26 @@ abbrev pub IsLifeAfter : Life → Life → Type 0
 IsLifeAfter before [] = Unit {0}
 IsLifeAfter before (order ∷ later) = IsNext before order × IsLifeAfter (before ++ order ∷ []) later
 
--- the attributes of an instance; none has a context as yet
+-- the attributes of an instance
 pub record AreOfInstance (attributes : Attributes) : Type 0 where
   pub service : is_id attributes.service ≡ true
   pub plan : is_id attributes.plan ≡ true
   pub organization : is_id attributes.place ≡ true
   pub space : is_id attributes.spot ≡ true
   pub parameters : is_object_text attributes.parameters ≡ true
-  pub context : attributes.context ≡ no_context
+  pub context : is_object_text attributes.context ≡ true
 
 abbrev pub is_id_or_empty : List ℕ → Bool
 is_id_or_empty text = (length text == 0) || is_id text
 
--- the attributes of a binding; none has a context as yet
+-- the attributes of a binding
 pub record AreOfBinding (attributes : Attributes) : Type 0 where
   pub service : is_id attributes.service ≡ true
   pub plan : is_id attributes.plan ≡ true
   pub app_guid : is_id_or_empty attributes.place ≡ true
   pub bind_resource : is_object_text attributes.spot ≡ true
   pub parameters : is_object_text attributes.parameters ≡ true
-  pub context : attributes.context ≡ no_context
+  pub context : is_object_text attributes.context ≡ true
 
 -- the binding's id is empty but for orders about a binding
 abbrev pub AreWorded : Bool → List ℕ → Attributes → Type 0

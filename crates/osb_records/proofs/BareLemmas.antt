@@ -29,7 +29,7 @@ use Rattle.osb_audit.specs.Instances.{instance_cmp}
 use Rattle.osb_bare.specs.Bare.{bare_attributes, bare_order, bare_life, bare_standing, bare_row}
 use Rattle.osb_records.specs.Columns.{number_in, attributes_told}
 use Rattle.osb_records.specs.Instances.{instance_row, instance_row_told, instance_told, instance_cells, instance_phase_numbered, standing_told}
-use Rattle.osb_records.specs.Stored.{AreBare, AreBareRows, entry_told, order_cells, entries_in, instances_in, lives_stored}
+use Rattle.osb_records.specs.Stored.{AreBare, AreBareRows, entry_told, order_cells, entries_in, instances_in, lives_told}
 use Rattle.osb_records.proofs.LivesLemmas.{life_of_lives}
 
 -- ---- lists
@@ -118,12 +118,12 @@ last_bare : (order : Order) (later : List Order) → IsBare order → AllByRecur
 last_bare order [] it own = it
 last_bare order (next ∷ later) it own = last_bare next later own.0 own.1
 
-stored_orders_bare : (db : Trees) (id : List ℕ) → AllByRecursion IsBare (life_of (lives_stored db) id)
+stored_orders_bare : (db : Trees) (id : List ℕ) → AllByRecursion IsBare (life_of (lives_told db) id)
 stored_orders_bare db id = subst (AllByRecursion IsBare) (sym (life_of_lives id (entries_in db))) (orders_bare _ (all_filtered _ (is_of id) (entries_in db) (stored_bare db)))
 
 -- what ends the last order of a stored life has no context
-pub ended_bare : (db : Trees) (id : List ℕ) (number : ℕ) (outcome : Outcome) (order : Order) → order_written (last_of (life_of (lives_stored db) id)) (Finish number outcome) ≡ Some order → bare_order order ≡ order
-ended_bare db id number outcome order writes = go (life_of (lives_stored db) id) (stored_orders_bare db id) writes
+pub ended_bare : (db : Trees) (id : List ℕ) (number : ℕ) (outcome : Outcome) (order : Order) → order_written (last_of (life_of (lives_told db) id)) (Finish number outcome) ≡ Some order → bare_order order ≡ order
+ended_bare db id number outcome order writes = go (life_of (lives_told db) id) (stored_orders_bare db id) writes
   where
     same_some : {a b : Order} → ◌≡◌ {A = Option Order} (Some a) (Some b) → a ≡ b
     same_some is = cc
@@ -140,7 +140,7 @@ life_bare : (life : List Order) → AllByRecursion IsBare life → bare_life lif
 life_bare [] own = refl
 life_bare (order ∷ life) own = ap₂ (λ (first : Order) later. first ∷ later) own.0 (life_bare life own.1)
 
-pub stored_life_bare : (db : Trees) (id : List ℕ) → bare_life (life_of (lives_stored db) id) ≡ life_of (lives_stored db) id
+pub stored_life_bare : (db : Trees) (id : List ℕ) → bare_life (life_of (lives_told db) id) ≡ life_of (lives_told db) id
 stored_life_bare db id = life_bare _ (stored_orders_bare db id)
 
 -- the row of a bare life follows the order without its context

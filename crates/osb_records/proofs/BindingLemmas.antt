@@ -20,7 +20,7 @@ use Rattle.sqlite_value.proofs.OrderLemmas.{value_cmp-Text}
 use Rattle.sqlite_keyed.specs.Lists.{insert_sorted, update_where, delete_where}
 use Rattle.osb_orders.specs.declared.view.BindingNow.{BindingNow}
 use Rattle.osb_rows.specs.Rows.{Stores}
-use Rattle.osb_tables.specs.Tables.{binding_columns, record_schema}
+use Rattle.osb_tables.specs.Tables.{binding_columns, second_schema}
 use Rattle.osb_audit.specs.Instances.{InstanceEntry, instance_cmp}
 use Rattle.osb_records.specs.Instances.{instance_cells, instance_row}
 use Rattle.osb_audit.specs.declared.entry.BindingEntry.{BindingEntry}
@@ -28,7 +28,8 @@ use Rattle.osb_audit.specs.Bindings.{binding_entry, binding_now, binding_cmp, is
 use Rattle.osb_records.specs.Bindings.{binding_cells, binding_row, binding_phase_number}
 use Rattle.osb_records.specs.BindingRows.{binding_found, first_binding, with_binding}
 use Rattle.osb_audit.specs.Orders.{Entry, entry_cmp}
-use Rattle.osb_records.specs.Stored.{entry_row, order_cells, version_row, version_cells, entries_in, instances_in, bindings_in}
+use Rattle.osb_contexts.specs.Format.{version_row, version_cells}
+use Rattle.osb_records.specs.Stored.{entry_row, order_cells, entries_in, instances_in, bindings_in}
 use Rattle.osb_records.specs.Steps.{HasTables}
 use Rattle.osb_rows.proofs.AnswerLemmas.{one_answer}
 use Rattle.osb_records.proofs.SortLemmas.{binding_total, binding_back}
@@ -114,80 +115,84 @@ module _ (old new : State) (count : ℕ) (tables : HasTables old.now) (id : List
   bindings = bindings_in old.now.trees
 
   pub adds_binding : (binding : List ℕ) (row : BindingNow) → filter (is_binding id binding) bindings ≡ [] → Executes insert_binding (binding_row (binding_entry id (binding, row))) old new (Ok count)
-      → Gives new entries instances (insert_sorted binding_cmp (binding_entry id (binding, row)) bindings)
+      → Gives old new entries instances (insert_sorted binding_cmp (binding_entry id (binding, row)) bindings)
   adds_binding binding row none h =
       let entry = binding_entry id (binding, row) in
       let params = binding_row entry in
       let held = tables.holds in
-      let w = runs_as insert_binding params old new record_schema tables.schema _ insert_binding_is.0 insert_binding_is.1 count h in
-      let did = insert_does old.step_limit (mode_of old) params old.now new.now w.tally (statement_of insert_binding (understood record_schema insert_binding)) record_schema 3 (codes "bindings") 5 binding_columns (1 ∷ 2 ∷ []) ((1 ∷ 2 ∷ []) ∷ []) tables.schema refl (λ _ _. refl)
+      let w = runs_as insert_binding params old new second_schema tables.schema _ insert_binding_is.0 insert_binding_is.1 count h in
+      let did = insert_does old.step_limit (mode_of old) params old.now new.now w.tally (statement_of insert_binding (understood second_schema insert_binding)) second_schema 3 (codes "bindings") 5 binding_columns (1 ∷ 2 ∷ []) ((1 ∷ 2 ∷ []) ∷ []) tables.schema refl (λ _ _. refl)
       insert_binding_terms 10 params refl w.changed in (
         did.0,
         record {
-          format = subst (λ r. Stores version_cells version_row nat_cmp r (1 ∷ [])) (sym (did.1.tables.0 (λ e. absurd (omega (arith, e))))) held.format;
+          format = subst (λ r. Stores version_cells version_row nat_cmp r (2 ∷ [])) (sym (did.1.tables.0 (λ e. absurd (omega (arith, e))))) held.format;
           orders = subst (λ r. Stores order_cells entry_row entry_cmp r entries) (sym (did.1.tables.1.0 (λ e. absurd (omega (arith, e))))) held.orders;
           instances = subst (λ r. Stores instance_cells instance_row instance_cmp r instances) (sym (did.1.tables.1.1.0 (λ e. absurd (omega (arith, e))))) held.instances;
-          bindings = insert_stores record_schema _ old.now.trees new.now.trees (codes "bindings") 5 binding_columns (1 ∷ 2 ∷ []) ((1 ∷ 2 ∷ []) ∷ []) binding_cmp binding_total binding_cells binding_row entry bindings (λ _. refl) (cast_binding entry) (key_free id binding row bindings none) did.1 held.bindings;
+          bindings = insert_stores second_schema _ old.now.trees new.now.trees (codes "bindings") 5 binding_columns (1 ∷ 2 ∷ []) ((1 ∷ 2 ∷ []) ∷ []) binding_cmp binding_total binding_cells binding_row entry bindings (λ _. refl) (cast_binding entry) (key_free id binding row bindings none) did.1 held.bindings;
         },
         w.sound,
+        did.1.tables.1.1.1.1.0 (λ e. absurd (omega (arith, e))),
       )
 
-  pub updates_binding : (binding : List ℕ) (row : BindingNow) → Executes update_binding (binding_row (binding_entry id (binding, row))) old new (Ok count) → Gives new entries instances (update_where (is_binding id binding) (with_binding row) bindings)
+  pub updates_binding : (binding : List ℕ) (row : BindingNow) → Executes update_binding (binding_row (binding_entry id (binding, row))) old new (Ok count) → Gives old new entries instances (update_where (is_binding id binding) (with_binding row) bindings)
   updates_binding binding row h =
       let params = binding_row (binding_entry id (binding, row)) in
       let held = tables.holds in
-      let w = runs_as update_binding params old new record_schema tables.schema _ update_binding_is.0 update_binding_is.1 count h in
-      let did = update_does old.step_limit (mode_of old) params old.now new.now w.tally (statement_of update_binding (understood record_schema update_binding)) record_schema 3 (codes "bindings") 5 binding_columns (1 ∷ 2 ∷ []) ((1 ∷ 2 ∷ []) ∷ []) tables.schema refl (λ _ _. refl)
+      let w = runs_as update_binding params old new second_schema tables.schema _ update_binding_is.0 update_binding_is.1 count h in
+      let did = update_does old.step_limit (mode_of old) params old.now new.now w.tally (statement_of update_binding (understood second_schema update_binding)) second_schema 3 (codes "bindings") 5 binding_columns (1 ∷ 2 ∷ []) ((1 ∷ 2 ∷ []) ∷ []) tables.schema refl (λ _ _. refl)
       update_binding_query w.changed in
       let applied = did.2.1 in (
         did.2.0,
         record {
-          format = subst (λ r. Stores version_cells version_row nat_cmp r (1 ∷ [])) (sym (applied.tables.0 (λ e. absurd (omega (arith, e))))) held.format;
+          format = subst (λ r. Stores version_cells version_row nat_cmp r (2 ∷ [])) (sym (applied.tables.0 (λ e. absurd (omega (arith, e))))) held.format;
           orders = subst (λ r. Stores order_cells entry_row entry_cmp r entries) (sym (applied.tables.1.0 (λ e. absurd (omega (arith, e))))) held.orders;
           instances = subst (λ r. Stores instance_cells instance_row instance_cmp r instances) (sym (applied.tables.1.1.0 (λ e. absurd (omega (arith, e))))) held.instances;
-          bindings = update_stores record_schema _ old.now.trees new.now.trees (codes "bindings") 5 binding_columns (1 ∷ 2 ∷ []) ((1 ∷ 2 ∷ []) ∷ []) binding_cmp binding_total binding_cells binding_row (overlay old.now.trees []) refl params at_binding
+          bindings = update_stores second_schema _ old.now.trees new.now.trees (codes "bindings") 5 binding_columns (1 ∷ 2 ∷ []) ((1 ∷ 2 ∷ []) ∷ []) binding_cmp binding_total binding_cells binding_row (overlay old.now.trees []) refl params at_binding
               (is_binding id binding) (λ _. refl) (λ entry. rw (same_text entry.instance id, same_text entry.binding binding, and_true (bytes_eq entry.binding binding)) refl) (one_binding id binding) (with_binding row) (row_keeps (is_binding id binding) row) rebound_cells (λ _ _. refl)
               (λ stored entry is hits. rebound_row id binding row stored entry is) bindings did.0 did.1 held.bindings applied;
         },
         w.sound,
+        applied.tables.1.1.1.1.0 (λ e. absurd (omega (arith, e))),
       )
 
-  pub drops_binding : (binding : List ℕ) → Executes delete_binding (Text id ∷ Text binding ∷ []) old new (Ok count) → Gives new entries instances (delete_where (is_binding id binding) bindings)
+  pub drops_binding : (binding : List ℕ) → Executes delete_binding (Text id ∷ Text binding ∷ []) old new (Ok count) → Gives old new entries instances (delete_where (is_binding id binding) bindings)
   drops_binding binding h =
       let params = Text id ∷ Text binding ∷ [] in
       let held = tables.holds in
-      let w = runs_as delete_binding params old new record_schema tables.schema _ delete_binding_is.0 delete_binding_is.1 count h in
-      let did = delete_does old.step_limit (mode_of old) params old.now new.now w.tally (statement_of delete_binding (understood record_schema delete_binding)) record_schema 3 (codes "bindings") 5 binding_columns (1 ∷ 2 ∷ []) ((1 ∷ 2 ∷ []) ∷ []) tables.schema refl (λ _ _. refl)
+      let w = runs_as delete_binding params old new second_schema tables.schema _ delete_binding_is.0 delete_binding_is.1 count h in
+      let did = delete_does old.step_limit (mode_of old) params old.now new.now w.tally (statement_of delete_binding (understood second_schema delete_binding)) second_schema 3 (codes "bindings") 5 binding_columns (1 ∷ 2 ∷ []) ((1 ∷ 2 ∷ []) ∷ []) tables.schema refl (λ _ _. refl)
       delete_binding_query w.changed in
       let applied = did.2.1 in (
         did.2.0,
         record {
-          format = subst (λ r. Stores version_cells version_row nat_cmp r (1 ∷ [])) (sym (applied.tables.0 (λ e. absurd (omega (arith, e))))) held.format;
+          format = subst (λ r. Stores version_cells version_row nat_cmp r (2 ∷ [])) (sym (applied.tables.0 (λ e. absurd (omega (arith, e))))) held.format;
           orders = subst (λ r. Stores order_cells entry_row entry_cmp r entries) (sym (applied.tables.1.0 (λ e. absurd (omega (arith, e))))) held.orders;
           instances = subst (λ r. Stores instance_cells instance_row instance_cmp r instances) (sym (applied.tables.1.1.0 (λ e. absurd (omega (arith, e))))) held.instances;
-          bindings = delete_stores record_schema _ old.now.trees new.now.trees (codes "bindings") 5 binding_columns (1 ∷ 2 ∷ []) ((1 ∷ 2 ∷ []) ∷ []) binding_cmp binding_total binding_cells binding_row (overlay old.now.trees []) refl params at_binding
+          bindings = delete_stores second_schema _ old.now.trees new.now.trees (codes "bindings") 5 binding_columns (1 ∷ 2 ∷ []) ((1 ∷ 2 ∷ []) ∷ []) binding_cmp binding_total binding_cells binding_row (overlay old.now.trees []) refl params at_binding
               (is_binding id binding) (λ _. refl) (at_ids id binding []) bindings did.0 did.1 applied held.bindings;
         },
         w.sound,
+        applied.tables.1.1.1.1.0 (λ e. absurd (omega (arith, e))),
       )
 
-  pub drops_bindings : Executes delete_bindings (Text id ∷ []) old new (Ok count) → Gives new entries instances (delete_where (is_bound id) bindings)
+  pub drops_bindings : Executes delete_bindings (Text id ∷ []) old new (Ok count) → Gives old new entries instances (delete_where (is_bound id) bindings)
   drops_bindings h =
       let params = Text id ∷ [] in
       let held = tables.holds in
-      let w = runs_as delete_bindings params old new record_schema tables.schema _ delete_bindings_is.0 delete_bindings_is.1 count h in
-      let did = delete_does old.step_limit (mode_of old) params old.now new.now w.tally (statement_of delete_bindings (understood record_schema delete_bindings)) record_schema 3 (codes "bindings") 5 binding_columns (1 ∷ 2 ∷ []) ((1 ∷ 2 ∷ []) ∷ []) tables.schema refl (λ _ _. refl)
+      let w = runs_as delete_bindings params old new second_schema tables.schema _ delete_bindings_is.0 delete_bindings_is.1 count h in
+      let did = delete_does old.step_limit (mode_of old) params old.now new.now w.tally (statement_of delete_bindings (understood second_schema delete_bindings)) second_schema 3 (codes "bindings") 5 binding_columns (1 ∷ 2 ∷ []) ((1 ∷ 2 ∷ []) ∷ []) tables.schema refl (λ _ _. refl)
       delete_bindings_query w.changed in
       let applied = did.2.1 in (
         did.2.0,
         record {
-          format = subst (λ r. Stores version_cells version_row nat_cmp r (1 ∷ [])) (sym (applied.tables.0 (λ e. absurd (omega (arith, e))))) held.format;
+          format = subst (λ r. Stores version_cells version_row nat_cmp r (2 ∷ [])) (sym (applied.tables.0 (λ e. absurd (omega (arith, e))))) held.format;
           orders = subst (λ r. Stores order_cells entry_row entry_cmp r entries) (sym (applied.tables.1.0 (λ e. absurd (omega (arith, e))))) held.orders;
           instances = subst (λ r. Stores instance_cells instance_row instance_cmp r instances) (sym (applied.tables.1.1.0 (λ e. absurd (omega (arith, e))))) held.instances;
-          bindings = delete_stores record_schema _ old.now.trees new.now.trees (codes "bindings") 5 binding_columns (1 ∷ 2 ∷ []) ((1 ∷ 2 ∷ []) ∷ []) binding_cmp binding_total binding_cells binding_row (overlay old.now.trees []) refl params at_instance
+          bindings = delete_stores second_schema _ old.now.trees new.now.trees (codes "bindings") 5 binding_columns (1 ∷ 2 ∷ []) ((1 ∷ 2 ∷ []) ∷ []) binding_cmp binding_total binding_cells binding_row (overlay old.now.trees []) refl params at_instance
               (is_bound id) (λ _. refl) (at_id id []) bindings did.0 did.1 applied held.bindings;
         },
         w.sound,
+        applied.tables.1.1.1.1.0 (λ e. absurd (omega (arith, e))),
       )
 
 -- ---- the queries
@@ -212,7 +217,7 @@ module _ (old new : State) (tables : HasTables old.now) (id : List ℕ) where
   pub shows_binding : (binding : List ℕ) (rows : List Row) → Shown select_binding (Text id ∷ Text binding ∷ []) old new rows → first_binding rows ≡ binding_found id binding known
   shows_binding binding rows h =
       let params = Text id ∷ Text binding ∷ [] in
-      let read = reads_as select_binding params old new record_schema tables.schema _ select_binding_is.0 select_binding_is.2 select_binding_is.1 rows h in
+      let read = reads_as select_binding params old new second_schema tables.schema _ select_binding_is.0 select_binding_is.2 select_binding_is.1 rows h in
       ap first_binding (one_answer 5 at_binding binding_cells_read by_ids every (overlay old.now.trees []) params binding_cells binding_row binding_cmp binding_total (is_binding id binding)
       (λ _. refl) (λ _. refl) (at_ids id binding []) (λ a b less. by_both_ids a b ∙ less) known rows tables.holds.bindings (read.answer Null))
       ∙ found_told (filter (is_binding id binding) known)
@@ -220,7 +225,7 @@ module _ (old new : State) (tables : HasTables old.now) (id : List ℕ) where
   pub shows_bound : (rows : List Row) → Shown select_bound (Text id ∷ []) old new rows → (length rows == 0) ≡ not (list_any (is_bound id) known)
   shows_bound rows h =
       let params = Text id ∷ [] in
-      let read = reads_as select_bound params old new record_schema tables.schema _ select_bound_is.0 select_bound_is.2 select_bound_is.1 rows h in
+      let read = reads_as select_bound params old new second_schema tables.schema _ select_bound_is.0 select_bound_is.2 select_bound_is.1 rows h in
       ap (λ items. length items == 0) (one_answer 5 at_instance binding_cells_read by_ids one (overlay old.now.trees []) params binding_cells binding_row binding_cmp binding_total (is_bound id)
       (λ _. refl) (λ _. refl) (at_id id []) (λ a b less. by_both_ids a b ∙ less) known rows tables.holds.bindings (read.answer Null))
       ∙ any_first id known

@@ -11,7 +11,7 @@ use Rattle.sqlite_value.specs.Keys.{ascending}
 use Rattle.sqlite_tied.specs.Compute.{everything}
 use Rattle.sqlite.specs.Listing.{understood, reads_listing}
 use Rattle.sqlite.proofs.Callers.{IsPlain, command_of}
-use Rattle.osb_tables.specs.Tables.{record_schema}
+use Rattle.osb_tables.specs.Tables.{second_schema}
 use Rattle.osb_rows.proofs.AnswerLemmas.{over}
 use Rattle.osb_records.proofs.Texts.{every, is_at}
 
@@ -23,7 +23,7 @@ insert_binding = codes "INSERT INTO bindings (instance_id, binding_id, phase, se
 abbrev pub insert_binding_terms : List Term
 insert_binding_terms = lit Null ∷ col 0 0 ∷ col 0 1 ∷ col 0 2 ∷ col 0 3 ∷ col 0 4 ∷ col 0 5 ∷ col 0 6 ∷ col 0 7 ∷ col 0 8 ∷ []
 
-pub insert_binding_is : (command_of (understood record_schema insert_binding) ≡ Insert 3 (Values insert_binding_terms 10)) × IsPlain (understood record_schema insert_binding)
+pub insert_binding_is : (command_of (understood second_schema insert_binding) ≡ Insert 3 (Values insert_binding_terms 10)) × IsPlain (understood second_schema insert_binding)
 unfolding understood everything
 insert_binding_is = (refl, (refl, refl))
 
@@ -40,7 +40,7 @@ at_binding = is_at 1 0 ∷ is_at 2 1 ∷ []
 abbrev pub update_binding_query : Query
 update_binding_query = over 5 at_binding (col 1 0 ∷ col 1 0 ∷ rebound_cells) [] every
 
-pub update_binding_is : (command_of (understood record_schema update_binding) ≡ Update 3 (record { lets = []; body = update_binding_query })) × IsPlain (understood record_schema update_binding)
+pub update_binding_is : (command_of (understood second_schema update_binding) ≡ Update 3 (record { lets = []; body = update_binding_query })) × IsPlain (understood second_schema update_binding)
 unfolding understood everything
 update_binding_is = (refl, (refl, refl))
 
@@ -50,7 +50,7 @@ delete_binding = codes "DELETE FROM bindings WHERE instance_id = ?1 AND binding_
 abbrev pub delete_binding_query : Query
 delete_binding_query = over 5 at_binding (col 1 0 ∷ []) [] every
 
-pub delete_binding_is : (command_of (understood record_schema delete_binding) ≡ Delete 3 (record { lets = []; body = delete_binding_query })) × IsPlain (understood record_schema delete_binding)
+pub delete_binding_is : (command_of (understood second_schema delete_binding) ≡ Delete 3 (record { lets = []; body = delete_binding_query })) × IsPlain (understood second_schema delete_binding)
 unfolding understood everything
 delete_binding_is = (refl, (refl, refl))
 
@@ -63,7 +63,7 @@ at_instance = is_at 1 0 ∷ []
 abbrev pub delete_bindings_query : Query
 delete_bindings_query = over 5 at_instance (col 1 0 ∷ []) [] every
 
-pub delete_bindings_is : (command_of (understood record_schema delete_bindings) ≡ Delete 3 (record { lets = []; body = delete_bindings_query })) × IsPlain (understood record_schema delete_bindings)
+pub delete_bindings_is : (command_of (understood second_schema delete_bindings) ≡ Delete 3 (record { lets = []; body = delete_bindings_query })) × IsPlain (understood second_schema delete_bindings)
 unfolding understood everything
 delete_bindings_is = (refl, (refl, refl))
 
@@ -81,7 +81,7 @@ by_ids = (col 1 1, ascending Binary) ∷ (col 1 2, ascending Binary) ∷ []
 abbrev pub select_binding : List ℕ
 select_binding = codes "SELECT instance_id, binding_id, phase, service_id, plan_id, app_guid, bind_resource, params, credentials FROM bindings WHERE instance_id = ?1 AND binding_id = ?2 ORDER BY instance_id, binding_id"
 
-pub select_binding_is : (command_of (understood record_schema select_binding) ≡ Select (record { lets = []; body = over 5 at_binding binding_cells_read by_ids every }) binding_names) × (reads_listing record_schema select_binding ≡ false) × IsPlain (understood record_schema select_binding)
+pub select_binding_is : (command_of (understood second_schema select_binding) ≡ Select (record { lets = []; body = over 5 at_binding binding_cells_read by_ids every }) binding_names) × (reads_listing second_schema select_binding ≡ false) × IsPlain (understood second_schema select_binding)
 unfolding understood everything
 select_binding_is = (refl, refl, (refl, refl))
 
@@ -91,6 +91,6 @@ one = lit (Int (pos 1))
 abbrev pub select_bound : List ℕ
 select_bound = codes "SELECT instance_id, binding_id, phase, service_id, plan_id, app_guid, bind_resource, params, credentials FROM bindings WHERE instance_id = ?1 ORDER BY instance_id, binding_id LIMIT 1"
 
-pub select_bound_is : (command_of (understood record_schema select_bound) ≡ Select (record { lets = []; body = over 5 at_instance binding_cells_read by_ids one }) binding_names) × (reads_listing record_schema select_bound ≡ false) × IsPlain (understood record_schema select_bound)
+pub select_bound_is : (command_of (understood second_schema select_bound) ≡ Select (record { lets = []; body = over 5 at_instance binding_cells_read by_ids one }) binding_names) × (reads_listing second_schema select_bound ≡ false) × IsPlain (understood second_schema select_bound)
 unfolding understood everything
 select_bound_is = (refl, refl, (refl, refl))

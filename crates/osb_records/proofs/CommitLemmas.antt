@@ -1,12 +1,12 @@
 -- What a change writes, and what stands after it.
-use Rattle.std.proofs.Common.{◌≡◌, ℕ, ◌+◌, List, [], ◌∷◌, ◌++◌, length, Some, IsTrue, Ok, Err, Result, OnOk, refl, sym, ap, subst, ◌∙◌, arith}
+use Rattle.std.proofs.Common.{◌≡◌, ℕ, ◌+◌, List, [], ◌∷◌, ◌++◌, length, Some, refl, sym, ap, subst, ◌∙◌, arith}
 use Rattle.std.specs.Prelude.{IfSome}
 use Rattle.std.specs.List.{AllByRecursion}
 use Rattle.std.specs.Cmp.Lexicographic.{nat_list_cmp_total}
 use Rattle.std.specs.FinMap.{get, insert, get-insert}
+use Rattle.sqlite.specs.Tree.{Trees}
 use Rattle.sqlite.specs.Effect.{Database}
-use Rattle.sqlite.specs.State.{State, HasCleanDisk, IsUnchanged}
-use Rattle.sqlite.proofs.StateLemmas.{survives_weaker}
+use Rattle.sqlite.specs.State.{State, IsUnchanged}
 use Rattle.osb_orders.specs.declared.order.Outcome.{Outcome}
 use Rattle.osb_orders.specs.declared.order.Order.{Order}
 use Rattle.osb_orders.specs.declared.order.Change.{Change}
@@ -20,18 +20,13 @@ use Rattle.osb_orders.specs.IsLife.{IsNext, IsLifeAfter, IsWorded, IsLife, IsIns
 use Rattle.osb_orders.specs.Allowed.{IsFinishable}
 use Rattle.osb_standing.specs.Written.{order_written, IsWritten}
 use Rattle.osb_standing.proofs.ReadLemmas.{life_found}
-use Rattle.osb_records.specs.Stored.{content_in, lives_stored}
+use Rattle.osb_records.specs.Stored.{content_in, lives_told}
 use Rattle.osb_records.specs.Inside.{with_lives, Steps, Writes}
 use Rattle.osb_records.specs.Standing.{IsStanding}
-use Rattle.osb_records.specs.Steps.{stored, content, HoldsLives}
+use Rattle.osb_records.specs.Steps.{told, content}
 use Rattle.osb_records.proofs.TestLemmas.{bytes_itself}
 use Rattle.osb_records.proofs.LivesLemmas.{IsNumberedFrom, numbered, length_one_more, same_number_is, other_number, key_is}
-use Rattle.osb_bare.specs.Bare.{bare_order}
-use Rattle.osb_bare.proofs.WordLemmas.{change_is_bare}
-use Rattle.osb_records.specs.declared.fault.StoreFault.{StoreFault}
-use Rattle.osb_records.specs.Commit.{Commits}
-use Rattle.osb_records.specs.Transactions.{BecomesLives}
-use Rattle.osb_records.proofs.StepLemmas.{clean_before, within_then, within_later}
+use Rattle.osb_records.proofs.StepLemmas.{within_then, within_later}
 
 -- ---- the order that is written
 
@@ -66,13 +61,6 @@ append_written lives id order whole whole_after =
       writes = refl;
     }
 
--- what may be appended has no context as yet
-pub append_is_bare : (lives : Lives) (id : List ℕ) (order : Order) → IsLives lives → IsLives (lives_changed (Append order) id lives) → bare_order order ≡ order
-append_is_bare lives id order whole after = same (change_is_bare (life_of lives id) (Append order) (append_written lives id order whole after).allowed)
-  where
-    same : Append (bare_order order) ≡ Append order → bare_order order ≡ order
-    same is = cc
-
 pub finish_written : (lives : Lives) (id : List ℕ) (number : ℕ) (outcome : Outcome) (order : Order) → IsLives lives → IsFinishable (life_of lives id) number outcome → order_written (last_of (life_of lives id)) (Finish number outcome) ≡ Some order
     → IsWritten (life_of lives id) (Finish number outcome) order
 finish_written lives id number outcome order whole may writes = record { is_life = life_is lives id whole; allowed = may; writes = writes }
@@ -88,56 +76,37 @@ last_found lives id number whole is = last_numbered 0 number (life_of lives id) 
 
 -- ---- an order after the rows that it makes stand
 
-pub written_after : (first mid new : State) (id : List ℕ) (change : Change) → Steps first mid (with_lives (stored first) (content mid)) → IsStanding (with_lives (lives_changed change id (stored first)) (content mid))
-    → Steps mid new (with_lives (lives_changed change id (stored mid)) (content mid)) → Writes first new (lives_changed change id (stored first))
+pub written_after : (first mid new : State) (id : List ℕ) (change : Change) → Steps first mid (with_lives (told first) (content mid)) → IsStanding (with_lives (lives_changed change id (told first)) (content mid))
+    → Steps mid new (with_lives (lives_changed change id (told mid)) (content mid)) → Writes first new (lives_changed change id (told first))
 written_after first mid new id change rows standing order = record {
   within = within_then first mid new rows.within order.within;
   tables = order.tables;
   lives_are = lives;
   standing = subst IsStanding (sym is) standing;
   sound = order.sound;
+  contexts_kept = order.contexts_kept ∙ rows.contexts_kept;
 }
   where
-    lives : stored new ≡ lives_changed change id (stored first)
+    lives : told new ≡ lives_changed change id (told first)
     lives = order.lives_are ∙ ap (lives_changed change id) rows.lives_are
 
-    is : content new ≡ with_lives (lives_changed change id (stored first)) (content mid)
+    is : content new ≡ with_lives (lives_changed change id (told first)) (content mid)
     is = rw (lives, order.instances_are, order.bindings_are) refl
 
 -- the same, where the order was looked up first
-pub written_later : (first read mid new : State) (id : List ℕ) (order : Order) (change : Change) → IsUnchanged first read → IsWritten (life_of (stored first) id) change order → IsStanding (content first)
-    → Steps read mid (with_lives (stored read) (content mid)) → ((any : Change) → IsWritten (life_of (stored read) id) any order → IsStanding (content read) → IsStanding (with_lives (lives_changed any id (stored read)) (content mid)))
-    → Steps mid new (with_lives (lives_changed change id (stored mid)) (content mid)) → Writes first new (lives_changed change id (stored first))
+pub written_later : (first read mid new : State) (id : List ℕ) (order : Order) (change : Change) → IsUnchanged first read → IsWritten (life_of (told first) id) change order → IsStanding (content first)
+    → Steps read mid (with_lives (told read) (content mid)) → ((any : Change) → IsWritten (life_of (told read) id) any order → IsStanding (content read) → IsStanding (with_lives (lives_changed any id (told read)) (content mid)))
+    → Steps mid new (with_lives (lives_changed change id (told mid)) (content mid)) → Writes first new (lives_changed change id (told first))
 written_later first read mid new id order change same written standing rows stands ended =
     let trees : read.now.trees ≡ first.now.trees = ap (λ (d : Database). d.trees) same.0.now_is in
-    let stands_first = subst (λ db. (any : Change) → IsWritten (life_of (lives_stored db) id) any order → IsStanding (content_in db) → IsStanding (with_lives (lives_changed any id (lives_stored db)) (content mid))) trees stands in
-    let rows_first : Steps first mid (with_lives (stored first) (content mid)) = record {
+    let stands_first = subst (λ db. (any : Change) → IsWritten (life_of (lives_told db) id) any order → IsStanding (content_in db) → IsStanding (with_lives (lives_changed any id (lives_told db)) (content mid))) trees stands in
+    let rows_first : Steps first mid (with_lives (told first) (content mid)) = record {
       within = within_later first read mid same rows.within;
       tables = rows.tables;
-      lives_are = rows.lives_are ∙ ap lives_stored trees;
+      lives_are = rows.lives_are ∙ ap lives_told trees;
       instances_are = refl;
       bindings_are = refl;
       sound = rows.sound;
+      contexts_kept = rows.contexts_kept ∙ ap (λ (db : Trees). db 7) trees;
     } in
     written_after first mid new id change rows_first (stands_first change written standing) ended
-
--- the same lives in other words
-pub becomes_same : (old new : State) (result : Result (Unit {0}) StoreFault) (lives next : Lives) → (HasCleanDisk old → IsTrue old.is_open → lives ≡ next) → BecomesLives old new result lives → BecomesLives old new result next
-becomes_same old new result lives next same becomes = record {
-  ok = λ clean. go result (becomes.ok clean) (becomes.found_open clean) (before clean);
-  err = becomes.err;
-  was_open = becomes.was_open;
-  found_open = becomes.found_open;
-  durable = becomes.durable;
-  crash = survives_weaker old new (Commits old lives) (Commits old next) (λ clean db left.
-      let is = same (before clean) left.was_open in
-      record { was_open = left.was_open; whole = subst IsLives is left.whole; holds = subst (λ l. HoldsLives l db) is left.holds })
-      becomes.crash;
-}
-  where
-    before : HasCleanDisk new → HasCleanDisk old
-    before = clean_before old new _ becomes.crash
-
-    go : (r : Result (Unit {0}) StoreFault) → OnOk r (stored new ≡ lives) → OnOk r (IsTrue old.is_open) → HasCleanDisk old → OnOk r (stored new ≡ next)
-    go (Ok _) is live clean = is ∙ same clean live
-    go (Err _) is live clean = tt

@@ -1,31 +1,16 @@
 -- How the tables are made.
-use Rattle.std.proofs.Common.{◌≡◌, ℕ, pos, List, [], ◌∷◌, codes, false, None, Ok, refl, sym, ap, subst, ◌∙◌, arith}
-use Rattle.std.specs.Ordering.{nat_cmp}
-use Rattle.std.specs.declared.cmp.Ordering.{Ordering}
-use Rattle.std.proofs.lemmas.Cmp.{nat_cmp_total}
-use Rattle.std.proofs.lemmas.List.Sorted.{IsPermutation-refl}
-use Rattle.sqlite.specs.Order.{Row}
+use Rattle.std.proofs.Common.{◌≡◌, ℕ, [], ◌∷◌, false, None, Ok, sym, ap, subst, ◌∙◌}
 use Rattle.sqlite.specs.Schema.{Schema}
 use Rattle.sqlite.specs.Command.TheVariants.{CreateTable}
 use Rattle.sqlite.specs.Change.{created, next_tree, KeepsRows}
 use Rattle.sqlite.specs.Does.{Tally, lacks_sequence}
-use Rattle.sqlite.specs.Listing.{understood}
 use Rattle.sqlite.specs.Effect.{Database}
-use Rattle.sqlite.specs.State.{State, Writes, Executes, mode_of}
-use Rattle.sqlite.proofs.Callers.{statement_of, runs_as}
-use Rattle.osb_rows.specs.Rows.{Stores}
-use Rattle.osb_tables.specs.Tables.{format_table, format_columns, no_schema, format_schema, orders_schema, instances_schema, tables_schema, record_schema}
-use Rattle.osb_audit.specs.Instances.{instance_cmp}
-use Rattle.osb_records.specs.Instances.{instance_row, instance_cells}
-use Rattle.osb_audit.specs.Bindings.{binding_cmp}
-use Rattle.osb_records.specs.Bindings.{binding_row, binding_cells}
+use Rattle.sqlite.specs.State.{State, Writes, Executes}
+use Rattle.sqlite.proofs.Callers.{runs_as}
+use Rattle.osb_tables.specs.Tables.{format_table, no_schema, format_schema, orders_schema, instances_schema, tables_schema}
 use Rattle.osb_records.specs.Inside.{AreBlank}
-use Rattle.osb_audit.specs.Orders.{entry_cmp}
-use Rattle.osb_records.specs.Stored.{entry_row, order_cells, version_row, version_cells}
-use Rattle.osb_records.proofs.Texts.{create_format, create_format_is, create_format_plain, create_orders, create_orders_is, create_orders_plain, orders_made, orders_placed, create_instances, create_instances_is, create_instances_plain, instances_made, instances_placed, create_bindings, create_bindings_is, create_bindings_plain, bindings_made, bindings_placed, insert_version, insert_version_terms, insert_version_is}
-use Rattle.osb_rows.proofs.StatementLemmas.{went, same_value, insert_does}
-use Rattle.osb_rows.proofs.TableLemmas.{cast_int, insert_stores}
-use Rattle.osb_records.proofs.ChangeLemmas.{Gives}
+use Rattle.osb_records.proofs.Texts.{create_format, create_format_is, create_format_plain, create_orders, create_orders_is, create_orders_plain, orders_made, orders_placed, create_instances, create_instances_is, create_instances_plain, instances_made, instances_placed, create_bindings, create_bindings_is, create_bindings_plain, bindings_made, bindings_placed}
+use Rattle.osb_rows.proofs.StatementLemmas.{went, same_value}
 
 pub makes_format : (old new : State) (count : ℕ) → old.now.schema ≡ no_schema → AreBlank [] old.now.trees → Executes create_format [] old new (Ok count)
     → (new.now.schema ≡ format_schema) × AreBlank (0 ∷ []) new.now.trees
@@ -85,23 +70,3 @@ makes_bindings old new count has blank h =
     let now : new.now ≡ first.0 = ap (λ (p : Tally × Database). p.1) (same_value all.2) ∙ same_value (rw plain at first.2) in
     let others = subst (λ (s : Schema). KeepsRows s.tables old.now.trees first.0.trees) has made.others in
     (ap (λ (d : Database). d.schema) now ∙ schema, (ap (λ (d : Database). d.trees 5) now ∙ subst (λ s. first.0.trees (next_tree s) ≡ []) has made.empty, (ap (λ (d : Database). d.trees 3) now ∙ others.1.1.0 ∙ blank.0, (ap (λ (d : Database). d.trees 1) now ∙ others.1.0 ∙ blank.1.0, (ap (λ (d : Database). d.trees 0) now ∙ others.0 ∙ blank.1.1.0, tt)))))
-
--- a table without rows
-none_stored : {E : Type 0} (cells : Row → Row) (shown : E → Row) (cmp : E → E → Ordering) (rows : List Row) → rows ≡ [] → Stores cells shown cmp rows []
-none_stored cells shown cmp rows is = subst (λ r. Stores cells shown cmp r []) (sym is) (record { held = record { apart = tt; keyed = tt; same = IsPermutation-refl [] }; rising = tt })
-
-pub adds_version : (old new : State) (count : ℕ) → old.now.schema ≡ record_schema → AreBlank (5 ∷ 3 ∷ 1 ∷ 0 ∷ []) old.now.trees → Executes insert_version [] old new (Ok count) → Gives new [] [] []
-adds_version old new count has blank h =
-    let w = runs_as insert_version [] old new record_schema has _ insert_version_is.0 insert_version_is.1 count h in
-    let did = insert_does old.step_limit (mode_of old) [] old.now new.now w.tally (statement_of insert_version (understood record_schema insert_version)) record_schema 0 (codes "format") 0 format_columns [] [] has refl (λ _ _. refl)
-    insert_version_terms 2 (version_row 1) refl w.changed in
-    let others = did.1.tables in (
-      did.0,
-      record {
-        format = insert_stores record_schema _ old.now.trees new.now.trees (codes "format") 0 format_columns [] [] nat_cmp nat_cmp_total version_cells version_row 1 [] (λ _. refl) (rw (cast_int (pos 1)) refl) tt did.1 (none_stored version_cells version_row nat_cmp _ blank.1.1.1.0);
-        orders = none_stored order_cells entry_row entry_cmp _ (others.1.0 (λ e. absurd (omega (arith, e))) ∙ blank.1.1.0);
-        instances = none_stored instance_cells instance_row instance_cmp _ (others.1.1.0 (λ e. absurd (omega (arith, e))) ∙ blank.1.0);
-        bindings = none_stored binding_cells binding_row binding_cmp _ (others.1.1.1.0 (λ e. absurd (omega (arith, e))) ∙ blank.0);
-      },
-      w.sound,
-    )

@@ -33,7 +33,7 @@ use Rattle.osb_audit.specs.declared.entry.BindingEntry.{BindingEntry}
 use Rattle.osb_audit.specs.Bindings.{binding_entry, binding_now, binding_cmp, is_bound, is_binding, BindingsStand}
 use Rattle.osb_records.specs.BindingRows.{binding_found, with_binding, binding_put, bindings_edited, PutsBindings, FollowsOrder}
 use Rattle.osb_records.specs.Inside.{with_bindings, Steps}
-use Rattle.osb_records.specs.Stored.{lives_stored, instances_in, bindings_in}
+use Rattle.osb_records.specs.Stored.{lives_told, instances_in, bindings_in}
 use Rattle.osb_records.specs.Steps.{HasTables, content}
 use Rattle.osb_records.proofs.TestLemmas.{same_bytes, bytes_itself, text_itself}
 use Rattle.osb_records.proofs.SortLemmas.{binding_total}
@@ -333,10 +333,11 @@ module _ (old mid new : State) (id : List ℕ) (order : Order) (edit : BindingEd
     steps = record {
       within = within_later old mid new same steps.within;
       tables = steps.tables;
-      lives_are = steps.lives_are ∙ ap (λ (db : Database). lives_stored db.trees) now;
+      lives_are = steps.lives_are ∙ ap (λ (db : Database). lives_told db.trees) now;
       instances_are = steps.instances_are ∙ ap (λ (db : Database). instances_in db.trees) now;
       bindings_are = refl;
       sound = steps.sound;
+      contexts_kept = steps.contexts_kept ∙ ap (λ (db : Database). db.trees 7) now;
     };
     puts = rows_follow;
   }

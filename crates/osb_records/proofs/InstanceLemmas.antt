@@ -19,7 +19,7 @@ use Rattle.sqlite_value.proofs.OrderLemmas.{value_cmp-Text}
 use Rattle.sqlite_keyed.specs.Lists.{insert_sorted, update_where}
 use Rattle.osb_standing.specs.declared.row.InstanceRow.{InstanceRow}
 use Rattle.osb_rows.specs.Rows.{Stores}
-use Rattle.osb_tables.specs.Tables.{instance_columns, record_schema}
+use Rattle.osb_tables.specs.Tables.{instance_columns, second_schema}
 use Rattle.osb_audit.specs.Instances.{InstanceEntry, instance_cmp, is_instance, IsRowOf}
 use Rattle.osb_records.specs.Instances.{instance_row, instance_cells, instance_row_told, standing_number, attributes_shown, busy_number}
 use Rattle.osb_records.specs.Inside.{with_row}
@@ -29,7 +29,8 @@ use Rattle.osb_audit.specs.Bindings.{binding_cmp}
 use Rattle.osb_records.specs.Bindings.{binding_cells, binding_row}
 use Rattle.osb_audit.specs.Orders.{Entry, entry_cmp}
 use Rattle.osb_bare.specs.Bare.{bare_row}
-use Rattle.osb_records.specs.Stored.{AreBareRows, entry_row, order_cells, version_row, version_cells, entries_in, instances_in, bindings_in}
+use Rattle.osb_contexts.specs.Format.{version_row, version_cells}
+use Rattle.osb_records.specs.Stored.{AreBareRows, entry_row, order_cells, entries_in, instances_in, bindings_in}
 use Rattle.osb_records.specs.Steps.{HasTables}
 use Rattle.osb_rows.proofs.AnswerLemmas.{one_answer}
 use Rattle.osb_records.proofs.SortLemmas.{instance_total, row_told_back}
@@ -93,41 +94,43 @@ module _ (old new : State) (count : ℕ) (tables : HasTables old.now) (id : List
   abbrev bindings : List BindingEntry
   bindings = bindings_in old.now.trees
 
-  pub adds_instance : filter (is_instance id) instances ≡ [] → Executes insert_instance (instance_row (id, row)) old new (Ok count) → Gives new entries (insert_sorted instance_cmp (id, row) instances) bindings
+  pub adds_instance : filter (is_instance id) instances ≡ [] → Executes insert_instance (instance_row (id, row)) old new (Ok count) → Gives old new entries (insert_sorted instance_cmp (id, row) instances) bindings
   adds_instance none h =
       let params = instance_row (id, row) in
       let held = tables.holds in
-      let w = runs_as insert_instance params old new record_schema tables.schema _ insert_instance_is.0 insert_instance_is.1 count h in
-      let did = insert_does old.step_limit (mode_of old) params old.now new.now w.tally (statement_of insert_instance (understood record_schema insert_instance)) record_schema 2 (codes "instances") 3 instance_columns (1 ∷ []) ((1 ∷ []) ∷ []) tables.schema refl (λ _ _. refl)
+      let w = runs_as insert_instance params old new second_schema tables.schema _ insert_instance_is.0 insert_instance_is.1 count h in
+      let did = insert_does old.step_limit (mode_of old) params old.now new.now w.tally (statement_of insert_instance (understood second_schema insert_instance)) second_schema 2 (codes "instances") 3 instance_columns (1 ∷ []) ((1 ∷ []) ∷ []) tables.schema refl (λ _ _. refl)
       insert_instance_terms 11 params refl w.changed in (
         did.0,
         record {
-          format = subst (λ r. Stores version_cells version_row nat_cmp r (1 ∷ [])) (sym (did.1.tables.0 (λ e. absurd (omega (arith, e))))) held.format;
+          format = subst (λ r. Stores version_cells version_row nat_cmp r (2 ∷ [])) (sym (did.1.tables.0 (λ e. absurd (omega (arith, e))))) held.format;
           orders = subst (λ r. Stores order_cells entry_row entry_cmp r entries) (sym (did.1.tables.1.0 (λ e. absurd (omega (arith, e))))) held.orders;
-          instances = insert_stores record_schema _ old.now.trees new.now.trees (codes "instances") 3 instance_columns (1 ∷ []) ((1 ∷ []) ∷ []) instance_cmp instance_total instance_cells instance_row (id, row) instances (λ _. refl) (cast_row (id, row)) (key_free id row instances none) did.1 held.instances;
+          instances = insert_stores second_schema _ old.now.trees new.now.trees (codes "instances") 3 instance_columns (1 ∷ []) ((1 ∷ []) ∷ []) instance_cmp instance_total instance_cells instance_row (id, row) instances (λ _. refl) (cast_row (id, row)) (key_free id row instances none) did.1 held.instances;
           bindings = subst (λ r. Stores binding_cells binding_row binding_cmp r bindings) (sym (did.1.tables.1.1.1.0 (λ e. absurd (omega (arith, e))))) held.bindings;
         },
         w.sound,
+        did.1.tables.1.1.1.1.0 (λ e. absurd (omega (arith, e))),
       )
 
-  pub updates_instance : Executes update_instance (instance_row (id, row)) old new (Ok count) → Gives new entries (update_where (is_instance id) (with_row row) instances) bindings
+  pub updates_instance : Executes update_instance (instance_row (id, row)) old new (Ok count) → Gives old new entries (update_where (is_instance id) (with_row row) instances) bindings
   updates_instance h =
       let params = instance_row (id, row) in
       let held = tables.holds in
-      let w = runs_as update_instance params old new record_schema tables.schema _ update_instance_is.0 update_instance_is.1 count h in
-      let did = update_does old.step_limit (mode_of old) params old.now new.now w.tally (statement_of update_instance (understood record_schema update_instance)) record_schema 2 (codes "instances") 3 instance_columns (1 ∷ []) ((1 ∷ []) ∷ []) tables.schema refl (λ _ _. refl)
+      let w = runs_as update_instance params old new second_schema tables.schema _ update_instance_is.0 update_instance_is.1 count h in
+      let did = update_does old.step_limit (mode_of old) params old.now new.now w.tally (statement_of update_instance (understood second_schema update_instance)) second_schema 2 (codes "instances") 3 instance_columns (1 ∷ []) ((1 ∷ []) ∷ []) tables.schema refl (λ _ _. refl)
       update_instance_query w.changed in
       let applied = did.2.1 in (
         did.2.0,
         record {
-          format = subst (λ r. Stores version_cells version_row nat_cmp r (1 ∷ [])) (sym (applied.tables.0 (λ e. absurd (omega (arith, e))))) held.format;
+          format = subst (λ r. Stores version_cells version_row nat_cmp r (2 ∷ [])) (sym (applied.tables.0 (λ e. absurd (omega (arith, e))))) held.format;
           orders = subst (λ r. Stores order_cells entry_row entry_cmp r entries) (sym (applied.tables.1.0 (λ e. absurd (omega (arith, e))))) held.orders;
-          instances = update_stores record_schema _ old.now.trees new.now.trees (codes "instances") 3 instance_columns (1 ∷ []) ((1 ∷ []) ∷ []) instance_cmp instance_total instance_cells instance_row (overlay old.now.trees []) refl params (is_at 1 0 ∷ [])
+          instances = update_stores second_schema _ old.now.trees new.now.trees (codes "instances") 3 instance_columns (1 ∷ []) ((1 ∷ []) ∷ []) instance_cmp instance_total instance_cells instance_row (overlay old.now.trees []) refl params (is_at 1 0 ∷ [])
               (is_instance id) (λ _. refl) (λ entry. rw (same_text entry.0 id) (and_true _)) (one_id id) (with_row row) (row_keeps (is_instance id) row) updated_cells (λ _ _. refl)
               (λ stored entry is hits. updated_row id row stored entry is) instances did.0 did.1 held.instances applied;
           bindings = subst (λ r. Stores binding_cells binding_row binding_cmp r bindings) (sym (applied.tables.1.1.1.0 (λ e. absurd (omega (arith, e))))) held.bindings;
         },
         w.sound,
+        applied.tables.1.1.1.1.0 (λ e. absurd (omega (arith, e))),
       )
 
 -- ---- the query
@@ -157,7 +160,7 @@ pub shows_instance : (old new : State) (tables : HasTables old.now) (id : List �
 shows_instance old new tables id rows h =
     let params = Text id ∷ [] in
     let instances = instances_in old.now.trees in
-    let read = reads_as select_instance params old new record_schema tables.schema _ select_instance_is.0 select_instance_is.2 select_instance_is.1 rows h in
+    let read = reads_as select_instance params old new second_schema tables.schema _ select_instance_is.0 select_instance_is.2 select_instance_is.1 rows h in
     one_row id instances rows (instances_bare old.now.trees)
     (one_answer 3 (is_at 1 0 ∷ []) instance_cells_read by_instance every (overlay old.now.trees []) params instance_cells instance_row instance_cmp instance_total (is_instance id)
     (λ _. refl) (λ _. refl) (at_id id []) (λ a b less. by_id a b ∙ less) instances rows tables.holds.instances (read.answer Null))

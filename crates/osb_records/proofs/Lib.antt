@@ -30,6 +30,6 @@ pub mod WholeLemmas
 pub mod TableReads
 pub mod OpenedLemmas
 pub mod PlanLemmas
-pub mod IndexLemmas
+pub mod ContextLemmas
 pub mod NoRowLemmas
 pub mod ReadsLemmas

@@ -25,12 +25,12 @@ use Rattle.osb_standing.specs.declared.row.InstanceRow.{InstanceRow}
 use Rattle.osb_standing.specs.Rows.{row_of}
 use Rattle.osb_standing.specs.Listing.{with_row, with_order, is_listed, instance_rows}
 use Rattle.osb_standing.specs.Laws.{ListedByRows}
-use Rattle.osb_tables.specs.Tables.{record_schema}
+use Rattle.osb_tables.specs.Tables.{second_schema}
 use Rattle.osb_audit.specs.Instances.{InstanceEntry, instance_cmp, is_instance, InstancesStand}
 use Rattle.osb_records.specs.Instances.{instance_cells, instance_row, busy_number}
-use Rattle.osb_records.specs.Stored.{instances_in, lives_stored}
+use Rattle.osb_records.specs.Stored.{instances_in, lives_told}
 use Rattle.osb_records.specs.Queries.{ShowsRecords, busy_row, order_for}
-use Rattle.osb_records.specs.Steps.{HasTables, stored}
+use Rattle.osb_records.specs.Steps.{HasTables, told}
 use Rattle.osb_rows.proofs.AnswerLemmas.{one_answer}
 use Rattle.osb_records.proofs.InstanceLemmas.{by_id}
 use Rattle.osb_records.proofs.LivesLemmas.{key_is}
@@ -54,7 +54,7 @@ pub shows_busy : (old new : State) (tables : HasTables old.now) (after : List �
     → rows ≡ map busy_row (take limit (filter (is_listed after) (instances_in old.now.trees)))
 shows_busy old new tables after limit rows h =
     let params = Text after ∷ Int (pos limit) ∷ [] in
-    let read = reads_as select_busy params old new record_schema tables.schema _ select_busy_is.0 select_busy_is.2 select_busy_is.1 rows h in
+    let read = reads_as select_busy params old new second_schema tables.schema _ select_busy_is.0 select_busy_is.2 select_busy_is.1 rows h in
     one_answer 3 busy_tests busy_cells by_instance (col 0 1) (overlay old.now.trees []) params instance_cells instance_row instance_cmp instance_total (is_listed after)
     (λ _. refl) (λ _. refl) (at_busy after (Int (pos limit) ∷ [])) (λ a b less. by_id a b ∙ less) (instances_in old.now.trees) rows tables.holds.instances (read.answer Null)
     ∙ take-map busy_row limit _
@@ -191,7 +191,7 @@ pub record HasListed (old now : State) (rows : List Row) (count : ℕ) (found : 
   pub survives : Survives old now (λ _. ⊥)
   pub was_open : HasCleanDisk now → IsTrue now.is_open → IsTrue old.is_open
   pub same : HasCleanDisk now → IsTrue old.is_open → IsUnchanged old now
-  pub named : HasCleanDisk now → IsTrue old.is_open → map Some found ≡ map (order_for (stored old)) (take count rows)
+  pub named : HasCleanDisk now → IsTrue old.is_open → map Some found ≡ map (order_for (told old)) (take count rows)
 
 pub none_listed : (s : State) (rows : List Row) (found : List (List ℕ × Order)) → found ≡ [] → ShowsRecords s → HasListed s s rows 0 found
 none_listed s rows found none shows = record {
@@ -203,7 +203,7 @@ none_listed s rows found none shows = record {
 }
 
 pub next_listed : (old now next : State) (rows : List Row) (at : ℕ) (row : Row) (found more : List (List ℕ × Order)) (pair : List ℕ × Order) → HasListed old now rows at found → Survives now next (λ _. ⊥)
-    → (HasCleanDisk next → IsUnchanged now next) → ShowsRecords next → (HasCleanDisk next → Some pair ≡ order_for (stored now) row) → at < length rows → row ≡ get_or rows at row → more ≡ found ++ pair ∷ [] → HasListed old next rows (at + 1) more
+    → (HasCleanDisk next → IsUnchanged now next) → ShowsRecords next → (HasCleanDisk next → Some pair ≡ order_for (told now) row) → at < length rows → row ≡ get_or rows at row → more ≡ found ++ pair ∷ [] → HasListed old next rows (at + 1) more
 next_listed old now next rows at row found more pair so_far survives same shows tells low is grown = record {
   shows = shows;
   survives = survives_then old now next (λ _. ⊥) (λ _. ⊥) (λ _. ⊥) (λ _ db none. none) (λ _ db none. none) so_far.survives survives;
@@ -211,6 +211,6 @@ next_listed old now next rows at row found more pair so_far survives same shows 
   same = λ clean live. unchanged_then old now next (so_far.same (clean_before now next _ survives clean) live) (same clean);
   named = λ clean live.
       let before = clean_before now next _ survives clean in
-      told_more Some (order_for (stored old)) rows at row found more pair low is (so_far.named before live)
-      (tells clean ∙ ap (λ (d : Database). order_for (lives_stored d.trees) row) (so_far.same before live).0.now_is) grown;
+      told_more Some (order_for (told old)) rows at row found more pair low is (so_far.named before live)
+      (tells clean ∙ ap (λ (d : Database). order_for (lives_told d.trees) row) (so_far.same before live).0.now_is) grown;
 }

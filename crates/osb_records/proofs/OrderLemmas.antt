@@ -15,10 +15,10 @@ use Rattle.osb_orders.specs.Lists.{last_of}
 use Rattle.osb_orders.specs.Orders.{kind_number}
 use Rattle.osb_orders.specs.Lives.{life_of}
 use Rattle.osb_orders.specs.Named.{order_numbered}
-use Rattle.osb_tables.specs.Tables.{record_schema}
+use Rattle.osb_tables.specs.Tables.{second_schema}
 use Rattle.osb_audit.specs.Orders.{Entry, entry_cmp, is_of}
 use Rattle.osb_records.specs.Stored.{AreBare, entry_row, order_cells, entries_in}
-use Rattle.osb_records.specs.Steps.{HasTables, stored}
+use Rattle.osb_records.specs.Steps.{HasTables, told}
 use Rattle.osb_records.specs.Queries.{first_order, is_kind_of}
 use Rattle.osb_records.proofs.TestLemmas.{is_keyed, same_text, same_number, and_true, at_key}
 use Rattle.osb_records.proofs.SortLemmas.{entry_total, entry_told_back}
@@ -95,20 +95,20 @@ module _ (old new : State) (tables : HasTables old.now) where
   entries = entries_in old.now.trees
 
   -- the last order of a kind about a binding, or about the instance
-  pub shows_last : (id binding : List ℕ) (kind : OrderKind) (rows : List Row) → Shown select_last (Text id ∷ Text binding ∷ Int (pos (kind_number kind)) ∷ []) old new rows → first_order rows ≡ last_of (filter (is_kind_of binding kind) (life_of (stored old) id))
+  pub shows_last : (id binding : List ℕ) (kind : OrderKind) (rows : List Row) → Shown select_last (Text id ∷ Text binding ∷ Int (pos (kind_number kind)) ∷ []) old new rows → first_order rows ≡ last_of (filter (is_kind_of binding kind) (life_of (told old) id))
   shows_last id binding kind rows h =
       let params = Text id ∷ Text binding ∷ Int (pos (kind_number kind)) ∷ [] in
       let passes = is_kind_of binding kind in
-      let read = reads_as select_last params old new record_schema tables.schema _ select_last_is.0 select_last_is.2 select_last_is.1 rows h in
+      let read = reads_as select_last params old new second_schema tables.schema _ select_last_is.0 select_last_is.2 select_last_is.1 rows h in
       ap first_order (one_answer 1 last_tests all_cells by_key_back one (overlay old.now.trees []) params order_cells entry_row (flip_args entry_cmp) (back_total entry_total) (is_of_with id passes)
       (λ _. refl) (λ _. refl) (at_last id binding kind) (λ a b less. by_both b a ∙ less) (back entries) rows (stores_back order_cells entry_row entry_cmp _ entries tables.holds.orders) (read.answer Null))
       ∙ last_of_those id passes entries (stored_bare old.now.trees)
       ∙ ap (λ life. last_of (filter passes life)) (sym (life_of_lives id entries))
 
-  pub shows_order : (id : List ℕ) (number : ℕ) (rows : List Row) → Shown select_order (Text id ∷ Int (pos number) ∷ []) old new rows → first_order rows ≡ order_numbered number (life_of (stored old) id)
+  pub shows_order : (id : List ℕ) (number : ℕ) (rows : List Row) → Shown select_order (Text id ∷ Int (pos number) ∷ []) old new rows → first_order rows ≡ order_numbered number (life_of (told old) id)
   shows_order id number rows h =
       let params = Text id ∷ Int (pos number) ∷ [] in
-      let read = reads_as select_order params old new record_schema tables.schema _ select_order_is.0 select_order_is.2 select_order_is.1 rows h in
+      let read = reads_as select_order params old new second_schema tables.schema _ select_order_is.0 select_order_is.2 select_order_is.1 rows h in
       ap first_order (one_answer 1 order_tests all_cells by_key every (overlay old.now.trees []) params order_cells entry_row entry_cmp entry_total (is_keyed id number)
       (λ _. refl) (λ _. refl) (at_key id number []) (λ a b less. by_both a b ∙ less) entries rows tables.holds.orders (read.answer Null))
       ∙ found_first id number entries (stored_bare old.now.trees)

@@ -9,13 +9,13 @@ use Rattle.sqlite_value.specs.declared.keys.Key.{Key}
 use Rattle.sqlite_tied.specs.Compute.{everything}
 use Rattle.sqlite.specs.Listing.{understood, reads_listing}
 use Rattle.sqlite.proofs.Callers.{IsPlain, command_of}
-use Rattle.osb_tables.specs.Tables.{record_schema}
+use Rattle.osb_tables.specs.Tables.{second_schema}
 use Rattle.osb_rows.proofs.AnswerLemmas.{over}
 use Rattle.osb_records.proofs.Texts.{all_cells, all_names, by_key, every, is_at}
 
 -- what is known of a query's text
 abbrev pub Reads : List ℕ → Query → Type 0
-Reads text query = (command_of (understood record_schema text) ≡ Select (record { lets = []; body = query }) all_names) × (reads_listing record_schema text ≡ false) × IsPlain (understood record_schema text)
+Reads text query = (command_of (understood second_schema text) ≡ Select (record { lets = []; body = query }) all_names) × (reads_listing second_schema text ≡ false) × IsPlain (understood second_schema text)
 
 abbrev falling : Key
 falling = record { collation = Binary; descending = true }

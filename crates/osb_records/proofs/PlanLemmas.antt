@@ -3,21 +3,21 @@ use Rattle.std.proofs.Common.{◌≡◌, ℕ, ◌≤◌, List, length, sym, subs
 use Rattle.std.specs.List.Sorted.{IsStrictlySortedBy}
 use Rattle.sqlite.specs.State.{State}
 use Rattle.osb_audit.specs.Instances.{InstanceEntry, instance_cmp, InstancesStand}
-use Rattle.osb_tables.specs.Tables.{record_schema}
+use Rattle.osb_tables.specs.Tables.{second_schema}
 use Rattle.osb_records.specs.Queries.{AreRecords, ShowsRecords}
-use Rattle.osb_records.specs.Inside.{ShowsSchema}
-use Rattle.osb_records.specs.Steps.{content, stored}
+use Rattle.osb_contexts.specs.Inside.{ShowsSchema}
+use Rattle.osb_records.specs.Steps.{content, told}
 use Rattle.osb_records.proofs.OpenedLemmas.{rises}
 
-pub records_schema : (s : State) → ShowsRecords s → ShowsSchema record_schema s
+pub records_schema : (s : State) → ShowsRecords s → ShowsSchema second_schema s
 records_schema s shows clean live = (shows clean live).tables.schema
 
 module _ (s : State) (records : AreRecords s.now) (instances : List InstanceEntry) (are : instances ≡ (content s).instances) where
   pub rows_rise : IsStrictlySortedBy instance_cmp instances
   rows_rise = subst (IsStrictlySortedBy instance_cmp) (sym are) (rises instance_cmp (content s).instances records.tables.holds.instances.rising)
 
-  pub rows_stand : InstancesStand (stored s) instances
-  rows_stand = subst (InstancesStand (stored s)) (sym are) records.standing.instances
+  pub rows_stand : InstancesStand (told s) instances
+  rows_stand = subst (InstancesStand (told s)) (sym are) records.standing.instances
 
 pub just_enough : {A : Type 0} (items : List A) (limit : ℕ) → limit ≡ length items → length items ≤ limit
 just_enough items limit is = omega (arith, is)

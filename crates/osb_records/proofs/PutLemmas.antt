@@ -20,7 +20,7 @@ use Rattle.osb_standing.specs.Written.{IsWritten}
 use Rattle.osb_audit.specs.Instances.{InstanceEntry, instance_cmp, is_instance, IsRowOf, InstancesStand}
 use Rattle.osb_records.specs.Inside.{with_row, with_instances, Puts, Steps, PutsInstance}
 use Rattle.sqlite.specs.Tree.{Trees}
-use Rattle.osb_records.specs.Stored.{instances_in, lives_stored}
+use Rattle.osb_records.specs.Stored.{instances_in, lives_told}
 use Rattle.osb_records.specs.Steps.{HasTables, content}
 use Rattle.osb_records.proofs.TestLemmas.{same_bytes, bytes_itself, bytes_back}
 use Rattle.osb_records.proofs.SortLemmas.{instance_total}
@@ -74,6 +74,7 @@ module _ (old new : State) (id : List ℕ) (row : InstanceRow) where
       instances_are = refl;
       bindings_are = steps.bindings_are;
       sound = steps.sound;
+      contexts_kept = steps.contexts_kept;
     };
     puts = subst (Puts id row (content old).instances) (sym steps.instances_are) puts;
   }
@@ -126,9 +127,9 @@ one_found id a b instances p q = sym (back a) ∙ ap first_row (sym p ∙ q) ∙
 
 -- the row that was put is that of the changed life
 pub written_stands : (id : List ℕ) (order : Order) (row : InstanceRow) (found : Option InstanceRow) (first read last : Trees) (after : List InstanceEntry) → read ≡ first → last ≡ read → IsRowOf id found (instances_in first)
-    → ((change : Change) → IsWritten (life_of (lives_stored read) id) change order → found ≡ row_of (life_of (lives_stored read) id) → row_of (changed change (life_of (lives_stored read) id)) ≡ Some row)
-    → Puts id row (instances_in last) after → (change : Change) → IsWritten (life_of (lives_stored first) id) change order → InstancesStand (lives_stored first) (instances_in first) → InstancesStand (lives_changed change id (lives_stored first)) after
+    → ((change : Change) → IsWritten (life_of (lives_told read) id) change order → found ≡ row_of (life_of (lives_told read) id) → row_of (changed change (life_of (lives_told read) id)) ≡ Some row)
+    → Puts id row (instances_in last) after → (change : Change) → IsWritten (life_of (lives_told first) id) change order → InstancesStand (lives_told first) (instances_in first) → InstancesStand (lives_changed change id (lives_told first)) after
 written_stands id order row found first read last after is-read is-last shows follows puts change written stood =
-    let told = one_found id found (row_of (life_of (lives_stored first) id)) (instances_in first) shows (stood id) in
-    let next = subst (λ trees. (change : Change) → IsWritten (life_of (lives_stored trees) id) change order → found ≡ row_of (life_of (lives_stored trees) id) → row_of (changed change (life_of (lives_stored trees) id)) ≡ Some row) is-read follows in
-    instances_stand (lives_stored first) id change order row (instances_in first) after written (next change written told) (subst (λ trees. Puts id row (instances_in trees) after) (is-last ∙ is-read) puts) stood
+    let told = one_found id found (row_of (life_of (lives_told first) id)) (instances_in first) shows (stood id) in
+    let next = subst (λ trees. (change : Change) → IsWritten (life_of (lives_told trees) id) change order → found ≡ row_of (life_of (lives_told trees) id) → row_of (changed change (life_of (lives_told trees) id)) ≡ Some row) is-read follows in
+    instances_stand (lives_told first) id change order row (instances_in first) after written (next change written told) (subst (λ trees. Puts id row (instances_in trees) after) (is-last ∙ is-read) puts) stood

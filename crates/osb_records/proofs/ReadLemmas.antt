@@ -6,7 +6,7 @@ use Rattle.sqlite.specs.Tree.{Trees}
 use Rattle.osb_orders.specs.declared.order.Order.{Order}
 use Rattle.osb_orders.specs.Lives.{life_of}
 use Rattle.osb_audit.specs.Orders.{Entry, is_of}
-use Rattle.osb_records.specs.Stored.{AreBare, entry_row, order_told, entries_in, lives_stored}
+use Rattle.osb_records.specs.Stored.{AreBare, entry_row, order_told, entries_in, lives_told}
 use Rattle.osb_records.proofs.SortLemmas.{entry_told_back}
 use Rattle.osb_records.proofs.BareLemmas.{all_filtered, stored_bare}
 use Rattle.osb_records.proofs.LivesLemmas.{life_of_lives}
@@ -16,7 +16,7 @@ told_orders [] bare = refl
 told_orders (entry ∷ entries) bare = ap₂ (λ (order : Order) orders. order ∷ orders) (ap (λ (e : Entry). e.1) (entry_told_back entry bare.0)) (told_orders entries bare.1)
 
 -- the rows of an instance tell its life
-pub life_told : (id : List ℕ) (db : Trees) (rows : List Row) → rows ≡ map entry_row (filter (is_of id) (entries_in db)) → map order_told rows ≡ life_of (lives_stored db) id
+pub life_told : (id : List ℕ) (db : Trees) (rows : List Row) → rows ≡ map entry_row (filter (is_of id) (entries_in db)) → map order_told rows ≡ life_of (lives_told db) id
 life_told id db rows is =
     let entries = entries_in db in
     ap (map order_told) is ∙ told_orders (filter (is_of id) entries) (all_filtered _ (is_of id) entries (stored_bare db)) ∙ sym (life_of_lives id entries)

@@ -14,7 +14,7 @@ use Rattle.sqlite_resolve.specs.declared.compiled.Compiled.{Compiled}
 use Rattle.sqlite_schema.specs.declared.command.Returning.{Returning}
 use Rattle.sqlite.specs.State.{State, Shown, ShowsRows, IsUnchanged}
 use Rattle.sqlite.proofs.Callers.{IsPlain, reads_as}
-use Rattle.osb_tables.specs.Tables.{record_schema}
+use Rattle.osb_tables.specs.Tables.{second_schema}
 use Rattle.osb_audit.specs.Orders.{Entry, entry_cmp, is_of}
 use Rattle.osb_records.specs.Stored.{entry_row, order_cells, entries_in}
 use Rattle.osb_records.specs.Steps.{HasTables}
@@ -57,6 +57,6 @@ module _ (old new : State) (tables : HasTables old.now) where
   pub shows_life : (id : List ℕ) (rows : List Row) → Shown select_life (Text id ∷ []) old new rows → rows ≡ map entry_row (filter (is_of id) entries)
   shows_life id rows h =
       let params = Text id ∷ [] in
-      let read = reads_as select_life params old new record_schema tables.schema _ select_life_is.0 select_life_is.2 select_life_is.1 rows h in
+      let read = reads_as select_life params old new second_schema tables.schema _ select_life_is.0 select_life_is.2 select_life_is.1 rows h in
       one_answer 1 (is_at 1 0 ∷ []) all_cells by_key every (overlay old.now.trees []) params order_cells entry_row entry_cmp entry_total (is_of id)
       (λ _. refl) (λ _. refl) (at_instance id []) (λ a b less. by_both a b ∙ less) entries rows tables.holds.orders (read.answer Null)

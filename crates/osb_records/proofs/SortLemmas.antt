@@ -26,6 +26,7 @@ use Rattle.osb_orders.specs.declared.view.BindingPhase.TheVariants.{Binding, Bou
 use Rattle.osb_orders.specs.Orders.{kind_number, state_number}
 use Rattle.osb_bare.specs.Bare.{bare_attributes, bare_order, bare_standing, bare_row}
 use Rattle.osb_rows.specs.Rows.{Stores}
+use Rattle.osb_contexts.specs.Format.{version_row}
 use Rattle.osb_records.specs.Columns.{number_in}
 use Rattle.osb_records.specs.Stored.{AreBare, AreBareRows}
 use Rattle.osb_audit.specs.Instances.{InstanceEntry, instance_cmp}
@@ -34,7 +35,7 @@ use Rattle.osb_audit.specs.declared.entry.BindingEntry.{BindingEntry}
 use Rattle.osb_audit.specs.Bindings.{binding_cmp}
 use Rattle.osb_records.specs.Bindings.{binding_row, binding_told, binding_cells, binding_phase_number, binding_phase_numbered}
 use Rattle.osb_audit.specs.Orders.{Entry, entry_cmp}
-use Rattle.osb_records.specs.Stored.{Holds, HoldsEntries, version_row, entry_row, entry_told, order_cells, kind_numbered, state_numbered, entries_in, instances_in, bindings_in}
+use Rattle.osb_records.specs.Stored.{Holds, HoldsEntries, entry_row, entry_told, order_cells, kind_numbered, state_numbered, entries_in, instances_in, bindings_in}
 use Rattle.osb_rows.proofs.RowLemmas.{ascending_permuted, untied_back}
 
 pub entry_total : IsTotalOrder entry_cmp
@@ -160,6 +161,6 @@ instances_are db entries own h = sort_is instance_cmp instance_total instance_ce
 pub bindings_are : (db : Trees) (entries : List BindingEntry) → Stores binding_cells binding_row binding_cmp (db 5) entries → bindings_in db ≡ entries
 bindings_are db entries h = sort_is binding_cmp binding_total binding_cells binding_row binding_told (db 5) entries (bindings_told entries) h
 
-module _ (db : Trees) (entries : List Entry) (instances : List InstanceEntry) (bindings : List BindingEntry) (bare : AreBare entries) (bare_rows : AreBareRows instances) (h : Holds entries instances bindings db) where
-  pub held_again : HoldsEntries db
+module _ (version : ℕ) (db : Trees) (entries : List Entry) (instances : List InstanceEntry) (bindings : List BindingEntry) (bare : AreBare entries) (bare_rows : AreBareRows instances) (h : Holds version entries instances bindings db) where
+  pub held_again : HoldsEntries version db
   held_again = rw (entries_are db entries bare h.orders, instances_are db instances bare_rows h.instances, bindings_are db bindings h.bindings) h

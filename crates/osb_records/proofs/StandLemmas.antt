@@ -14,7 +14,7 @@ use Rattle.osb_records.specs.Inside.{with_lives, with_instances, Steps}
 use Rattle.osb_audit.specs.Bindings.{BindingsStand, AllBindingsStand}
 use Rattle.osb_audit.specs.Instances.{InstancesStand}
 use Rattle.osb_records.specs.Standing.{IsStanding}
-use Rattle.osb_records.specs.Steps.{content, stored}
+use Rattle.osb_records.specs.Steps.{content, told}
 use Rattle.osb_records.proofs.TestLemmas.{same_bytes}
 use Rattle.osb_records.proofs.PutLemmas.{life_changed}
 use Rattle.osb_records.proofs.StepLemmas.{within_then}
@@ -32,7 +32,7 @@ bindings_stand lives id change order before after written puts stood other = go 
         subst (λ (l : Life). BindingsStand other l after) (sym life) (puts.others other is ∙ stood other)
 
 module _ (first mid new : State) (id : List ℕ) (order : Order) (instance : Steps first mid (with_instances (content mid).instances (content first))) (bindings : FollowsOrder mid new id order) where
-  pub both_written : Steps first new (with_lives (stored first) (content new))
+  pub both_written : Steps first new (with_lives (told first) (content new))
   both_written = record {
     within = within_then first mid new instance.within bindings.steps.within;
     tables = bindings.steps.tables;
@@ -40,13 +40,14 @@ module _ (first mid new : State) (id : List ℕ) (order : Order) (instance : Ste
     instances_are = refl;
     bindings_are = refl;
     sound = bindings.steps.sound;
+    contexts_kept = bindings.steps.contexts_kept ∙ instance.contexts_kept;
   }
 
-  pub both_stand : (change : Change) → IsWritten (life_of (stored first) id) change order → IsStanding (content first) → InstancesStand (lives_changed change id (stored first)) (content mid).instances
-      → IsStanding (with_lives (lives_changed change id (stored first)) (content new))
+  pub both_stand : (change : Change) → IsWritten (life_of (told first) id) change order → IsStanding (content first) → InstancesStand (lives_changed change id (told first)) (content mid).instances
+      → IsStanding (with_lives (lives_changed change id (told first)) (content new))
   both_stand change written stood instances = record {
-    instances = subst (InstancesStand (lives_changed change id (stored first))) (sym bindings.steps.instances_are) instances;
-    bindings = bindings_stand (stored first) id change order (content mid).bindings (content new).bindings written
-        (bindings.puts (life_of (stored first) id) change written (subst (BindingsStand id (life_of (stored first) id)) (sym instance.bindings_are) (stood.bindings id)))
-        (subst (AllBindingsStand (stored first)) (sym instance.bindings_are) stood.bindings);
+    instances = subst (InstancesStand (lives_changed change id (told first))) (sym bindings.steps.instances_are) instances;
+    bindings = bindings_stand (told first) id change order (content mid).bindings (content new).bindings written
+        (bindings.puts (life_of (told first) id) change written (subst (BindingsStand id (life_of (told first) id)) (sym instance.bindings_are) (stood.bindings id)))
+        (subst (AllBindingsStand (told first)) (sym instance.bindings_are) stood.bindings);
   }

@@ -4,8 +4,8 @@ use Rattle.sqlite.specs.declared.types.Value.TheVariants.{Null, Int}
 use Rattle.sqlite.specs.Query.{Query}
 use Rattle.sqlite.specs.Term.{Term, lit, col}
 use Rattle.sqlite.specs.Source.TheVariants.{Values}
-use Rattle.sqlite.specs.Command.TheVariants.{Insert, Select, Update, CreateTable, CreateIndex}
-use Rattle.sqlite.specs.Compile.{table_defined_by, index_defined_by}
+use Rattle.sqlite.specs.Command.TheVariants.{Insert, Select, Update, CreateTable}
+use Rattle.sqlite.specs.Compile.{table_defined_by}
 use Rattle.sqlite_sql.specs.Term.{op2}
 use Rattle.sqlite_sql.specs.declared.ops.BinaryOp.TheVariants.{Compare}
 use Rattle.sqlite_sql.specs.declared.ops.CompareOp.TheVariants.{Eq, Gt}
@@ -15,12 +15,10 @@ use Rattle.sqlite_value.specs.Keys.{ascending}
 use Rattle.sqlite_tied.specs.Compute.{everything}
 use Rattle.sqlite.specs.Listing.{understood, reads_listing}
 use Rattle.sqlite.proofs.Callers.{IsPlain, command_of, statement_of}
-use Rattle.osb_tables.specs.Tables.{format_table, orders_table, instances_table, busy_index, subject_index, no_schema, format_schema, orders_schema, instances_schema, tables_schema, listed_schema, record_schema, plain_table, order_columns, instance_columns, binding_columns}
+use Rattle.osb_tables.specs.Tables.{format_table, no_schema, format_schema, orders_schema, instances_schema, tables_schema, second_schema, plain_table, order_columns, instance_columns, binding_columns}
 use Rattle.osb_rows.proofs.AnswerLemmas.{over}
 use Rattle.sqlite.specs.Change.{created}
 use Rattle.sqlite.specs.Table.{Table}
-use Rattle.sqlite.specs.Schema.{Schema}
-use Rattle.sqlite_schema.specs.declared.schema.Index.{Index}
 
 -- no LIMIT
 abbrev pub every : Term
@@ -100,34 +98,6 @@ pub bindings_placed : created instances_schema bindings_made ≡ tables_schema
 unfolding everything
 bindings_placed = refl
 
--- what is known of a text that makes an index on the table at this place
-abbrev pub MakesOn : List ℕ → Schema → ℕ → Table → Index → Type 0
-MakesOn text before place table index = (command_of (understood before text) ≡ CreateIndex place) × (statement_of text (understood before text) ≡ text) × (index_defined_by table text ≡ Ok index) × IsPlain (understood before text)
-
-abbrev pub create_busy_index : List ℕ
-create_busy_index = codes "CREATE INDEX busy_instances ON instances (busy, instance_id)"
-
-pub create_busy_index_is : MakesOn create_busy_index tables_schema 2 instances_table busy_index
-unfolding understood everything
-create_busy_index_is = (refl, refl, refl, (refl, refl))
-
-abbrev pub create_subject_index : List ℕ
-create_subject_index = codes "CREATE INDEX subject_orders ON orders (instance_id, binding_id, kind, seq)"
-
-pub create_subject_index_is : MakesOn create_subject_index listed_schema 1 orders_table subject_index
-unfolding understood everything
-create_subject_index_is = (refl, refl, refl, (refl, refl))
-
-abbrev pub insert_version : List ℕ
-insert_version = codes "INSERT INTO format (version) VALUES (1)"
-
-abbrev pub insert_version_terms : List Term
-insert_version_terms = lit Null ∷ lit (Int (pos 1)) ∷ []
-
-pub insert_version_is : (command_of (understood record_schema insert_version) ≡ Insert 0 (Values insert_version_terms 2)) × IsPlain (understood record_schema insert_version)
-unfolding understood everything
-insert_version_is = (refl, (refl, refl))
-
 -- ---- changes
 
 abbrev pub insert_order : List ℕ
@@ -136,7 +106,7 @@ insert_order = codes "INSERT INTO orders (instance_id, seq, kind, binding_id, se
 abbrev pub insert_order_terms : List Term
 insert_order_terms = lit Null ∷ col 0 0 ∷ col 0 1 ∷ col 0 2 ∷ col 0 3 ∷ col 0 4 ∷ col 0 5 ∷ col 0 6 ∷ col 0 7 ∷ col 0 8 ∷ col 0 9 ∷ col 0 10 ∷ col 0 11 ∷ col 0 12 ∷ []
 
-pub insert_order_is : (command_of (understood record_schema insert_order) ≡ Insert 1 (Values insert_order_terms 14)) × IsPlain (understood record_schema insert_order)
+pub insert_order_is : (command_of (understood second_schema insert_order) ≡ Insert 1 (Values insert_order_terms 14)) × IsPlain (understood second_schema insert_order)
 unfolding understood everything
 insert_order_is = (refl, (refl, refl))
 
@@ -150,7 +120,7 @@ finished_cells = col 1 1 ∷ col 1 2 ∷ col 1 3 ∷ col 1 4 ∷ col 1 5 ∷ col
 abbrev pub finish_query : Query
 finish_query = over 1 (is_at 1 0 ∷ is_at 2 1 ∷ []) (col 1 0 ∷ col 1 0 ∷ finished_cells) [] every
 
-pub finish_order_is : (command_of (understood record_schema finish_order) ≡ Update 1 (record { lets = []; body = finish_query })) × IsPlain (understood record_schema finish_order)
+pub finish_order_is : (command_of (understood second_schema finish_order) ≡ Update 1 (record { lets = []; body = finish_query })) × IsPlain (understood second_schema finish_order)
 unfolding understood everything
 finish_order_is = (refl, (refl, refl))
 
@@ -160,7 +130,7 @@ insert_instance = codes "INSERT INTO instances (instance_id, phase, busy, last_s
 abbrev pub insert_instance_terms : List Term
 insert_instance_terms = lit Null ∷ col 0 0 ∷ col 0 1 ∷ col 0 2 ∷ col 0 3 ∷ col 0 4 ∷ col 0 5 ∷ col 0 6 ∷ col 0 7 ∷ col 0 8 ∷ col 0 9 ∷ []
 
-pub insert_instance_is : (command_of (understood record_schema insert_instance) ≡ Insert 2 (Values insert_instance_terms 11)) × IsPlain (understood record_schema insert_instance)
+pub insert_instance_is : (command_of (understood second_schema insert_instance) ≡ Insert 2 (Values insert_instance_terms 11)) × IsPlain (understood second_schema insert_instance)
 unfolding understood everything
 insert_instance_is = (refl, (refl, refl))
 
@@ -174,7 +144,7 @@ updated_cells = col 1 1 ∷ col 0 1 ∷ col 0 2 ∷ col 0 3 ∷ col 0 4 ∷ col 
 abbrev pub update_instance_query : Query
 update_instance_query = over 3 (is_at 1 0 ∷ []) (col 1 0 ∷ col 1 0 ∷ updated_cells) [] every
 
-pub update_instance_is : (command_of (understood record_schema update_instance) ≡ Update 2 (record { lets = []; body = update_instance_query })) × IsPlain (understood record_schema update_instance)
+pub update_instance_is : (command_of (understood second_schema update_instance) ≡ Update 2 (record { lets = []; body = update_instance_query })) × IsPlain (understood second_schema update_instance)
 unfolding understood everything
 update_instance_is = (refl, (refl, refl))
 
@@ -195,7 +165,7 @@ select_life = codes "SELECT instance_id, seq, kind, binding_id, service_id, plan
 abbrev pub life_query : Query
 life_query = over 1 (is_at 1 0 ∷ []) all_cells by_key every
 
-pub select_life_is : (command_of (understood record_schema select_life) ≡ Select (record { lets = []; body = life_query }) all_names) × (reads_listing record_schema select_life ≡ false) × IsPlain (understood record_schema select_life)
+pub select_life_is : (command_of (understood second_schema select_life) ≡ Select (record { lets = []; body = life_query }) all_names) × (reads_listing second_schema select_life ≡ false) × IsPlain (understood second_schema select_life)
 unfolding understood everything
 select_life_is = (refl, refl, (refl, refl))
 
@@ -214,7 +184,7 @@ by_instance = (col 1 1, ascending Binary) ∷ []
 abbrev pub instance_query : Query
 instance_query = over 3 (is_at 1 0 ∷ []) instance_cells_read by_instance every
 
-pub select_instance_is : (command_of (understood record_schema select_instance) ≡ Select (record { lets = []; body = instance_query }) instance_names) × (reads_listing record_schema select_instance ≡ false) × IsPlain (understood record_schema select_instance)
+pub select_instance_is : (command_of (understood second_schema select_instance) ≡ Select (record { lets = []; body = instance_query }) instance_names) × (reads_listing second_schema select_instance ≡ false) × IsPlain (understood second_schema select_instance)
 unfolding understood everything
 select_instance_is = (refl, refl, (refl, refl))
 
@@ -230,6 +200,6 @@ busy_cells = col 1 1 ∷ col 1 4 ∷ []
 abbrev pub busy_query : Query
 busy_query = over 3 busy_tests busy_cells by_instance (col 0 1)
 
-pub select_busy_is : (command_of (understood record_schema select_busy) ≡ Select (record { lets = []; body = busy_query }) (codes "instance_id" ∷ codes "last_seq" ∷ [])) × (reads_listing record_schema select_busy ≡ false) × IsPlain (understood record_schema select_busy)
+pub select_busy_is : (command_of (understood second_schema select_busy) ≡ Select (record { lets = []; body = busy_query }) (codes "instance_id" ∷ codes "last_seq" ∷ [])) × (reads_listing second_schema select_busy ≡ false) × IsPlain (understood second_schema select_busy)
 unfolding understood everything
 select_busy_is = (refl, refl, (refl, refl))

@@ -9,14 +9,14 @@ use Rattle.sqlite_tied.specs.Compute.{everything}
 use Rattle.sqlite_value.specs.declared.keys.Collation.TheVariants.{Binary}
 use Rattle.sqlite_value.specs.declared.keys.Key.{Key}
 use Rattle.sqlite_value.specs.Keys.{ascending}
-use Rattle.osb_tables.specs.Tables.{record_schema}
+use Rattle.osb_tables.specs.Tables.{second_schema}
 use Rattle.osb_rows.proofs.AnswerLemmas.{over}
 use Rattle.osb_records.proofs.Texts.{all_cells, all_names, by_key, instance_cells_read, instance_names, by_instance, every}
 use Rattle.osb_records.proofs.BindingTexts.{binding_cells_read, binding_names, by_ids}
 
 -- the text is a query of these columns over this tree
 abbrev pub IsQuery : List ℕ → Query → List (List ℕ) → Type 0
-IsQuery text query names = (command_of (understood record_schema text) ≡ Select (record { lets = []; body = query }) names) × (reads_listing record_schema text ≡ false) × IsPlain (understood record_schema text)
+IsQuery text query names = (command_of (understood second_schema text) ≡ Select (record { lets = []; body = query }) names) × (reads_listing second_schema text ≡ false) × IsPlain (understood second_schema text)
 
 abbrev pub by_rowid : List (Term × Key)
 by_rowid = (col 1 0, ascending Binary) ∷ []

@@ -1,6 +1,6 @@
 -- What the statements do to the lives.
 use Rattle.std.proofs.Common.{◌≡◌, ◌≢◌, ℕ, pos, List, [], ◌∷◌, map, length, true, false, true≢false, Ok, Err, Result, OnOk, IsTrue, ◌<◌, refl, sym, ap, subst, ◌∙◌, arith}
-use Rattle.std.specs.List.{AllByRecursion}
+use Rattle.std.specs.List.{AllByRecursion, flat_map}
 use Rattle.std.specs.FinMap.{empty, entries as rows_of, get-empty, len-entries, len-empty}
 use Rattle.std.specs.Prelude.{IfSome, unwrap_or}
 use Rattle.std.specs.Option.{option_to_list}
@@ -24,13 +24,14 @@ use Rattle.osb_audit.specs.Instances.{InstanceEntry}
 use Rattle.osb_audit.specs.declared.entry.BindingEntry.{BindingEntry}
 use Rattle.osb_audit.specs.Bindings.{binding_entry}
 use Rattle.osb_audit.specs.Orders.{Entry, entry_cmp, lives_in}
+use Rattle.osb_joined.specs.Contexts.{contexts_of, contexts_of_instance}
 use Rattle.osb_records.specs.Stored.{Content, entry_row, entries_in, instances_in, bindings_in}
 use Rattle.osb_standing.specs.declared.row.InstanceRow.{InstanceRow}
 use Rattle.osb_orders.specs.declared.view.BindingNow.{BindingNow}
 use Rattle.osb_standing.specs.Rows.{row_of, bindings_of}
 use Rattle.osb_records.specs.Standing.{IsStanding}
-use Rattle.osb_records.specs.Steps.{HasTables, IsReady, stored, content}
-use Rattle.osb_records.specs.Inside.{Steps, Writes}
+use Rattle.osb_records.specs.Steps.{HasTables, IsReady, told}
+use Rattle.osb_records.proofs.StepLemmas.{IsKept, ready_of}
 use Rattle.osb_records.proofs.Texts.{insert_order, finish_order}
 use Rattle.osb_records.proofs.TestLemmas.{is_keyed, entry_ended}
 use Rattle.osb_records.proofs.ChangeLemmas.{Gives, adds_order, ends_order}
@@ -46,38 +47,27 @@ no_bindings id = none _ (sym (len-entries empty) ∙ len-empty (slice_cmp nat_cm
     none [] e = refl
     none (row ∷ rows) e = absurd (omega (arith, e))
 
+pub no_contexts_of : contexts_of empty ≡ []
+no_contexts_of = none _ (sym (len-entries empty) ∙ len-empty (slice_cmp nat_cmp) Life)
+  where
+    none : (instances : List (List ℕ × Life)) → length instances ≡ 0 → flat_map (λ (instance : List ℕ × Life). contexts_of_instance instance.0 instance.1) instances ≡ []
+    none [] e = refl
+    none (instance ∷ instances) e = absurd (omega (arith, e))
+
 -- the content of new tables
-abbrev no_content : Content
+abbrev pub no_content : Content
 no_content = record { lives = empty; instances = []; bindings = [] }
 
 -- tables without rows stand for no lives
-no_standing : IsStanding no_content
+pub no_standing : IsStanding no_content
 no_standing = record {
   instances = λ id. ap (λ found. map (λ (row : InstanceRow). (id, row)) (option_to_list (row_of (unwrap_or found [])))) (sym (get-empty (slice_cmp nat_cmp) id));
   bindings = λ id. sym (ap (λ found. map (binding_entry id) (rows_of (bindings_of (unwrap_or found [])))) (get-empty (slice_cmp nat_cmp) id) ∙ no_bindings id);
 }
 
-pub writes_nothing : (old new : State) → Steps old new no_content → Writes old new empty
-writes_nothing old new steps = record {
-  within = steps.within;
-  tables = steps.tables;
-  lives_are = steps.lives_are;
-  standing = subst IsStanding (sym is) no_standing;
-  sound = steps.sound;
-}
-  where
-    is : content new ≡ no_content
-    is = rw (steps.lives_are, steps.instances_are, steps.bindings_are) refl
-
 -- the tables that were made are ready
-pub made_ready : (new : State) (r : Result (Unit {0}) Error) → new.in_transaction ≡ false → (HasCleanDisk new → IsTrue new.is_open → OnOk r (HasTables new.now × (stored new ≡ empty) × IsStanding (content new) × (new.now ≡ new.committed))) → OnOk r (IsReady new)
-made_ready new (Ok _) ended made = record {
-  autocommit = ended;
-  tables = λ clean live. (made clean live).0;
-  lives = λ clean live. subst IsLives (sym (made clean live).1) no_lives;
-  standing = λ clean live. (made clean live).2;
-  committed = λ clean live. (made clean live).3;
-}
+pub made_ready : (new : State) (r : Result (Unit {0}) Error) → new.in_transaction ≡ false → (HasCleanDisk new → IsTrue new.is_open → OnOk r (IsKept new)) → OnOk r (IsReady new)
+made_ready new (Ok _) ended made = ready_of new (Ok tt) ended made (λ _ _. tt)
 made_ready new (Err _) ended made = tt
 
 runs_not_empty : (life : Life) → ends_running life ≡ true → life ≢ []
@@ -93,17 +83,17 @@ module _ (old new : State) (count : ℕ) (tables : HasTables old.now) (id : List
   abbrev bindings : List BindingEntry
   bindings = bindings_in old.now.trees
 
-  pub appends : (order : Order) → IsLives (lives_changed (Append order) id (stored old)) → Executes insert_order (entry_row (id, order)) old new (Ok count)
-      → Gives new (insert_sorted entry_cmp (id, order) entries) instances bindings × (lives_in (insert_sorted entry_cmp (id, order) entries) ≡ lives_changed (Append order) id (stored old))
+  pub appends : (order : Order) → IsLives (lives_changed (Append order) id (told old)) → Executes insert_order (entry_row (id, order)) old new (Ok count)
+      → Gives old new (insert_sorted entry_cmp (id, order) entries) instances bindings × (lives_in (insert_sorted entry_cmp (id, order) entries) ≡ lives_changed (Append order) id (told old))
   appends order whole h =
-      let above = entries_below id order entries (subst (AllByRecursion (λ (other : Order). other.number < order.number)) (life_of_lives id entries) (append_above (stored old) id order whole)) in
+      let above = entries_below id order entries (subst (AllByRecursion (λ (other : Order). other.number < order.number)) (life_of_lives id entries) (append_above (told old) id order whole)) in
       (adds_order old new count tables.schema entries instances bindings tables.holds (id, order) (key_new id order entries above) h, append_lives id order entries tables.holds.orders.rising above)
 
-  pub finishes : (number : ℕ) (outcome : Outcome) → IsLives (stored old) → IsFinishable (life_of (stored old) id) number outcome
+  pub finishes : (number : ℕ) (outcome : Outcome) → IsLives (told old) → IsFinishable (life_of (told old) id) number outcome
       → Executes finish_order (Text id ∷ Int (pos number) ∷ Int (pos (state_number outcome.state)) ∷ Text outcome.description ∷ Text outcome.credentials ∷ []) old new (Ok count)
-      → Gives new (update_where (is_keyed id number) (entry_ended outcome) entries) instances bindings × (lives_in (update_where (is_keyed id number) (entry_ended outcome) entries) ≡ lives_changed (Finish number outcome) id (stored old))
+      → Gives old new (update_where (is_keyed id number) (entry_ended outcome) entries) instances bindings × (lives_in (update_where (is_keyed id number) (entry_ended outcome) entries) ≡ lives_changed (Finish number outcome) id (told old))
   finishes number outcome whole may h =
-      (ends_order old new count tables.schema entries instances bindings tables.holds id number outcome h, end_lives id number outcome entries (numbered (stored old) id whole) may.last (runs_not_empty _ may.runs))
+      (ends_order old new count tables.schema entries instances bindings tables.holds id number outcome h, end_lives id number outcome entries (numbered (told old) id whole) may.last (runs_not_empty _ may.runs))
 
 -- the parameters that show an entry
 pub entry_params : (entry : Entry) {a b c d e f g h i j k l m : Value}

@@ -1,23 +1,20 @@
 -- What a statement does inside a transaction. For contracts inside the crate.
-use Rattle.std.specs.Prelude.{◌≡◌, false, IsTrue, ℕ, List, [], Bool, if◌then◌else◌, Some, filter, bytes_eq}
+use Rattle.std.specs.Prelude.{◌≡◌, false, IsTrue, ℕ, List, [], Some, filter, bytes_eq}
 use Rattle.std.specs.List.{AllByRecursion}
 use Rattle.sqlite.specs.Tree.{Trees}
 use Rattle.sqlite.specs.Schema.{Schema}
 use Rattle.sqlite.specs.Effect.{IsDatabase}
 use Rattle.sqlite.specs.State.{State, HasCleanDisk}
-use Rattle.sqlite.specs.Change.{KeepsRows}
 use Rattle.osb_orders.specs.Lives.{Lives}
 use Rattle.osb_standing.specs.declared.row.InstanceRow.{InstanceRow}
 use Rattle.osb_audit.specs.Instances.{IsRowOf, InstanceEntry, is_instance}
 use Rattle.osb_audit.specs.declared.entry.BindingEntry.{BindingEntry}
-use Rattle.osb_tables.specs.Tables.{tables_schema, listed_schema}
+use Rattle.osb_joined.specs.Contexts.{contexts_of}
+use Rattle.osb_contexts.specs.Contexts.{HoldsContexts}
+use Rattle.osb_contexts.specs.Inside.{Within}
 use Rattle.osb_records.specs.Stored.{Content}
 use Rattle.osb_records.specs.Standing.{IsStanding}
-use Rattle.osb_records.specs.Steps.{stored, content, HasTables}
-
--- a clean connection that is open has this schema
-abbrev pub ShowsSchema : Schema → State → Type 0
-ShowsSchema schema s = HasCleanDisk s → IsTrue s.is_open → s.now.schema ≡ schema
+use Rattle.osb_records.specs.Steps.{stored, told, content, HasTables}
 
 -- these trees have no rows
 abbrev pub AreBlank : List ℕ → Trees → Type 0
@@ -46,29 +43,36 @@ pub record Puts (id : List ℕ) (row : InstanceRow) (before after : List Instanc
   pub here : IsRowOf id (Some row) after
   pub others : (other : List ℕ) → bytes_eq id other ≡ false → filter (is_instance other) after ≡ filter (is_instance other) before
 
--- Inside a transaction that goes on, while the store stays open. Nothing is committed.
-pub record Within (old new : State) : Type 0 where
-  pub was_inside : IsTrue old.in_transaction
-  pub inside : IsTrue new.in_transaction
-  pub was_open : IsTrue old.is_open
-  pub is_open : IsTrue new.is_open
-  pub committed : new.committed ≡ old.committed
+-- the rows of the contexts stay
+abbrev pub KeepsContexts : State → State → Type 0
+KeepsContexts old new = new.now.trees 7 ≡ old.now.trees 7
 
--- Inside a transaction the content has become this one. Nothing is committed.
+-- Inside a transaction the content has become this one, and the contexts stay. Nothing is committed.
 pub record Steps (old new : State) (next : Content) : Type 0 where
   pub within : Within old new
   pub tables : HasTables new.now
-  pub lives_are : stored new ≡ next.lives
+  pub lives_are : told new ≡ next.lives
   pub instances_are : (content new).instances ≡ next.instances
   pub bindings_are : (content new).bindings ≡ next.bindings
   pub sound : IsDatabase new.now
+  pub contexts_kept : KeepsContexts old new
 
--- Inside a transaction the lives have become these, with the rows that they have. Nothing is committed.
+-- Inside a transaction the lives that the orders tell have become these, with the rows that they have. Nothing is committed.
 pub record Writes (old new : State) (lives : Lives) : Type 0 where
+  pub within : Within old new
+  pub tables : HasTables new.now
+  pub lives_are : told new ≡ lives
+  pub standing : IsStanding (content new)
+  pub sound : IsDatabase new.now
+  pub contexts_kept : KeepsContexts old new
+
+-- Inside a transaction the lives have become these, with the rows and the contexts that they have. Nothing is committed.
+pub record WritesLives (old new : State) (lives : Lives) : Type 0 where
   pub within : Within old new
   pub tables : HasTables new.now
   pub lives_are : stored new ≡ lives
   pub standing : IsStanding (content new)
+  pub contexts : HoldsContexts (contexts_of lives) new.now.trees
   pub sound : IsDatabase new.now
 
 -- Inside a transaction the instance got this row. Nothing is committed.
@@ -81,14 +85,3 @@ pub record Makes (old new : State) (schema : Schema) (places : List ℕ) : Type 
   pub within : Within old new
   pub schema_is : new.now.schema ≡ schema
   pub blank : AreBlank places new.now.trees
-
--- the tables that lack an index or both
-abbrev pub lacking : Bool → Schema
-lacking is_listed = if is_listed then listed_schema else tables_schema
-
--- Inside a transaction this schema was reached by indexes beside the tables, whose rows stay. Nothing is committed.
-pub record Indexes (schema : Schema) (old new : State) : Type 0 where
-  pub within : Within old new
-  pub schema_is : new.now.schema ≡ schema
-  pub kept : KeepsRows (tables_schema).tables old.now.trees new.now.trees
-  pub sound : IsDatabase new.now

@@ -11,7 +11,6 @@ pub mod Queries
 pub mod BindingRows
 pub mod Opened
 pub mod Kept
-pub mod Reads
 pub mod Looks
 pub mod Inside
 pub mod Transactions

@@ -1,5 +1,5 @@
 -- What a connection shows to queries, and what the rows of an answer tell. For contracts inside the crate.
-use Rattle.std.specs.Prelude.{IsTrue, ℕ, pos, Bool, false, ◌&&◌, ◌||◌, nat_lt, List, [], ◌∷◌, bytes_eq, Option, None, Some, option_map, slice_get, if◌then◌else◌}
+use Rattle.std.specs.Prelude.{◌≡◌, IsTrue, ℕ, pos, Bool, false, ◌&&◌, ◌||◌, nat_lt, List, [], ◌∷◌, bytes_eq, Option, None, Some, option_map, slice_get, if◌then◌else◌}
 use Rattle.sqlite.specs.declared.types.Value.TheVariants.{Int, Text as Words}
 use Rattle.sqlite.specs.Order.{Row, column, bytes}
 use Rattle.sqlite.specs.Effect.{Database}
@@ -12,21 +12,36 @@ use Rattle.osb_orders.specs.Facts.{Facts}
 use Rattle.osb_orders.specs.Lives.{Lives, life_of}
 use Rattle.osb_orders.specs.Named.{order_numbered}
 use Rattle.osb_orders.specs.IsLife.{IsLives}
+use Rattle.osb_standing.specs.declared.read.Read.{Read}
 use Rattle.osb_audit.specs.Instances.{InstanceEntry}
+use Rattle.osb_joined.specs.declared.entry.ContextEntry.{ContextEntry}
+use Rattle.osb_joined.specs.Joined.{joined_order, joined_row}
+use Rattle.osb_joined.specs.Contexts.{contexts_of}
+use Rattle.osb_contexts.specs.Contexts.{HoldsContexts}
 use Rattle.osb_records.specs.Columns.{number_in}
-use Rattle.osb_records.specs.Stored.{order_told, lives_stored, content_in}
+use Rattle.osb_records.specs.Stored.{order_told, lives_told, lives_stored, content_in}
 use Rattle.osb_records.specs.Standing.{IsStanding}
 use Rattle.osb_records.specs.Steps.{HasTables}
 
--- the database has the tables, with well-formed lives and the rows that these have
+-- the database has the tables, with well-formed lives that the orders tell, and the rows that these have
 pub record AreRecords (db : Database) : Type 0 where
   pub tables : HasTables db
-  pub lives : IsLives (lives_stored db.trees)
+  pub lives : IsLives (lives_told db.trees)
   pub standing : IsStanding (content_in db.trees)
 
 -- a clean connection that is open has records
 abbrev pub ShowsRecords : State → Type 0
 ShowsRecords s = HasCleanDisk s → IsTrue s.is_open → AreRecords s.now
+
+-- with the contexts of the lives, which are well formed with these
+pub record HasLives (db : Database) : Type 0 where
+  pub records : AreRecords db
+  pub lives : IsLives (lives_stored db.trees)
+  pub contexts : HoldsContexts (contexts_of (lives_stored db.trees)) db.trees
+
+-- a clean connection that is open has lives
+abbrev pub ShowsLives : State → Type 0
+ShowsLives s = HasCleanDisk s → IsTrue s.is_open → HasLives s.now
 
 -- the order that the first row tells, if there is a row
 abbrev pub first_order : List Row → Option Order
@@ -62,3 +77,13 @@ later_of (Some order) (Some other) = if nat_lt order.number other.number then So
 -- the view for an ask about no instance
 abbrev pub listed_facts : List (List ℕ × Order) → Facts
 listed_facts listing = record { standing = None; last = None; binding = None; named = None; subject_last = None; count = 0; bound = false; listing = listing }
+
+-- what was read of an instance, with the contexts
+pub record IsJoinedRead (contexts : List ContextEntry) (id : List ℕ) (read joined : Read) : Type 0 where
+  pub row : joined.row ≡ option_map (joined_row contexts id) read.row
+  pub last : joined.last ≡ option_map (joined_order contexts id) read.last
+  pub binding : joined.binding ≡ read.binding
+  pub named : joined.named ≡ option_map (joined_order contexts id) read.named
+  pub subject_last : joined.subject_last ≡ option_map (joined_order contexts id) read.subject_last
+  pub bound : joined.bound ≡ read.bound
+  pub listed : joined.listing.items ≡ read.listing.items

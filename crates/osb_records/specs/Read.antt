@@ -1,5 +1,5 @@
 -- Rows that were read, and what they are read as. For contracts inside the crate.
-use Rattle.std.specs.Prelude.{◌≡◌, ◌≢◌, ℕ, pos, Result, Err, IfOk, List, map, if◌then◌else◌, [], ◌∷◌, Option, option_map, slice_get}
+use Rattle.std.specs.Prelude.{◌≡◌, ◌≢◌, ℕ, pos, Result, Err, IfOk, List, map, [], ◌∷◌, Option, option_map, slice_get}
 use Rattle.std.specs.declared.cmp.Ordering.{Ordering}
 use Rattle.std.specs.Ordering.{nat_cmp}
 use Rattle.std.specs.List.Sorted.{IsStrictlySortedBy}
@@ -15,11 +15,13 @@ use Rattle.osb_audit.specs.declared.entry.BindingEntry.{BindingEntry}
 use Rattle.osb_audit.specs.Orders.{Entry, entry_cmp}
 use Rattle.osb_audit.specs.Bindings.{binding_cmp}
 use Rattle.osb_records.specs.declared.fault.StoreFault.{StoreFault}
+use Rattle.osb_records.specs.declared.whole.Tables.{Tables}
 use Rattle.osb_records.specs.declared.fault.StoreFault.TheVariants.{NotOurs}
 use Rattle.osb_rows.specs.Rows.{Stores, AreRows}
 use Rattle.osb_records.specs.Instances.{instance_row, instance_cells, instance_row_told, standing_columns}
 use Rattle.osb_records.specs.Bindings.{binding_row, binding_cells}
-use Rattle.osb_records.specs.Stored.{AreBare, AreBareRows, entry_row, order_columns, order_cells, version_row, version_cells}
+use Rattle.osb_contexts.specs.Format.{version_row, version_cells}
+use Rattle.osb_records.specs.Stored.{AreBare, AreBareRows, entry_row, order_columns, order_cells}
 
 -- A number was read as one of these values: at `Ok` as the one that it stands for, and NotOurs says that it stands for none.
 pub record IsReadAs {V : Type 0} (number_of : V → ℕ) (numbered : ℕ → V) (number : ℕ) (result : Result V StoreFault) : Type 0 where
@@ -98,3 +100,10 @@ AreInstancesOf db entries = IsListOf instance_cells instance_row instance_cmp (d
 
 abbrev pub AreBindingsOf : Trees → List BindingEntry → Type 0
 AreBindingsOf db entries = IsListOf binding_cells binding_row binding_cmp (db 5) entries
+
+-- what was read of the tables that both versions have
+pub record AreTablesOf (db : Trees) (tables : Tables) : Type 0 where
+  pub versions : AreVersionsOf db tables.versions.items
+  pub orders : AreOrdersOf db tables.orders.items
+  pub instances : AreInstancesOf db tables.instances.items
+  pub bindings : AreBindingsOf db tables.bindings.items

@@ -1,4 +1,4 @@
--- The orders in the tables, and the lives that they make up.
+-- The orders in the tables, and the lives that they make up with the contexts.
 use Rattle.std.specs.Prelude.{◌≡◌, ◌==◌, if◌then◌else◌, ℕ, pos, List, [], ◌∷◌, ◌++◌, map}
 use Rattle.std.specs.List.{AllByRecursion}
 use Rattle.std.specs.Ordering.{nat_cmp}
@@ -18,7 +18,10 @@ use Rattle.osb_audit.specs.Instances.{InstanceEntry, instance_cmp}
 use Rattle.osb_audit.specs.declared.entry.BindingEntry.{BindingEntry}
 use Rattle.osb_audit.specs.Bindings.{binding_cmp}
 use Rattle.osb_bare.specs.Bare.{bare_order, bare_row}
+use Rattle.osb_joined.specs.Joined.{joined_lives}
 use Rattle.osb_rows.specs.Rows.{Stores}
+use Rattle.osb_contexts.specs.Contexts.{contexts_in}
+use Rattle.osb_contexts.specs.Format.{version_row, version_cells}
 use Rattle.osb_records.specs.Columns.{number_in, attributes_told}
 use Rattle.osb_records.specs.Instances.{instance_row, instance_told, instance_cells}
 use Rattle.osb_records.specs.Bindings.{binding_row, binding_told, binding_cells}
@@ -96,12 +99,6 @@ order_columns cells =
 abbrev pub order_cells : Row → Row
 order_cells cells = order_columns cells ++ column cells 13 ∷ []
 
-abbrev pub version_row : ℕ → Row
-version_row version = Int (pos version) ∷ []
-
-abbrev pub version_cells : Row → Row
-version_cells cells = column cells 1 ∷ []
-
 -- the orders of these entries have no context, as the tables have no column for it
 abbrev pub AreBare : List Entry → Type 0
 AreBare = AllByRecursion (λ entry. bare_order entry.1 ≡ entry.1)
@@ -111,9 +108,9 @@ AreBareRows = AllByRecursion (λ entry. bare_row entry.1 ≡ entry.1)
 
 -- ---- trees
 
--- the tables hold format version 1 and these entries
-pub record Holds (entries : List Entry) (instance_entries : List InstanceEntry) (binding_entries : List BindingEntry) (db : Trees) : Type 0 where
-  pub format : Stores version_cells version_row nat_cmp (db 0) (1 ∷ [])
+-- the tables hold this version of the format and these entries
+pub record Holds (version : ℕ) (entries : List Entry) (instance_entries : List InstanceEntry) (binding_entries : List BindingEntry) (db : Trees) : Type 0 where
+  pub format : Stores version_cells version_row nat_cmp (db 0) (version ∷ [])
   pub orders : Stores order_cells entry_row entry_cmp (db 1) entries
   pub instances : Stores instance_cells instance_row instance_cmp (db 3) instance_entries
   pub bindings : Stores binding_cells binding_row binding_cmp (db 5) binding_entries
@@ -128,20 +125,25 @@ instances_in db = sort_by instance_cmp (map instance_told (map instance_cells (d
 abbrev pub bindings_in : Trees → List BindingEntry
 bindings_in db = sort_by binding_cmp (map binding_told (map binding_cells (db 5)))
 
--- the tables hold entries
-abbrev pub HoldsEntries : Trees → Type 0
-HoldsEntries db = Holds (entries_in db) (instances_in db) (bindings_in db) db
+-- the tables hold this version and entries
+abbrev pub HoldsEntries : ℕ → Trees → Type 0
+HoldsEntries version db = Holds version (entries_in db) (instances_in db) (bindings_in db) db
 
 -- ---- lives
 
-abbrev pub lives_stored : Trees → Lives
-lives_stored db = lives_in (entries_in db)
+-- the lives that the orders tell, which have no contexts
+abbrev pub lives_told : Trees → Lives
+lives_told db = lives_in (entries_in db)
 
--- the lives, and the rows of instances and bindings beside them
+-- the lives that are stored, with the contexts of their table
+abbrev pub lives_stored : Trees → Lives
+lives_stored db = joined_lives (contexts_in db) (lives_told db)
+
+-- the lives that the orders tell, and the rows of instances and bindings beside them
 pub record Content : Type 0 where
   pub lives : Lives
   pub instances : List InstanceEntry
   pub bindings : List BindingEntry
 
 abbrev pub content_in : Trees → Content
-content_in db = record { lives = lives_stored db; instances = instances_in db; bindings = bindings_in db }
+content_in db = record { lives = lives_told db; instances = instances_in db; bindings = bindings_in db }

@@ -9,16 +9,16 @@ use Rattle.osb_standing.specs.Written.{IsWritten}
 use Rattle.osb_audit.specs.Instances.{InstancesStand}
 use Rattle.osb_records.specs.Inside.{with_instances, with_lives, Steps}
 use Rattle.osb_records.specs.Standing.{IsStanding}
-use Rattle.osb_records.specs.Steps.{content, stored}
+use Rattle.osb_records.specs.Steps.{content, told}
 
 -- Inside a transaction the row of the instance followed the order that is written next. Nothing is committed.
 pub record RowFollows (old new : State) (id : List ℕ) (order : Order) : Type 0 where
   pub steps : Steps old new (with_instances (content new).instances (content old))
-  pub stands : (change : Change) → IsWritten (life_of (stored old) id) change order → InstancesStand (stored old) (content old).instances
-      → InstancesStand (lives_changed change id (stored old)) (content new).instances
+  pub stands : (change : Change) → IsWritten (life_of (told old) id) change order → InstancesStand (told old) (content old).instances
+      → InstancesStand (lives_changed change id (told old)) (content new).instances
 
 -- With the row the bindings of the instance followed it.
 pub record RowsFollow (old new : State) (id : List ℕ) (order : Order) : Type 0 where
-  pub steps : Steps old new (with_lives (stored old) (content new))
-  pub stands : (change : Change) → IsWritten (life_of (stored old) id) change order → IsStanding (content old)
-      → IsStanding (with_lives (lives_changed change id (stored old)) (content new))
+  pub steps : Steps old new (with_lives (told old) (content new))
+  pub stands : (change : Change) → IsWritten (life_of (told old) id) change order → IsStanding (content old)
+      → IsStanding (with_lives (lives_changed change id (told old)) (content new))

@@ -4,24 +4,28 @@ ghost use Rattle.std.specs.Prelude.{◌≡◌, ◌≢◌, ◌↔◌, true, false
 ghost use Rattle.std.specs.FinMap.{empty};
 ghost use Rattle.sqlite.specs.Held.{state};
 ghost use Rattle.sqlite.specs.State.{HasCleanDisk, Survives};
-ghost use Rattle.osb_tables.specs.Tables.{no_schema, record_schema};
+ghost use Rattle.osb_tables.specs.Tables.{no_schema, tables_schema, five_tables, second_schema, made};
 ghost use Rattle.osb_records.specs.declared.fault.StoreFault.TheVariants as faults;
-ghost use Rattle.osb_records.specs.Opened.{StoreLives, HoldsSame};
+ghost use Rattle.osb_records.specs.Opened.{StoreFirst, StoreLives, HoldsSame};
 ghost use Rattle.osb_records.specs.Transactions.{FindsSettled, TakesOver};
-ghost use Rattle.osb_records.specs.Inside.{lacking, ShowsSchema, Writes};
+ghost use Rattle.osb_contexts.specs.Inside.{ShowsSchema};
+ghost use Rattle.osb_contexts.specs.Inside.{second_lacking};
+ghost use Rattle.osb_records.specs.Stored.{lives_told};
+ghost use Rattle.osb_records.specs.Inside.{WritesLives};
 ghost use Rattle.osb_records.specs.Steps.{HoldsLives, IsSettled, stored};
-ghost use Rattle.osb_records.specs.Reads.{StaysInside, Does, behind};
+ghost use Rattle.osb_contexts.specs.Reads.{StaysInside, Does, behind};
 
 use crate::fault::StoreFault;
-use crate::tables::{add_indexes, make_tables};
-use crate::whole::are_tables_whole;
+use crate::tables::make_tables;
+use crate::whole::{are_tables_whole, read_first};
+use osb_contexts::{complete, migrate, reshape};
 use osb_tables::{Found, Indexes, find};
 use sqlite::{Alter, Connection, Transaction};
 use std::alloc::Global;
 
 /// Whether the tables are those of well-formed lives.
 fn check_tables<S: Alter>(conn: &mut Connection<S>, alloc: Global) -> Result<bool, StoreFault>
-    requires { FindsSettled record_schema (state S.Store conn.old) }
+    requires { FindsSettled second_schema (state S.Store conn.old) }
     ensures settled { IsSettled (state S.Store conn.new) }
     ensures ok { HasCleanDisk (state S.Store conn.new) →
         IfOk result (λ whole. (whole ≡ true) ↔ StoreLives (state S.Store conn.old).now.trees) }
@@ -40,7 +44,7 @@ fn check_tables<S: Alter>(conn: &mut Connection<S>, alloc: Global) -> Result<boo
 /// Takes the tables as they are, if they are those of well-formed lives.
 #[tactic(auto, using(crate::proofs::OpenedLemmas::ready_by))]
 fn take_tables<S: Alter>(conn: &mut Connection<S>, alloc: Global) -> Result<(), StoreFault>
-    requires { FindsSettled record_schema (state S.Store conn.old) }
+    requires { FindsSettled second_schema (state S.Store conn.old) }
     ensures settled { IsSettled (state S.Store conn.new) }
     ensures takes { TakesOver (state S.Store conn.old) (state S.Store conn.new) result }
     ensures crash { Survives (state S.Store conn.old) (state S.Store conn.new) (λ _. ⊥) }
@@ -52,21 +56,21 @@ fn take_tables<S: Alter>(conn: &mut Connection<S>, alloc: Global) -> Result<(), 
     }
 }
 
-/// Makes the indexes that the tables lack, if these are of well-formed lives.
+/// Makes the indexes that the tables of version 2 lack, if these are of well-formed lives.
 fn index_tables<S: Alter>(
     tx: &mut Transaction<'_, S>,
     alloc: Global,
     is_listed: bool,
 ) -> Result<(), StoreFault>
-    requires { ShowsSchema (lacking is_listed) (behind S.Store tx.old) }
-    ensures ok { Does S.Store tx.old tx.new result (λ old new. Writes old new (stored old)) }
+    requires { ShowsSchema (second_lacking is_listed) (behind S.Store tx.old) }
+    ensures ok { Does S.Store tx.old tx.new result (λ old new. WritesLives old new (stored old)) }
     ensures lives { Does S.Store tx.old tx.new result (λ old new.
-        (old.now.schema ≡ lacking is_listed) × StoreLives old.now.trees) }
+        (old.now.schema ≡ second_lacking is_listed) × StoreLives old.now.trees) }
     ensures not_ours { HasCleanDisk (behind S.Store tx.new) → result ≡ Err faults.NotOurs →
         ¬ StoreLives (behind S.Store tx.old).now.trees }
     ensures inside { StaysInside S.Store tx.old tx.new }
 {
-    add_indexes(tx, is_listed)?;
+    complete(tx, is_listed)?;
     match are_tables_whole(tx, alloc) {
         Ok(true) => Ok(()),
         Ok(false) => Err(StoreFault::NotOurs),
@@ -74,15 +78,15 @@ fn index_tables<S: Alter>(
     }
 }
 
-/// Takes the tables of a database that lacks an index or both, and makes them: one transaction that writes
-/// nothing else. `is_listed` says whether the index of the listing is there.
-#[tactic(auto, using(crate::proofs::IndexLemmas::completed_same, crate::proofs::IndexLemmas::lacking_has))]
+/// Takes the tables of a database of version 2 that lacks an index or both, and makes them: one transaction
+/// that writes nothing else. `is_listed` says whether the index of the listing is there.
+#[tactic(auto, using(crate::proofs::OpenedLemmas::completed_same, crate::proofs::OpenedLemmas::lacking_second))]
 fn complete_tables<S: Alter>(
     conn: &mut Connection<S>,
     alloc: Global,
     is_listed: bool,
 ) -> Result<(), StoreFault>
-    requires { FindsSettled (lacking is_listed) (state S.Store conn.old) }
+    requires { FindsSettled (second_lacking is_listed) (state S.Store conn.old) }
     ensures settled { IsSettled (state S.Store conn.new) }
     ensures takes { TakesOver (state S.Store conn.old) (state S.Store conn.new) result }
     ensures crash { Survives (state S.Store conn.old) (state S.Store conn.new) (HoldsSame
@@ -94,20 +98,77 @@ fn complete_tables<S: Alter>(
     Ok(())
 }
 
+/// Makes the tables of version 1 those of version 2, if they are of well-formed lives.
+fn migrate_in<S: Alter>(
+    tx: &mut Transaction<'_, S>,
+    alloc: Global,
+    indexes: Indexes,
+) -> Result<(), StoreFault>
+    requires { ShowsSchema (made tables_schema indexes) (behind S.Store tx.old) }
+    ensures ok { Does S.Store tx.old tx.new result (λ old new.
+        WritesLives old new (lives_told old.now.trees)) }
+    ensures lives { Does S.Store tx.old tx.new result (λ old new.
+        (old.now.schema ≡ made tables_schema indexes) × StoreFirst old.now.trees) }
+    ensures not_ours { HasCleanDisk (behind S.Store tx.new) → result ≡ Err faults.NotOurs →
+        ¬ StoreFirst (behind S.Store tx.old).now.trees }
+    ensures inside { StaysInside S.Store tx.old tx.new }
+{
+    reshape(tx, indexes)?;
+    let contexts = read_first(tx, alloc)?;
+    Ok(migrate(tx, alloc, &contexts)?)
+}
+
+/// Takes the tables of a database of version 1, and brings it to version 2 in one transaction.
+#[tactic(auto, using(crate::proofs::OpenedLemmas::migrated_same, crate::proofs::OpenedLemmas::made_first))]
+fn migrate_tables<S: Alter>(
+    conn: &mut Connection<S>,
+    alloc: Global,
+    indexes: Indexes,
+) -> Result<(), StoreFault>
+    requires { FindsSettled (made tables_schema indexes) (state S.Store conn.old) }
+    ensures settled { IsSettled (state S.Store conn.new) }
+    ensures takes { TakesOver (state S.Store conn.old) (state S.Store conn.new) result }
+    ensures crash { Survives (state S.Store conn.old) (state S.Store conn.new) (HoldsSame
+        (state S.Store conn.old).now) }
+{
+    let mut tx = conn.transaction();
+    migrate_in(&mut tx, alloc, indexes)?;
+    tx.commit()?;
+    Ok(())
+}
+
 /// Makes the tables in a database that has none.
 #[tactic(auto, using(crate::proofs::OpenedLemmas::empty_same))]
-fn make<S: Alter>(conn: &mut Connection<S>) -> Result<(), StoreFault>
+fn make<S: Alter>(conn: &mut Connection<S>, alloc: Global) -> Result<(), StoreFault>
     requires { FindsSettled no_schema (state S.Store conn.old) }
     ensures settled { IsSettled (state S.Store conn.new) }
     ensures takes { TakesOver (state S.Store conn.old) (state S.Store conn.new) result }
     ensures crash { Survives (state S.Store conn.old) (state S.Store conn.new) (HoldsLives empty) }
 {
-    make_tables(conn)?;
+    make_tables(conn, alloc)?;
     Ok(())
 }
 
-/// Takes over a database that no transaction is open on, or leaves it as it was. One of version 2 isn't taken.
-#[tactic(auto, using(crate::proofs::OpenedLemmas::second_stand))]
+/// Takes the tables of a database of version 2, with these indexes.
+fn take_second<S: Alter>(
+    conn: &mut Connection<S>,
+    alloc: Global,
+    indexes: Indexes,
+) -> Result<(), StoreFault>
+    requires { FindsSettled (made five_tables indexes) (state S.Store conn.old) }
+    ensures settled { IsSettled (state S.Store conn.new) }
+    ensures takes { TakesOver (state S.Store conn.old) (state S.Store conn.new) result }
+    ensures crash { Survives (state S.Store conn.old) (state S.Store conn.new) (HoldsSame
+        (state S.Store conn.old).now) }
+{
+    match indexes {
+        Indexes::Both => take_tables(conn, alloc),
+        Indexes::Listing => complete_tables(conn, alloc, true),
+        Indexes::None => complete_tables(conn, alloc, false),
+    }
+}
+
+/// Takes over a database that no transaction is open on, or leaves it as it was.
 fn take_settled<S: Alter>(conn: &mut Connection<S>, alloc: Global) -> Result<(), StoreFault>
     requires { IsSettled (state S.Store conn.old) }
     ensures settled { IsSettled (state S.Store conn.new) }
@@ -116,13 +177,9 @@ fn take_settled<S: Alter>(conn: &mut Connection<S>, alloc: Global) -> Result<(),
         (state S.Store conn.old).now) }
 {
     match find(conn.schema()) {
-        Found::Nothing => make(conn),
-        Found::First(indexes) => match indexes {
-            Indexes::Both => take_tables(conn, alloc),
-            Indexes::Listing => complete_tables(conn, alloc, true),
-            Indexes::None => complete_tables(conn, alloc, false),
-        },
-        Found::Second(_) => Err(StoreFault::NotOurs),
+        Found::Nothing => make(conn, alloc),
+        Found::First(indexes) => migrate_tables(conn, alloc, indexes),
+        Found::Second(indexes) => take_second(conn, alloc, indexes),
         Found::Others => Err(StoreFault::NotOurs),
     }
 }

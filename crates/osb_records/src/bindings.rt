@@ -8,14 +8,15 @@ ghost use Rattle.sqlite.specs.declared.error.ErrorCode.TheVariants as code;
 ghost use Rattle.sqlite_keyed.specs.Lists.{insert_sorted, update_where, delete_where};
 ghost use Rattle.osb_audit.specs.declared.entry.BindingEntry.{BindingEntry};
 ghost use Rattle.osb_audit.specs.Bindings.{binding_now, binding_cmp, binding_entry, is_binding, is_bound};
-ghost use Rattle.osb_tables.specs.Tables.{record_schema, instances_schema, tables_schema};
+ghost use Rattle.osb_tables.specs.Tables.{second_schema, instances_schema, tables_schema};
 ghost use Rattle.osb_records.specs.declared.fault.StoreFault.TheVariants as faults;
 ghost use Rattle.osb_rows.specs.Rows.{Stores};
 ghost use Rattle.osb_records.specs.Read.{IsReadAs, IsEntryOf, AreBindingsOf, binding_columns};
-ghost use Rattle.osb_records.specs.Inside.{with_bindings, ShowsSchema, ShowsBlank, Makes, Steps};
+ghost use Rattle.osb_contexts.specs.Inside.{ShowsSchema};
+ghost use Rattle.osb_records.specs.Inside.{with_bindings, ShowsBlank, Makes, Steps};
 ghost use Rattle.osb_records.specs.Bindings.{binding_phase_number, binding_phase_numbered, binding_told, binding_row, binding_cells};
 ghost use Rattle.osb_records.specs.Steps.{ShowsTables, content};
-ghost use Rattle.osb_records.specs.Reads.{Reads, Finds, behind, StaysInside, Does};
+ghost use Rattle.osb_contexts.specs.Reads.{Reads, Finds, behind, StaysInside, Does};
 ghost use Rattle.osb_records.specs.Bindings as spec;
 ghost use Rattle.osb_records.specs.BindingRows.{binding_found, first_binding, with_binding};
 
@@ -315,7 +316,7 @@ pub(crate) fn read_bindings<S: Alter>(
     tx: &mut Transaction<'_, S>,
     alloc: Global,
 ) -> Result<Vec<BindingEntry>, StoreFault>
-    requires { ShowsSchema record_schema (behind S.Store tx.old) }
+    requires { ShowsSchema second_schema (behind S.Store tx.old) }
     ensures ok { Finds S.Store tx.old tx.new result (λ s entries.
         AreBindingsOf s.now.trees entries.items) }
     ensures reads { Reads S.Store tx.old tx.new result }

@@ -8,39 +8,16 @@ ghost use Rattle.osb_orders.specs.Lives.{life_of};
 ghost use Rattle.osb_orders.specs.Changed.{lives_changed};
 ghost use Rattle.osb_orders.specs.IsLife.{IsLives};
 ghost use Rattle.osb_orders.specs.Allowed.{IsFinishable};
-ghost use Rattle.osb_bare.specs.Bare.{bare_order};
 ghost use Rattle.osb_records.specs.Steps.{IsReady, stored};
 ghost use Rattle.osb_records.specs.Transactions.{BecomesLives};
 
 use crate::fault::StoreFault;
-use crate::writing::{append_order, end_order};
+use crate::writing::{append_joined, end_joined};
 use osb_orders::{Order, Outcome};
 use sqlite::{Alter, Connection};
 use std::alloc::Global;
 
-/// One order more for the instance, without its context.
-fn append_bare<S: Alter>(
-    conn: &mut Connection<S>,
-    alloc: Global,
-    instance: &str,
-    order: &Order,
-) -> Result<(), StoreFault>
-    requires ready { IsReady (state S.Store conn.old) }
-    requires whole { HasCleanDisk (state S.Store conn.old) →
-        IsTrue (state S.Store conn.old).is_open →
-        IsLives (lives_changed (Append (bare_order order.now)) instance.now
-        (stored (state S.Store conn.old))) }
-    ensures ready { IsReady (state S.Store conn.new) }
-    ensures becomes { BecomesLives (state S.Store conn.old) (state S.Store conn.new) result
-        (lives_changed (Append (bare_order order.now)) instance.now
-        (stored (state S.Store conn.old))) }
-{
-    let mut tx = conn.transaction();
-    append_order(&mut tx, alloc, instance, order)?;
-    Ok(tx.commit()?)
-}
-
-/// One order more for the instance. One that may be appended has no context as yet.
+/// One order more for the instance.
 pub(crate) fn append<S: Alter>(
     conn: &mut Connection<S>,
     alloc: Global,
@@ -55,7 +32,9 @@ pub(crate) fn append<S: Alter>(
     ensures becomes { BecomesLives (state S.Store conn.old) (state S.Store conn.new) result
         (lives_changed (Append order.now) instance.now (stored (state S.Store conn.old))) }
 {
-    append_bare(conn, alloc, instance, order)
+    let mut tx = conn.transaction();
+    append_joined(&mut tx, alloc, instance, order)?;
+    Ok(tx.commit()?)
 }
 
 /// The end of the running last order of the instance.
@@ -79,6 +58,6 @@ pub(crate) fn finish<S: Alter>(
         (lives_changed (Finish number outcome.now) instance.now (stored (state S.Store conn.old))) }
 {
     let mut tx = conn.transaction();
-    end_order(&mut tx, alloc, instance, number, outcome)?;
+    end_joined(&mut tx, alloc, instance, number, outcome)?;
     Ok(tx.commit()?)
 }

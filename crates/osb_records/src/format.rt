@@ -1,13 +1,13 @@
 //! The table of the format, which holds one version.
 
 ghost use Rattle.std.specs.Prelude.{◌≡◌, map, IfOk, IfErr, [], ◌∷◌};
-ghost use Rattle.std.specs.FinMap.{empty};
-ghost use Rattle.osb_tables.specs.Tables.{record_schema, no_schema, format_schema};
+ghost use Rattle.osb_tables.specs.Tables.{second_schema, no_schema, format_schema};
 ghost use Rattle.osb_records.specs.declared.fault.StoreFault.TheVariants as faults;
-ghost use Rattle.osb_records.specs.Stored.{version_row};
+ghost use Rattle.osb_contexts.specs.Format.{version_row};
 ghost use Rattle.osb_records.specs.Read.{version_columns, AreVersionsOf};
-ghost use Rattle.osb_records.specs.Inside.{ShowsSchema, ShowsBlank, Writes, Makes};
-ghost use Rattle.osb_records.specs.Reads.{Reads, Finds, behind, StaysInside, Does};
+ghost use Rattle.osb_contexts.specs.Inside.{ShowsSchema};
+ghost use Rattle.osb_records.specs.Inside.{Makes};
+ghost use Rattle.osb_contexts.specs.Reads.{Reads, Finds, behind, StaysInside, Does};
 
 use crate::cells::{check_rowids, number_in};
 use crate::fault::StoreFault;
@@ -41,21 +41,12 @@ pub(crate) fn create_format<S: Alter>(tx: &mut Transaction<'_, S>) -> Result<usi
     )
 }
 
-/// Writes the version of the format, which makes tables without rows those of no lives.
-pub(crate) fn insert_version<S: Alter>(tx: &mut Transaction<'_, S>) -> Result<usize, Error>
-    requires { ShowsBlank record_schema (5 ∷ 3 ∷ 1 ∷ 0 ∷ []) (behind S.Store tx.old) }
-    ensures ok { Does S.Store tx.old tx.new result (λ old new. Writes old new empty) }
-    ensures inside { StaysInside S.Store tx.old tx.new }
-{
-    execute(tx, "INSERT INTO format (version) VALUES (1)", &[])
-}
-
 /// The versions of the format, of which there is to be one.
 pub(crate) fn read_versions<S: Alter>(
     tx: &mut Transaction<'_, S>,
     alloc: Global,
 ) -> Result<Vec<u32>, StoreFault>
-    requires { ShowsSchema record_schema (behind S.Store tx.old) }
+    requires { ShowsSchema second_schema (behind S.Store tx.old) }
     ensures ok { Finds S.Store tx.old tx.new result (λ s entries.
         AreVersionsOf s.now.trees entries.items) }
     ensures reads { Reads S.Store tx.old tx.new result }

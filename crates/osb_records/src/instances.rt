@@ -11,7 +11,7 @@ ghost use Rattle.osb_orders.specs.declared.order.Order.{Order};
 ghost use Rattle.osb_orders.specs.Listing.{listing};
 ghost use Rattle.osb_standing.specs.Listing.{is_listed};
 ghost use Rattle.osb_audit.specs.Instances.{InstanceEntry, instance_cmp, is_instance, IsRowOf};
-ghost use Rattle.osb_tables.specs.Tables.{record_schema, orders_schema, instances_schema, tables_schema, listed_schema};
+ghost use Rattle.osb_tables.specs.Tables.{second_schema, orders_schema, instances_schema, tables_schema, listed_schema};
 ghost use Rattle.osb_records.specs.declared.fault.StoreFault.TheVariants as faults;
 ghost use Rattle.osb_records.specs.Queries.{ShowsRecords, busy_row, order_for};
 ghost use Rattle.osb_rows.specs.Rows.{Stores};
@@ -19,10 +19,11 @@ ghost use Rattle.osb_records.specs.Columns.{number_in};
 ghost use Rattle.osb_records.specs.Read.{IsReadAs, IsEntryOf, AreInstancesOf, instance_columns, first_told};
 ghost use Rattle.osb_bare.specs.Bare.{bare_attributes, bare_row};
 ghost use Rattle.osb_records.specs.Stored.{AreBareRows};
-ghost use Rattle.osb_records.specs.Inside.{with_instances, with_row, Indexes, ShowsSchema, ShowsBlank, Makes, Steps};
+ghost use Rattle.osb_contexts.specs.Inside.{ShowsSchema};
+ghost use Rattle.osb_records.specs.Inside.{with_instances, with_row, ShowsBlank, Makes, Steps};
 ghost use Rattle.osb_records.specs.Instances.{no_attributes, instance_phase_number, instance_phase_numbered, standing_number, standing_told, attributes_shown, busy_number, instance_row_told, standing_row, standing_columns, instance_row, instance_cells};
-ghost use Rattle.osb_records.specs.Steps.{stored, ShowsTables, content};
-ghost use Rattle.osb_records.specs.Reads.{Reads, Finds, behind, StaysInside, Does};
+ghost use Rattle.osb_records.specs.Steps.{told, ShowsTables, content};
+ghost use Rattle.osb_contexts.specs.Reads.{Reads, Finds, behind, StaysInside, Does};
 ghost use Rattle.osb_records.specs.Instances as spec;
 ghost use Rattle.osb_records.specs.Shown.{AreColumnsOf};
 
@@ -46,19 +47,6 @@ pub(crate) fn create_instances<S: Alter>(tx: &mut Transaction<'_, S>) -> Result<
     execute(
         tx,
         "CREATE TABLE instances (instance_id TEXT NOT NULL, phase INTEGER NOT NULL, busy INTEGER NOT NULL, last_seq INTEGER NOT NULL, service_id TEXT NOT NULL, plan_id TEXT NOT NULL, organization TEXT NOT NULL, space TEXT NOT NULL, params TEXT NOT NULL, maint TEXT NOT NULL, PRIMARY KEY (instance_id)) STRICT",
-        &[],
-    )
-}
-
-/// Makes the index of the running orders' instances beside the tables.
-pub(crate) fn create_busy_index<S: Alter>(tx: &mut Transaction<'_, S>) -> Result<usize, Error>
-    requires { ShowsSchema tables_schema (behind S.Store tx.old) }
-    ensures ok { Does S.Store tx.old tx.new result (λ old new. Indexes listed_schema old new) }
-    ensures inside { StaysInside S.Store tx.old tx.new }
-{
-    execute(
-        tx,
-        "CREATE INDEX busy_instances ON instances (busy, instance_id)",
         &[],
     )
 }
@@ -364,8 +352,8 @@ pub(crate) fn read_busy<S: Alter>(
 ) -> Result<Vec<Row>, Error>
     requires { ShowsRecords (behind S.Store tx.old) }
     ensures ok { Finds S.Store tx.old tx.new result (λ s rows.
-        (found : List (List ℕ × Order)) → map Some found ≡ map (order_for (stored s)) rows.items →
-        found ≡ listing (stored s) after.now limit) }
+        (found : List (List ℕ × Order)) → map Some found ≡ map (order_for (told s)) rows.items →
+        found ≡ listing (told s) after.now limit) }
     ensures reads { Reads S.Store tx.old tx.new result }
 {
     listing_by_rows();
@@ -377,7 +365,7 @@ pub(crate) fn read_instances<S: Alter>(
     tx: &mut Transaction<'_, S>,
     alloc: Global,
 ) -> Result<Vec<(Text, InstanceRow)>, StoreFault>
-    requires { ShowsSchema record_schema (behind S.Store tx.old) }
+    requires { ShowsSchema second_schema (behind S.Store tx.old) }
     ensures ok { Finds S.Store tx.old tx.new result (λ s entries.
         AreInstancesOf s.now.trees entries.items) }
     ensures reads { Reads S.Store tx.old tx.new result }

@@ -2,15 +2,16 @@
 //!
 //! Five floors, each of which calls the one below it: cells and values (`cells`, `names`); a statement (`sql`, and
 //! in `format`, `orders`, `instances` and `bindings` those on each table, beside its columns and rows); several of
-//! them inside a transaction (`tables`, `queries`, `standing`, `writing`, `view`, `reading`, `plans`, `whole`); a
+//! them inside a transaction (`tables`, `queries`, `contexts`, `standing`, `writing`, `view`, `reading`, `plans`, `whole`); a
 //! transaction (`commits`, `adopt`); and the public calls (`records`, `memory`). What stays is said once for each
-//! kind of call (`specs/Reads.antt`).
+//! kind of call (`Reads` of osb_contexts).
 #![tactic(auto)]
 
 mod adopt;
 mod bindings;
 mod cells;
 mod commits;
+mod contexts;
 mod fault;
 mod format;
 mod instances;

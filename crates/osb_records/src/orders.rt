@@ -14,16 +14,17 @@ ghost use Rattle.osb_orders.specs.Allowed.{IsFinishable};
 ghost use Rattle.osb_orders.specs.Lists.{last_of};
 ghost use Rattle.osb_orders.specs.Named as spec;
 ghost use Rattle.osb_audit.specs.Orders.{Entry, entry_cmp, is_of};
-ghost use Rattle.osb_tables.specs.Tables.{record_schema, format_schema, orders_schema, listed_schema};
+ghost use Rattle.osb_tables.specs.Tables.{second_schema, format_schema, orders_schema, listed_schema};
 ghost use Rattle.osb_records.specs.declared.fault.StoreFault.TheVariants as faults;
 ghost use Rattle.osb_records.specs.Queries.{first_order, ShowsRecords, is_kind_of};
 ghost use Rattle.osb_rows.specs.Rows.{Stores};
 ghost use Rattle.osb_records.specs.Read.{IsReadAs, IsEntryOf, entry_columns, AreOrdersOf};
 ghost use Rattle.osb_records.specs.Stored.{AreBare, kind_numbered, state_numbered, order_told, order_row, order_columns, entry_row, order_cells, entries_in};
 ghost use Rattle.osb_bare.specs.Bare.{bare_order};
-ghost use Rattle.osb_records.specs.Inside.{with_lives, Indexes, ShowsSchema, ShowsBlank, Makes, Steps};
-ghost use Rattle.osb_records.specs.Steps.{stored, ShowsTables, content};
-ghost use Rattle.osb_records.specs.Reads.{Reads, Finds, behind, StaysInside, Does};
+ghost use Rattle.osb_contexts.specs.Inside.{ShowsSchema};
+ghost use Rattle.osb_records.specs.Inside.{with_lives, ShowsBlank, Makes, Steps};
+ghost use Rattle.osb_records.specs.Steps.{told, ShowsTables, content};
+ghost use Rattle.osb_contexts.specs.Reads.{Reads, Finds, behind, StaysInside, Does};
 
 use crate::cells::{attributes_in, check_rowids, number_in, text_in};
 use crate::fault::StoreFault;
@@ -43,19 +44,6 @@ pub(crate) fn create_orders<S: Alter>(tx: &mut Transaction<'_, S>) -> Result<usi
     execute(
         tx,
         "CREATE TABLE orders (instance_id TEXT NOT NULL, seq INTEGER NOT NULL, kind INTEGER NOT NULL, binding_id TEXT NOT NULL, service_id TEXT NOT NULL, plan_id TEXT NOT NULL, place TEXT NOT NULL, spot TEXT NOT NULL, params TEXT NOT NULL, maint TEXT NOT NULL, state INTEGER NOT NULL, note TEXT NOT NULL, credentials TEXT NOT NULL, PRIMARY KEY (instance_id, seq)) STRICT",
-        &[],
-    )
-}
-
-/// Makes the index of the orders by what they are about.
-pub(crate) fn create_subject_index<S: Alter>(tx: &mut Transaction<'_, S>) -> Result<usize, Error>
-    requires { ShowsSchema listed_schema (behind S.Store tx.old) }
-    ensures ok { Does S.Store tx.old tx.new result (λ old new. Indexes record_schema old new) }
-    ensures inside { StaysInside S.Store tx.old tx.new }
-{
-    execute(
-        tx,
-        "CREATE INDEX subject_orders ON orders (instance_id, binding_id, kind, seq)",
         &[],
     )
 }
@@ -166,10 +154,10 @@ pub(crate) fn insert_order<S: Alter>(
     requires tables { ShowsTables (behind S.Store tx.old) }
     requires whole { HasCleanDisk (behind S.Store tx.old) → IsTrue (behind S.Store tx.old).is_open →
         IsLives (lives_changed (Append (bare_order order.now)) instance.now
-        (stored (behind S.Store tx.old))) }
+        (told (behind S.Store tx.old))) }
     ensures ok { Does S.Store tx.old tx.new result (λ old new.
         Steps old new (with_lives (lives_changed (Append (bare_order order.now)) instance.now
-        (stored old)) (content old))) }
+        (told old)) (content old))) }
     ensures inside { StaysInside S.Store tx.old tx.new }
 {
     execute(
@@ -202,12 +190,12 @@ pub(crate) fn finish_order<S: Alter>(
 ) -> Result<usize, Error>
     requires tables { ShowsTables (behind S.Store tx.old) }
     requires lives { HasCleanDisk (behind S.Store tx.old) → IsTrue (behind S.Store tx.old).is_open →
-        IsLives (stored (behind S.Store tx.old)) }
+        IsLives (told (behind S.Store tx.old)) }
     requires last { HasCleanDisk (behind S.Store tx.old) → IsTrue (behind S.Store tx.old).is_open →
-        IsFinishable (life_of (stored (behind S.Store tx.old)) instance.now) number outcome.now }
+        IsFinishable (life_of (told (behind S.Store tx.old)) instance.now) number outcome.now }
     ensures ok { Does S.Store tx.old tx.new result (λ old new.
         Steps old new (with_lives (lives_changed (Finish number outcome.now) instance.now
-        (stored old)) (content old))) }
+        (told old)) (content old))) }
     ensures inside { StaysInside S.Store tx.old tx.new }
 {
     execute(
@@ -230,7 +218,7 @@ fn select_order<S: Alter>(
 ) -> Result<Vec<Row>, Error>
     requires { ShowsTables (behind S.Store tx.old) }
     ensures ok { Finds S.Store tx.old tx.new result (λ s rows.
-        first_order rows.items ≡ spec.order_numbered number (life_of (stored s) instance.now)) }
+        first_order rows.items ≡ spec.order_numbered number (life_of (told s) instance.now)) }
     ensures reads { Reads S.Store tx.old tx.new result }
 {
     select(
@@ -249,7 +237,7 @@ pub(crate) fn order_numbered<S: Alter>(
 ) -> Result<Option<Order>, StoreFault>
     requires { ShowsRecords (behind S.Store tx.old) }
     ensures ok { Finds S.Store tx.old tx.new result (λ s order.
-        order ≡ spec.order_numbered number (life_of (stored s) instance.now)) }
+        order ≡ spec.order_numbered number (life_of (told s) instance.now)) }
     ensures reads { Reads S.Store tx.old tx.new result }
 {
     let rows = select_order(tx, instance, number)?;
@@ -265,7 +253,7 @@ fn select_last<S: Alter>(
     requires { ShowsTables (behind S.Store tx.old) }
     ensures ok { Finds S.Store tx.old tx.new result (λ s rows.
         first_order rows.items ≡
-        last_of (filter (is_kind_of binding.now kind) (life_of (stored s) instance.now))) }
+        last_of (filter (is_kind_of binding.now kind) (life_of (told s) instance.now))) }
     ensures reads { Reads S.Store tx.old tx.new result }
 {
     select(
@@ -286,7 +274,7 @@ pub(crate) fn last_of_kind<S: Alter>(
 ) -> Result<Option<Order>, StoreFault>
     requires { ShowsRecords (behind S.Store tx.old) }
     ensures ok { Finds S.Store tx.old tx.new result (λ s order.
-        order ≡ last_of (filter (is_kind_of binding.now kind) (life_of (stored s) instance.now))) }
+        order ≡ last_of (filter (is_kind_of binding.now kind) (life_of (told s) instance.now))) }
     ensures reads { Reads S.Store tx.old tx.new result }
 {
     let rows = select_last(tx, instance, binding, kind)?;
@@ -314,7 +302,7 @@ pub(crate) fn read_orders<S: Alter>(
     tx: &mut Transaction<'_, S>,
     alloc: Global,
 ) -> Result<Vec<(Text, Order)>, StoreFault>
-    requires { ShowsSchema record_schema (behind S.Store tx.old) }
+    requires { ShowsSchema second_schema (behind S.Store tx.old) }
     ensures ok { Finds S.Store tx.old tx.new result (λ s entries.
         AreOrdersOf s.now.trees entries.items) }
     ensures reads { Reads S.Store tx.old tx.new result }

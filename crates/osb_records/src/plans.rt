@@ -4,9 +4,9 @@ ghost use Rattle.std.specs.Prelude.{◌≡◌, length, IfOk};
 ghost use Rattle.sqlite.specs.Held.{state};
 ghost use Rattle.sqlite.specs.State.{HasCleanDisk};
 ghost use Rattle.osb_audit.specs.Plans as spec;
-ghost use Rattle.osb_records.specs.Queries.{ShowsRecords};
+ghost use Rattle.osb_records.specs.Queries.{ShowsRecords, ShowsLives};
 ghost use Rattle.osb_records.specs.Steps.{IsReady, content, stored};
-ghost use Rattle.osb_records.specs.Reads.{Reads, Finds, behind};
+ghost use Rattle.osb_contexts.specs.Reads.{Reads, Finds, behind};
 ghost use Rattle.osb_records.specs.Looks.{Looks};
 
 use crate::fault::StoreFault;
@@ -42,7 +42,7 @@ fn list_plans<S: Alter>(
     tx: &mut Transaction<'_, S>,
     alloc: Global,
 ) -> Result<Vec<(Text, Text)>, StoreFault>
-    requires { ShowsRecords (behind S.Store tx.old) }
+    requires { ShowsLives (behind S.Store tx.old) }
     ensures ok { Finds S.Store tx.old tx.new result (λ s plans.
         plans.items ≡ spec.plans_in_use (stored s)) }
     ensures reads { Reads S.Store tx.old tx.new result }
@@ -54,7 +54,6 @@ fn list_plans<S: Alter>(
 }
 
 /// The pairs of service and plan of the instances that aren't absent and of the Updates that run.
-#[tactic(auto, using(crate::proofs::AskLemmas::ready_shows))]
 pub(crate) fn read_plans<S: Alter>(
     conn: &mut Connection<S>,
     alloc: Global,

@@ -9,8 +9,8 @@ ghost use Rattle.osb_orders.specs.Lists.{last_of};
 ghost use Rattle.osb_orders.specs.Named as spec;
 ghost use Rattle.osb_standing.specs.Rows as rows;
 ghost use Rattle.osb_records.specs.Queries.{ShowsRecords, is_kind_of, is_kept, later_of, only};
-ghost use Rattle.osb_records.specs.Steps.{stored};
-ghost use Rattle.osb_records.specs.Reads.{Reads, Finds, behind};
+ghost use Rattle.osb_records.specs.Steps.{told};
+ghost use Rattle.osb_contexts.specs.Reads.{Reads, Finds, behind};
 
 use crate::fault::StoreFault;
 use crate::names::number_named;
@@ -43,7 +43,7 @@ fn later_of_kind<S: Alter>(
     requires { ShowsRecords (behind S.Store tx.old) }
     ensures ok { Finds S.Store tx.old tx.new result (λ s last.
         last ≡ later_of order (last_of (filter (is_kind_of binding.now kind)
-        (life_of (stored s) instance.now)))) }
+        (life_of (told s) instance.now)))) }
     ensures reads { Reads S.Store tx.old tx.new result }
 {
     let other = last_of_kind(tx, alloc, instance, binding, kind)?;
@@ -58,7 +58,7 @@ fn last_creation<S: Alter>(
 ) -> Result<Option<Order>, StoreFault>
     requires { ShowsRecords (behind S.Store tx.old) }
     ensures ok { Finds S.Store tx.old tx.new result (λ s order.
-        order ≡ last_of (filter (is_a Create) (life_of (stored s) instance.now))) }
+        order ≡ last_of (filter (is_a Create) (life_of (told s) instance.now))) }
     ensures reads { Reads S.Store tx.old tx.new result }
 {
     last_of_kind(tx, alloc, instance, "", OrderKind::Create)
@@ -72,7 +72,7 @@ fn last_kept<S: Alter>(
 ) -> Result<Option<Order>, StoreFault>
     requires { ShowsRecords (behind S.Store tx.old) }
     ensures ok { Finds S.Store tx.old tx.new result (λ s order.
-        order ≡ last_of (filter is_kept (life_of (stored s) instance.now))) }
+        order ≡ last_of (filter is_kept (life_of (told s) instance.now))) }
     ensures reads { Reads S.Store tx.old tx.new result }
 {
     let created = last_of_kind(tx, alloc, instance, "", OrderKind::Create)?;
@@ -87,7 +87,7 @@ pub(crate) fn last_of_instance<S: Alter>(
 ) -> Result<Option<Order>, StoreFault>
     requires { ShowsRecords (behind S.Store tx.old) }
     ensures ok { Finds S.Store tx.old tx.new result (λ s order.
-        order ≡ last_of (filter is_of_instance (life_of (stored s) instance.now))) }
+        order ≡ last_of (filter is_of_instance (life_of (told s) instance.now))) }
     ensures reads { Reads S.Store tx.old tx.new result }
 {
     let kept = last_kept(tx, alloc, instance)?;
@@ -103,7 +103,7 @@ pub(crate) fn last_of_binding<S: Alter>(
 ) -> Result<Option<Order>, StoreFault>
     requires { ShowsRecords (behind S.Store tx.old) }
     ensures ok { Finds S.Store tx.old tx.new result (λ s order.
-        order ≡ last_of (filter (is_of_binding binding.now) (life_of (stored s) instance.now))) }
+        order ≡ last_of (filter (is_of_binding binding.now) (life_of (told s) instance.now))) }
     ensures reads { Reads S.Store tx.old tx.new result }
 {
     let bound = last_of_kind(tx, alloc, instance, binding, OrderKind::Bind)?;
@@ -118,7 +118,7 @@ pub(crate) fn birth_failed<S: Alter>(
 ) -> Result<bool, StoreFault>
     requires { ShowsRecords (behind S.Store tx.old) }
     ensures ok { Finds S.Store tx.old tx.new result (λ s failed.
-        failed ≡ rows.birth_failed (life_of (stored s) instance.now)) }
+        failed ≡ rows.birth_failed (life_of (told s) instance.now)) }
     ensures reads { Reads S.Store tx.old tx.new result }
 {
     match last_creation(tx, alloc, instance)? {
@@ -152,7 +152,7 @@ pub(crate) fn order_named<S: Alter>(
     requires { ShowsRecords (behind S.Store tx.old) }
     ensures ok { Finds S.Store tx.old tx.new result (λ s order.
         (passes : Order → Bool) →
-        spec.order_named name.now (filter passes (life_of (stored s) instance.now)) ≡
+        spec.order_named name.now (filter passes (life_of (told s) instance.now)) ≡
         only passes order) }
     ensures reads { Reads S.Store tx.old tx.new result }
 {

@@ -1,22 +1,22 @@
 //! Reading orders, in transactions that are rolled back.
 
-ghost use Rattle.std.specs.Prelude.{◌≡◌, map, IfOk, filter, Some};
+ghost use Rattle.std.specs.Prelude.{◌≡◌, map, IfOk, Some};
 ghost use Rattle.sqlite.specs.State.{HasCleanDisk};
 ghost use Rattle.sqlite.specs.Held.{state};
+ghost use Rattle.osb_orders.specs.Lives.{life_of};
 ghost use Rattle.osb_orders.specs.Listing.{listing};
-ghost use Rattle.osb_audit.specs.Orders.{is_of};
-ghost use Rattle.osb_records.specs.Queries.{ShowsRecords, order_for};
-ghost use Rattle.osb_records.specs.Stored.{entry_row, entries_in};
-ghost use Rattle.osb_records.specs.Steps.{IsReady, stored};
-ghost use Rattle.osb_records.specs.Reads.{Reads, Finds, behind, MayRead, MayFind};
+ghost use Rattle.osb_records.specs.Queries.{ShowsRecords, ShowsLives, order_for};
+ghost use Rattle.osb_records.specs.Steps.{IsReady, stored, told};
+ghost use Rattle.osb_contexts.specs.Reads.{Reads, Finds, behind, MayRead, MayFind};
 ghost use Rattle.osb_records.specs.Looks.{Looks};
 
+use crate::contexts::{join_entries, join_orders};
 use crate::fault::StoreFault;
 use crate::instances::{named_in, read_busy};
-use crate::orders::{order_numbered, select_life};
+use crate::orders::{order_numbered, orders_in, select_life};
 use osb_orders::Order;
 use osb_text::Text;
-use sqlite::{Alter, Connection, Error, Row, Transaction};
+use sqlite::{Alter, Connection, Row, Transaction};
 use std::alloc::Global;
 
 /// The order that the row names, with the id of its instance.
@@ -27,7 +27,7 @@ fn listed_order<S: Alter>(
 ) -> Result<(Text, Order), StoreFault>
     requires { ShowsRecords (behind S.Store tx.old) }
     ensures ok { Finds S.Store tx.old tx.new result (λ s pair.
-        Some pair ≡ order_for (stored s) row.now) }
+        Some pair ≡ order_for (told s) row.now) }
     ensures reads { Reads S.Store tx.old tx.new result }
 {
     let (id, number) = named_in(row)?;
@@ -45,7 +45,7 @@ fn listed_orders<S: Alter>(
 ) -> Result<Vec<(Text, Order)>, StoreFault>
     requires { ShowsRecords (behind S.Store tx.old) }
     ensures ok { MayFind S.Store tx.old tx.new result (λ s pairs.
-        map Some pairs.items ≡ map (order_for (stored s)) rows.now) }
+        map Some pairs.items ≡ map (order_for (told s)) rows.now) }
     ensures reads { MayRead S.Store tx.old tx.new result }
 {
     let mut orders = Vec::new(alloc);
@@ -55,7 +55,7 @@ fn listed_orders<S: Alter>(
     Ok(orders)
 }
 
-/// The running orders of the instances with greater ids by their ids, up to a limit.
+/// The running orders of the instances with greater ids by their ids, up to a limit, but for their contexts.
 pub(crate) fn list_running<S: Alter>(
     tx: &mut Transaction<'_, S>,
     alloc: Global,
@@ -64,34 +64,78 @@ pub(crate) fn list_running<S: Alter>(
 ) -> Result<Vec<(Text, Order)>, StoreFault>
     requires { ShowsRecords (behind S.Store tx.old) }
     ensures ok { Finds S.Store tx.old tx.new result (λ s pairs.
-        pairs.items ≡ listing (stored s) after.now limit) }
+        pairs.items ≡ listing (told s) after.now limit) }
     ensures reads { Reads S.Store tx.old tx.new result }
 {
     let rows = read_busy(tx, after, limit)?;
     listed_orders(tx, alloc, &rows)
 }
 
-/// The orders of the instance by their numbers, as rows.
+/// The orders of the instance by their numbers, but for their contexts.
+fn select_orders<S: Alter>(
+    tx: &mut Transaction<'_, S>,
+    alloc: Global,
+    instance: &str,
+) -> Result<Vec<Order>, StoreFault>
+    requires { ShowsRecords (behind S.Store tx.old) }
+    ensures ok { Finds S.Store tx.old tx.new result (λ s orders.
+        orders.items ≡ life_of (told s) instance.now) }
+    ensures reads { Reads S.Store tx.old tx.new result }
+{
+    let rows = select_life(tx, instance)?;
+    orders_in(alloc, &rows)
+}
+
+/// The orders of the instance by their numbers.
+fn list_life<S: Alter>(
+    tx: &mut Transaction<'_, S>,
+    alloc: Global,
+    instance: &str,
+) -> Result<Vec<Order>, StoreFault>
+    requires { ShowsLives (behind S.Store tx.old) }
+    ensures ok { Finds S.Store tx.old tx.new result (λ s orders.
+        orders.items ≡ life_of (stored s) instance.now) }
+    ensures reads { Reads S.Store tx.old tx.new result }
+{
+    let orders = select_orders(tx, alloc, instance)?;
+    join_orders(tx, alloc, instance, &orders)
+}
+
+/// The orders of the instance by their numbers, read in a transaction of its own.
 pub(crate) fn read_life<S: Alter>(
     conn: &mut Connection<S>,
+    alloc: Global,
     instance: &str,
-) -> Result<Vec<Row>, Error>
+) -> Result<Vec<Order>, StoreFault>
     requires { IsReady (state S.Store conn.old) }
     ensures ok { HasCleanDisk (state S.Store conn.new) →
-        IfOk result (λ rows.
-        rows.items ≡
-        map entry_row (filter (is_of instance.now) (entries_in
-        (state S.Store conn.old).now.trees))) }
+        IfOk result (λ orders.
+        orders.items ≡ life_of (stored (state S.Store conn.old)) instance.now) }
     ensures looks { Looks (state S.Store conn.old) (state S.Store conn.new) result }
 {
     let mut tx = conn.transaction();
-    let rows = select_life(&mut tx, instance)?;
+    let orders = list_life(&mut tx, alloc, instance)?;
     tx.rollback();
-    Ok(rows)
+    Ok(orders)
+}
+
+/// The running orders with their contexts.
+fn list_joined<S: Alter>(
+    tx: &mut Transaction<'_, S>,
+    alloc: Global,
+    after: &str,
+    limit: u32,
+) -> Result<Vec<(Text, Order)>, StoreFault>
+    requires { ShowsLives (behind S.Store tx.old) }
+    ensures ok { Finds S.Store tx.old tx.new result (λ s pairs.
+        pairs.items ≡ listing (stored s) after.now limit) }
+    ensures reads { Reads S.Store tx.old tx.new result }
+{
+    let listed = list_running(tx, alloc, after, limit)?;
+    join_entries(tx, alloc, &listed)
 }
 
 /// The running orders of the instances with greater ids by their ids, up to a limit.
-#[tactic(auto, using(crate::proofs::AskLemmas::ready_shows))]
 pub(crate) fn read_running<S: Alter>(
     conn: &mut Connection<S>,
     alloc: Global,
@@ -105,7 +149,7 @@ pub(crate) fn read_running<S: Alter>(
     ensures looks { Looks (state S.Store conn.old) (state S.Store conn.new) result }
 {
     let mut tx = conn.transaction();
-    let listing = list_running(&mut tx, alloc, after, limit)?;
+    let listing = list_joined(&mut tx, alloc, after, limit)?;
     tx.rollback();
     Ok(listing)
 }

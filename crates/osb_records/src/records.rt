@@ -24,7 +24,6 @@ ghost use Rattle.osb_records.specs.Looks.{Looks, MayLook};
 use crate::adopt::take_over;
 use crate::commits::{append, finish};
 use crate::fault::StoreFault;
-use crate::orders::orders_in;
 use crate::plans::read_plans;
 use crate::reading::{read_life, read_running};
 use crate::tables::make_tables;
@@ -61,13 +60,13 @@ pub fn open_memory(alloc: Global) -> Result<Records<MemStore>, StoreFault>
     ensures { IfOk result (λ records. stored (state over_memory records) ≡ empty) }
 {
     let mut conn = Connection::open_in_memory(alloc)?;
-    make_tables(&mut conn)?;
+    make_tables(&mut conn, alloc)?;
     Ok(Records { conn, alloc })
 }
 
 impl<S: Alter> Records<S> {
     /// Takes a database over: one that this program made, or one that is empty, in which the tables are
-    /// made. Where it has other tables or the rows of no well-formed lives, it isn't ours. With a fault
+    /// made. One of version 1 becomes one of version 2, in one transaction. Where it has other tables or the rows of no well-formed lives, it isn't ours. With a fault
     /// the connection comes back with its tables as they were, and no transaction is open. A connection
     /// with an open transaction is refused, and comes back with it.
     pub fn adopt(
@@ -126,15 +125,13 @@ impl<S: Alter> Records<S> {
     }
 
     /// All orders of the instance.
-    #[tactic(auto, using(crate::proofs::ReadLemmas::life_told))]
     pub fn life(&mut self, alloc: Global, instance: &str) -> Result<Vec<Order>, StoreFault>
         ensures ok { HasCleanDisk (state S.Store self.new) →
             IfOk result (λ life.
             life.items ≡ life_of (stored (state S.Store self.old)) instance.now) }
         ensures looks { Looks (state S.Store self.old) (state S.Store self.new) result }
     {
-        let rows = read_life(&mut self.conn, instance)?;
-        orders_in(alloc, &rows)
+        read_life(&mut self.conn, alloc, instance)
     }
 
     /// The first so many instances whose last order runs and whose id is greater than `after` by

@@ -7,9 +7,9 @@ ghost use Rattle.sqlite.specs.State.{HasCleanDisk, ExecutesInside, Shown};
 ghost use Rattle.sqlite.specs.Values.{bound};
 ghost use Rattle.sqlite.specs.declared.error.Error.TheVariants as fault;
 ghost use Rattle.sqlite.specs.declared.error.ErrorCode.TheVariants as code;
-ghost use Rattle.osb_tables.specs.Tables.{record_schema};
-ghost use Rattle.osb_records.specs.Inside.{ShowsSchema};
-ghost use Rattle.osb_records.specs.Reads.{Reads, StaysInside, behind};
+ghost use Rattle.osb_tables.specs.Tables.{second_schema};
+ghost use Rattle.osb_contexts.specs.Inside.{ShowsSchema};
+ghost use Rattle.osb_contexts.specs.Reads.{Reads, StaysInside, behind};
 
 use sqlite::types::ValueRef;
 use sqlite::{Alter, Error, Row, Transaction};
@@ -20,8 +20,8 @@ pub(crate) fn select<S: Alter>(
     sql: &str,
     params: &[ValueRef<'_>],
 ) -> Result<Vec<Row>, Error>
-    requires schema { ShowsSchema record_schema (behind S.Store tx.old) }
-    requires plain { IsPlain (understood record_schema sql.now) }
+    requires schema { ShowsSchema second_schema (behind S.Store tx.old) }
+    requires plain { IsPlain (understood second_schema sql.now) }
     ensures ok { HasCleanDisk (behind S.Store tx.new) → IfOk result (λ rows.
         Shown sql.now (bound params.now) (behind S.Store tx.old)
         (behind S.Store tx.new) rows.items) }

@@ -19,8 +19,8 @@ ghost use Rattle.osb_audit.specs.Instances.{IsRowOf};
 ghost use Rattle.osb_records.specs.Queries.{ShowsRecords};
 ghost use Rattle.osb_bare.specs.Bare.{bare_order, bare_row};
 ghost use Rattle.osb_records.specs.Inside.{with_bindings, Steps, PutsInstance};
-ghost use Rattle.osb_records.specs.Steps.{stored, ShowsTables, content};
-ghost use Rattle.osb_records.specs.Reads.{Finds, behind, StaysInside, Does, MayRead};
+ghost use Rattle.osb_records.specs.Steps.{told, ShowsTables, content};
+ghost use Rattle.osb_contexts.specs.Reads.{Finds, behind, StaysInside, Does, MayRead};
 ghost use Rattle.osb_records.specs.Written.{RowFollows, RowsFollow};
 ghost use Rattle.osb_records.specs.BindingRows.{binding_found, bindings_edited, FollowsOrder};
 
@@ -67,7 +67,7 @@ fn birth_failed_for<S: Alter>(
     requires { ShowsRecords (behind S.Store tx.old) }
     ensures ok { Finds S.Store tx.old tx.new result (λ s failed.
         is_failed_deletion order.now ≡ true →
-        failed ≡ rows.birth_failed (life_of (stored s) instance.now)) }
+        failed ≡ rows.birth_failed (life_of (told s) instance.now)) }
     ensures reads { MayRead S.Store tx.old tx.new result }
 {
     if is_failed_deletion(order) {
@@ -87,12 +87,12 @@ fn next_row<S: Alter>(
 ) -> Result<InstanceRow, StoreFault>
     requires { ShowsRecords (behind S.Store tx.old) }
     ensures ok { HasCleanDisk (behind S.Store tx.new) → (change : Change) →
-        IsWritten (life_of (stored (behind S.Store tx.old)) instance.now) change
+        IsWritten (life_of (told (behind S.Store tx.old)) instance.now) change
         (bare_order order.now) →
         option_copied old.entry ≡
-        rows.row_of (life_of (stored (behind S.Store tx.old)) instance.now) →
+        rows.row_of (life_of (told (behind S.Store tx.old)) instance.now) →
         IfOk result (λ row.
-        rows.row_of (changed change (life_of (stored (behind S.Store tx.old)) instance.now)) ≡
+        rows.row_of (changed change (life_of (told (behind S.Store tx.old)) instance.now)) ≡
         Some (bare_row row)) }
     ensures reads { MayRead S.Store tx.old tx.new result }
 {

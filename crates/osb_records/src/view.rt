@@ -14,12 +14,13 @@ ghost use Rattle.osb_orders.specs.Named.{instance_in, binding_in, subject, named
 ghost use Rattle.osb_standing.specs.Rows.{row_of, bindings_of};
 ghost use Rattle.osb_standing.specs.Laws.{has_rows};
 ghost use Rattle.osb_standing.specs.Read.{IsReadOf};
-ghost use Rattle.osb_records.specs.Steps.{IsReady, stored};
-ghost use Rattle.osb_records.specs.Queries.{ShowsRecords, only, listed_facts};
-ghost use Rattle.osb_records.specs.Reads.{Reads, MayRead, Finds, MayFind, behind};
+ghost use Rattle.osb_records.specs.Steps.{IsReady, stored, told};
+ghost use Rattle.osb_records.specs.Queries.{ShowsRecords, ShowsLives, only, listed_facts};
+ghost use Rattle.osb_contexts.specs.Reads.{Reads, MayRead, Finds, MayFind, behind};
 ghost use Rattle.osb_records.specs.Looks.{Looks, MayLook};
 
 use crate::bindings::{is_bound, read_binding};
+use crate::contexts::join_read;
 use crate::fault::StoreFault;
 use crate::instances::read_instance;
 use crate::orders::order_numbered;
@@ -43,7 +44,7 @@ fn read_row<S: Alter>(
 ) -> Result<Option<InstanceRow>, StoreFault>
     requires { ShowsRecords (behind S.Store tx.old) }
     ensures ok { Finds S.Store tx.old tx.new result (λ s row.
-        row ≡ row_of (life_of (stored s) instance.now)) }
+        row ≡ row_of (life_of (told s) instance.now)) }
     ensures reads { Reads S.Store tx.old tx.new result }
 {
     read_instance(tx, alloc, instance)
@@ -58,8 +59,8 @@ fn read_last<S: Alter>(
 ) -> Result<Option<Order>, StoreFault>
     requires { ShowsRecords (behind S.Store tx.old) }
     ensures ok { Finds S.Store tx.old tx.new result (λ s order.
-        option_copied row.entry ≡ row_of (life_of (stored s) instance.now) →
-        order ≡ last_of (life_of (stored s) instance.now)) }
+        option_copied row.entry ≡ row_of (life_of (told s) instance.now) →
+        order ≡ last_of (life_of (told s) instance.now)) }
     ensures reads { MayRead S.Store tx.old tx.new result }
 {
     match row {
@@ -76,8 +77,8 @@ fn read_standing<S: Alter>(
 ) -> Result<(Option<InstanceRow>, Option<Order>), StoreFault>
     requires { ShowsRecords (behind S.Store tx.old) }
     ensures ok { Finds S.Store tx.old tx.new result (λ s found.
-        (found.0 ≡ row_of (life_of (stored s) instance.now))
-        × (found.1 ≡ last_of (life_of (stored s) instance.now))) }
+        (found.0 ≡ row_of (life_of (told s) instance.now))
+        × (found.1 ≡ last_of (life_of (told s) instance.now))) }
     ensures reads { Reads S.Store tx.old tx.new result }
 {
     let row = read_row(tx, alloc, instance)?;
@@ -89,7 +90,7 @@ fn read_standing<S: Alter>(
 fn read_bound<S: Alter>(tx: &mut Transaction<'_, S>, instance: &str) -> Result<bool, StoreFault>
     requires { ShowsRecords (behind S.Store tx.old) }
     ensures ok { Finds S.Store tx.old tx.new result (λ s bound.
-        bound ≡ has_rows (bindings_of (life_of (stored s) instance.now))) }
+        bound ≡ has_rows (bindings_of (life_of (told s) instance.now))) }
     ensures reads { Reads S.Store tx.old tx.new result }
 {
     is_bound(tx, instance)
@@ -105,7 +106,7 @@ fn read_binding_for<S: Alter>(
     requires { ShowsRecords (behind S.Store tx.old) }
     ensures ok { MayFind S.Store tx.old tx.new result (λ s row.
         row ≡ option_and_then (λ id.
-        get (bindings_of (life_of (stored s) instance.now)) id) (binding_in ask.now)) }
+        get (bindings_of (life_of (told s) instance.now)) id) (binding_in ask.now)) }
     ensures reads { MayRead S.Store tx.old tx.new result }
 {
     match ask.binding() {
@@ -142,7 +143,7 @@ fn named_of_instance<S: Alter>(
     requires { ShowsRecords (behind S.Store tx.old) }
     ensures ok { MayFind S.Store tx.old tx.new result (λ s order.
         order ≡ named_by (option_copied operation.entry) (filter is_of_instance (life_of
-        (stored s) instance.now))) }
+        (told s) instance.now))) }
     ensures reads { MayRead S.Store tx.old tx.new result }
 {
     let Some(name) = operation else {
@@ -163,7 +164,7 @@ fn named_of_binding<S: Alter>(
     requires { ShowsRecords (behind S.Store tx.old) }
     ensures ok { MayFind S.Store tx.old tx.new result (λ s order.
         order ≡ named_by (option_copied operation.entry)
-        (filter (is_of_binding binding.now) (life_of (stored s) instance.now))) }
+        (filter (is_of_binding binding.now) (life_of (told s) instance.now))) }
     ensures reads { MayRead S.Store tx.old tx.new result }
 {
     let Some(name) = operation else {
@@ -182,7 +183,7 @@ fn read_named<S: Alter>(
 ) -> Result<Option<Order>, StoreFault>
     requires { ShowsRecords (behind S.Store tx.old) }
     ensures ok { MayFind S.Store tx.old tx.new result (λ s order.
-        order ≡ named_in ask.now (life_of (stored s) instance.now)) }
+        order ≡ named_in ask.now (life_of (told s) instance.now)) }
     ensures reads { MayRead S.Store tx.old tx.new result }
 {
     match ask {
@@ -216,7 +217,7 @@ fn read_subject<S: Alter>(
 ) -> Result<Option<Order>, StoreFault>
     requires { ShowsRecords (behind S.Store tx.old) }
     ensures ok { MayFind S.Store tx.old tx.new result (λ s order.
-        order ≡ last_of (subject ask.now (life_of (stored s) instance.now))) }
+        order ≡ last_of (subject ask.now (life_of (told s) instance.now))) }
     ensures reads { MayRead S.Store tx.old tx.new result }
 {
     match ask {
@@ -245,8 +246,8 @@ fn read_bindings<S: Alter>(
     requires { ShowsRecords (behind S.Store tx.old) }
     ensures ok { Finds S.Store tx.old tx.new result (λ s found.
         (found.0 ≡ option_and_then (λ id.
-        get (bindings_of (life_of (stored s) instance.now)) id) (binding_in ask.now))
-        × (found.1 ≡ has_rows (bindings_of (life_of (stored s) instance.now)))) }
+        get (bindings_of (life_of (told s) instance.now)) id) (binding_in ask.now))
+        × (found.1 ≡ has_rows (bindings_of (life_of (told s) instance.now)))) }
     ensures reads { Reads S.Store tx.old tx.new result }
 {
     let bound = read_bound(tx, instance)?;
@@ -263,8 +264,8 @@ fn read_polled<S: Alter>(
 ) -> Result<(Option<Order>, Option<Order>), StoreFault>
     requires { ShowsRecords (behind S.Store tx.old) }
     ensures ok { MayFind S.Store tx.old tx.new result (λ s found.
-        (found.0 ≡ named_in ask.now (life_of (stored s) instance.now))
-        × (found.1 ≡ last_of (subject ask.now (life_of (stored s) instance.now)))) }
+        (found.0 ≡ named_in ask.now (life_of (told s) instance.now))
+        × (found.1 ≡ last_of (subject ask.now (life_of (told s) instance.now)))) }
     ensures reads { MayRead S.Store tx.old tx.new result }
 {
     let named = read_named(tx, alloc, instance, ask)?;
@@ -291,10 +292,10 @@ fn read_asked<S: Alter>(
     requires { ShowsRecords (behind S.Store tx.old) }
     ensures ok { Finds S.Store tx.old tx.new result (λ s asked.
         ((asked.binding ≡ option_and_then (λ id.
-        get (bindings_of (life_of (stored s) instance.now)) id) (binding_in ask.now))
-        × (asked.bound ≡ has_rows (bindings_of (life_of (stored s) instance.now))))
-        × ((asked.named ≡ named_in ask.now (life_of (stored s) instance.now))
-        × (asked.subject_last ≡ last_of (subject ask.now (life_of (stored s) instance.now))))) }
+        get (bindings_of (life_of (told s) instance.now)) id) (binding_in ask.now))
+        × (asked.bound ≡ has_rows (bindings_of (life_of (told s) instance.now))))
+        × ((asked.named ≡ named_in ask.now (life_of (told s) instance.now))
+        × (asked.subject_last ≡ last_of (subject ask.now (life_of (told s) instance.now))))) }
     ensures reads { Reads S.Store tx.old tx.new result }
 {
     let (binding, bound) = read_bindings(tx, alloc, instance, ask)?;
@@ -317,12 +318,12 @@ fn read_asked_of<S: Alter>(
 ) -> Result<Asked, StoreFault>
     requires { ShowsRecords (behind S.Store tx.old) }
     ensures ok { Finds S.Store tx.old tx.new result (λ s asked.
-        option_copied row.entry ≡ row_of (life_of (stored s) instance.now) →
+        option_copied row.entry ≡ row_of (life_of (told s) instance.now) →
         ((asked.binding ≡ option_and_then (λ id.
-        get (bindings_of (life_of (stored s) instance.now)) id) (binding_in ask.now))
-        × (asked.bound ≡ has_rows (bindings_of (life_of (stored s) instance.now))))
-        × ((asked.named ≡ named_in ask.now (life_of (stored s) instance.now))
-        × (asked.subject_last ≡ last_of (subject ask.now (life_of (stored s) instance.now))))) }
+        get (bindings_of (life_of (told s) instance.now)) id) (binding_in ask.now))
+        × (asked.bound ≡ has_rows (bindings_of (life_of (told s) instance.now))))
+        × ((asked.named ≡ named_in ask.now (life_of (told s) instance.now))
+        × (asked.subject_last ≡ last_of (subject ask.now (life_of (told s) instance.now))))) }
     ensures reads { MayRead S.Store tx.old tx.new result }
 {
     match row {
@@ -336,8 +337,8 @@ fn read_asked_of<S: Alter>(
     }
 }
 
-/// What is read for an ask that names the instance.
-pub(crate) fn read_for<S: Alter>(
+/// What is read for an ask that names the instance, but for the contexts.
+fn read_for<S: Alter>(
     tx: &mut Transaction<'_, S>,
     alloc: Global,
     instance: &str,
@@ -345,7 +346,7 @@ pub(crate) fn read_for<S: Alter>(
 ) -> Result<Read, StoreFault>
     requires { ShowsRecords (behind S.Store tx.old) }
     ensures ok { Finds S.Store tx.old tx.new result (λ s read.
-        IsReadOf (life_of (stored s) instance.now) [] ask.now read) }
+        IsReadOf (life_of (told s) instance.now) [] ask.now read) }
     ensures reads { Reads S.Store tx.old tx.new result }
 {
     let (row, last) = read_standing(tx, alloc, instance)?;
@@ -361,8 +362,23 @@ pub(crate) fn read_for<S: Alter>(
     })
 }
 
+/// What is read for an ask that names the instance.
+fn read_joined<S: Alter>(
+    tx: &mut Transaction<'_, S>,
+    alloc: Global,
+    instance: &str,
+    ask: &Ask,
+) -> Result<Read, StoreFault>
+    requires { ShowsLives (behind S.Store tx.old) }
+    ensures ok { Finds S.Store tx.old tx.new result (λ s read.
+        IsReadOf (life_of (stored s) instance.now) [] ask.now read) }
+    ensures reads { Reads S.Store tx.old tx.new result }
+{
+    let read = read_for(tx, alloc, instance, ask)?;
+    join_read(tx, instance, read)
+}
+
 /// The view for an ask that names the instance.
-#[tactic(auto, using(crate::proofs::AskLemmas::ready_shows))]
 pub(crate) fn view_of_instance<S: Alter>(
     conn: &mut Connection<S>,
     alloc: Global,
@@ -375,7 +391,7 @@ pub(crate) fn view_of_instance<S: Alter>(
     ensures looks { Looks (state S.Store conn.old) (state S.Store conn.new) result }
 {
     let mut tx = conn.transaction();
-    let read = read_for(&mut tx, alloc, instance, ask)?;
+    let read = read_joined(&mut tx, alloc, instance, ask)?;
     tx.rollback();
     Ok(view_by(read))
 }

@@ -1,6 +1,6 @@
-//! Orders written together with what stands then, inside a transaction.
+//! Orders written together with what stands then and with their contexts, inside a transaction.
 
-ghost use Rattle.std.specs.Prelude.{◌≡◌, IsTrue, Some};
+ghost use Rattle.std.specs.Prelude.{◌≡◌, IsTrue, IfOk, Some};
 ghost use Rattle.sqlite.specs.State.{HasCleanDisk};
 ghost use Rattle.osb_orders.specs.declared.order.Change.TheVariants.{Append, Finish};
 ghost use Rattle.osb_orders.specs.Lives.{life_of};
@@ -9,22 +9,23 @@ ghost use Rattle.osb_orders.specs.IsLife.{IsLives};
 ghost use Rattle.osb_orders.specs.Allowed.{IsFinishable};
 ghost use Rattle.osb_orders.specs.Lists.{last_of};
 ghost use Rattle.osb_standing.specs.Written as written;
-ghost use Rattle.osb_records.specs.Queries.{ShowsRecords};
+ghost use Rattle.osb_records.specs.Queries.{ShowsRecords, ShowsLives};
 ghost use Rattle.osb_bare.specs.Bare.{bare_order};
-ghost use Rattle.osb_records.specs.Inside.{Writes};
-ghost use Rattle.osb_records.specs.Steps.{stored};
-ghost use Rattle.osb_records.specs.Reads.{Reads, Finds, behind, StaysInside, Does};
+ghost use Rattle.osb_records.specs.Inside.{Writes, WritesLives};
+ghost use Rattle.osb_records.specs.Steps.{stored, told};
+ghost use Rattle.osb_contexts.specs.Reads.{Reads, Finds, behind, StaysInside, Does};
 
 use crate::fault::StoreFault;
 use crate::orders::{finish_order, insert_order, order_numbered};
 use crate::standing::write_standing;
+use osb_contexts::{append_context, end_context};
 use osb_orders::{Change, Order, Outcome};
 use osb_standing::order_written;
 use sqlite::{Alter, Transaction};
 use std::alloc::Global;
 
-/// Writes one order more, without its context. An instance whose first order it is has no row to look for.
-pub(crate) fn append_order<S: Alter>(
+/// Writes one order more but for its context. An instance whose first order it is has no row to look for.
+fn append_order<S: Alter>(
     tx: &mut Transaction<'_, S>,
     alloc: Global,
     instance: &str,
@@ -33,10 +34,10 @@ pub(crate) fn append_order<S: Alter>(
     requires records { ShowsRecords (behind S.Store tx.old) }
     requires whole { HasCleanDisk (behind S.Store tx.old) → IsTrue (behind S.Store tx.old).is_open →
         IsLives (lives_changed (Append (bare_order order.now)) instance.now
-        (stored (behind S.Store tx.old))) }
+        (told (behind S.Store tx.old))) }
     ensures ok { Does S.Store tx.old tx.new result (λ old new.
         Writes old new (lives_changed (Append (bare_order order.now)) instance.now
-        (stored old))) }
+        (told old))) }
     ensures inside { StaysInside S.Store tx.old tx.new }
 {
     write_standing(tx, alloc, instance, order, order.number == 1)?;
@@ -54,9 +55,9 @@ fn ended_order<S: Alter>(
 ) -> Result<Order, StoreFault>
     requires { ShowsRecords (behind S.Store tx.old) }
     ensures ok { Finds S.Store tx.old tx.new result (λ s order.
-        IsFinishable (life_of (stored s) instance.now) number outcome.now →
+        IsFinishable (life_of (told s) instance.now) number outcome.now →
         written.order_written (last_of (life_of
-        (stored s) instance.now)) (Finish number outcome.now) ≡ Some order) }
+        (told s) instance.now)) (Finish number outcome.now) ≡ Some order) }
     ensures reads { Reads S.Store tx.old tx.new result }
 {
     let ending = Change::Finish(number, outcome.clone()?);
@@ -67,23 +68,69 @@ fn ended_order<S: Alter>(
     }
 }
 
-/// Gives the running last order its outcome.
-pub(crate) fn end_order<S: Alter>(
+/// Gives the running last order its outcome, which it returns with it.
+fn end_order<S: Alter>(
+    tx: &mut Transaction<'_, S>,
+    alloc: Global,
+    instance: &str,
+    number: u32,
+    outcome: &Outcome,
+) -> Result<Order, StoreFault>
+    requires records { ShowsRecords (behind S.Store tx.old) }
+    requires last { HasCleanDisk (behind S.Store tx.old) → IsTrue (behind S.Store tx.old).is_open →
+        IsFinishable (life_of (told (behind S.Store tx.old)) instance.now) number outcome.now }
+    ensures ok { Does S.Store tx.old tx.new result (λ old new.
+        Writes old new (lives_changed (Finish number outcome.now) instance.now (told old))) }
+    ensures ends { HasCleanDisk (behind S.Store tx.new) → IfOk result (λ order.
+        written.order_written (last_of (life_of (told (behind S.Store tx.old)) instance.now))
+        (Finish number outcome.now) ≡ Some order) }
+    ensures inside { StaysInside S.Store tx.old tx.new }
+{
+    let order = ended_order(tx, alloc, instance, number, outcome)?;
+    write_standing(tx, alloc, instance, &order, false)?;
+    finish_order(tx, instance, number, outcome)?;
+    Ok(order)
+}
+
+/// Writes one order more, with its context.
+pub(crate) fn append_joined<S: Alter>(
+    tx: &mut Transaction<'_, S>,
+    alloc: Global,
+    instance: &str,
+    order: &Order,
+) -> Result<(), StoreFault>
+    requires lives { ShowsLives (behind S.Store tx.old) }
+    requires whole { HasCleanDisk (behind S.Store tx.old) → IsTrue (behind S.Store tx.old).is_open →
+        IsLives (lives_changed (Append order.now) instance.now (stored (behind S.Store tx.old))) }
+    ensures ok { Does S.Store tx.old tx.new result (λ old new.
+        WritesLives old new (lives_changed (Append order.now) instance.now (stored old))) }
+    ensures inside { StaysInside S.Store tx.old tx.new }
+{
+    append_order(tx, alloc, instance, order)?;
+    append_context(tx, instance, order)?;
+    Ok(())
+}
+
+/// Gives the running last order its outcome, and leaves its context standing where it is to stand.
+pub(crate) fn end_joined<S: Alter>(
     tx: &mut Transaction<'_, S>,
     alloc: Global,
     instance: &str,
     number: u32,
     outcome: &Outcome,
 ) -> Result<(), StoreFault>
-    requires records { ShowsRecords (behind S.Store tx.old) }
+    requires lives { ShowsLives (behind S.Store tx.old) }
+    requires whole { HasCleanDisk (behind S.Store tx.old) → IsTrue (behind S.Store tx.old).is_open →
+        IsLives (lives_changed (Finish number outcome.now) instance.now
+        (stored (behind S.Store tx.old))) }
     requires last { HasCleanDisk (behind S.Store tx.old) → IsTrue (behind S.Store tx.old).is_open →
         IsFinishable (life_of (stored (behind S.Store tx.old)) instance.now) number outcome.now }
     ensures ok { Does S.Store tx.old tx.new result (λ old new.
-        Writes old new (lives_changed (Finish number outcome.now) instance.now (stored old))) }
+        WritesLives old new (lives_changed (Finish number outcome.now) instance.now
+        (stored old))) }
     ensures inside { StaysInside S.Store tx.old tx.new }
 {
-    let order = ended_order(tx, alloc, instance, number, outcome)?;
-    write_standing(tx, alloc, instance, &order, false)?;
-    finish_order(tx, instance, number, outcome)?;
+    let order = end_order(tx, alloc, instance, number, outcome)?;
+    end_context(tx, instance, &order)?;
     Ok(())
 }

@@ -1,32 +1,33 @@
 -- Which lives the next run finds.
 use Rattle.std.proofs.Common.{◌≡◌, ◌⊎◌, inl, inr, IsTrue, Result, Ok, Err, OnOk, is_ok, sym, ap, ◌∙◌}
-use Rattle.std.specs.Prelude.{◌≢◌}
 use Rattle.std.proofs.lemmas.Bool.{false≢true}
 use Rattle.std.proofs.Math.Logic.{∥∥₁_elim, ∥∥₁_map}
 use Rattle.sqlite.specs.Tree.{Trees}
 use Rattle.sqlite.specs.State.{State, HasCleanDisk, Survives}
 use Rattle.sqlite_catalog.proofs.ReadLemmas.{lists_once}
-use Rattle.sqlite.specs.Schema.{Schema}
-use Rattle.osb_tables.specs.Tables.{no_schema, record_schema}
+use Rattle.osb_tables.specs.Tables.{no_schema, second_schema}
+use Rattle.osb_tables.specs.declared.schema.Indexes.TheVariants.{Both}
+use Rattle.osb_tables.proofs.SchemaLemmas.{versions_apart, second_is_something}
 use Rattle.osb_orders.specs.Lives.{Lives}
 use Rattle.osb_records.specs.Stored.{lives_stored}
 use Rattle.osb_records.specs.Kept.{KeepsLives}
+use Rattle.osb_records.specs.Opened.{StandIn}
 use Rattle.osb_records.specs.Steps.{HoldsLives}
 use Rattle.osb_file.specs.File.{AreLivesOf}
 use Rattle.osb_restart.specs.Restart.{MayFind}
 use Rattle.osb_restart.proofs.LivesLemmas.{Lives-set}
 
-no_tables : record_schema ≢ no_schema
-no_tables is = absurd (let tables = ap (λ (s : Schema). s.tables) is in cc)
-
 -- trees are a database of one schema, so where they hold lives no others stand in them
 pub stored_are_found : (db : Trees) (lives found : Lives) → HoldsLives lives db → AreLivesOf db found → found ≡ lives_stored db
-stored_are_found db lives found holds stand =
-    let schema : stand.0 ≡ record_schema = lists_once _ _ _ stand.1.lists holds.sound.lists in
-    elim stand.2 [
-      | inl none ↦ absurd (no_tables (sym schema ∙ none.0))
-      | inr all ↦ all.2
-    ]
+stored_are_found db lives found holds stand = go stand.2
+  where
+    schema : stand.0 ≡ second_schema
+    schema = lists_once _ _ _ stand.1.lists holds.sound.lists
+
+    go : StandIn (record { schema = stand.0; trees = db }) found → found ≡ lives_stored db
+    go (inl none) = absurd (second_is_something Both (sym schema ∙ none.0))
+    go (inr (inl first)) = absurd (versions_apart first.0.0 Both (sym first.0.1 ∙ schema))
+    go (inr (inr second)) = second.2
 
 pub held_are_found : (db : Trees) (lives found : Lives) → HoldsLives lives db → AreLivesOf db found → found ≡ lives
 held_are_found db lives found holds stand = stored_are_found db lives found holds stand ∙ holds.lives_are

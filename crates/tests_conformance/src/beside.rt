@@ -1,7 +1,7 @@
 //! The records beside the plain lives: after each request of a conversation both give one view for
 //! its ask, and have one life.
 
-use crate::rows::{again, bindings, instances};
+use crate::rows::{again, bindings, contexts, instances};
 use crate::standing::standing_by;
 use osb_asks::{Ask, AskFault, read_ask};
 use osb_catalog::Settings;
@@ -208,4 +208,16 @@ fn views_of_bindings(rt: HostRuntime) -> Result<(), Fail> {
     stay_beside(alloc, &bindings::TWO_BINDINGS)?;
     stay_beside(alloc, &bindings::BOUND_AGAIN)?;
     stay_beside(alloc, &bindings::PLAN_CHANGED_UNDER_IT)
+}
+
+#[test]
+fn views_of_contexts(rt: HostRuntime) -> Result<(), Fail> {
+    let alloc = rt.alloc();
+    stay_beside(alloc, &contexts::KEPT)?;
+    stay_beside(alloc, &contexts::NOT_ALLOWED)?;
+    stay_beside(alloc, &contexts::OF_BINDINGS)?;
+    stay_beside(alloc, &contexts::AT_ONCE)?;
+    let settings = contexts::with_updates(alloc)?;
+    stay_beside_over(alloc, &settings, &contexts::UPDATED)?;
+    stay_beside_over(alloc, &settings, &contexts::EMPTIED)
 }

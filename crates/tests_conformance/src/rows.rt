@@ -2,6 +2,7 @@
 
 pub(crate) mod again;
 pub(crate) mod bindings;
+pub(crate) mod contexts;
 mod framing;
 pub(crate) mod instances;
 mod listing;
@@ -10,3 +11,4 @@ mod plans;
 mod requests;
 mod settings;
 mod streams;
+mod versions;

@@ -2,7 +2,7 @@
 //! has in the end, read off the orders by hand.
 
 use crate::beside::stay_beside_once;
-use crate::rows::{again, bindings, instances};
+use crate::rows::{again, bindings, contexts, instances};
 use osb_asks::Ask;
 use osb_catalog::Settings;
 use osb_orders::{Attributes, Order, PlainLives, View};
@@ -131,7 +131,20 @@ fn standing_after(
     Ok(records)
 }
 
-/// Fails where after an exchange something else stands of `i`, or in the end it has other orders.
+/// Fails where after an exchange over these settings something else stands of `i`, or in the end it has
+/// other orders.
+fn stands_over(
+    alloc: Global,
+    settings: &Settings,
+    exchanges: &[Exchange],
+    standings: &[&str],
+    orders: &[&str],
+) -> Result<(), Fail> {
+    let mut records = standing_after(alloc, settings, exchanges, standings)?;
+    has_orders(alloc, &mut records, orders)
+}
+
+/// The same over the built-in settings.
 fn stands(
     alloc: Global,
     exchanges: &[Exchange],
@@ -139,8 +152,7 @@ fn stands(
     orders: &[&str],
 ) -> Result<(), Fail> {
     let settings = built_in(alloc)?;
-    let mut records = standing_after(alloc, &settings, exchanges, standings)?;
-    has_orders(alloc, &mut records, orders)
+    stands_over(alloc, &settings, exchanges, standings, orders)
 }
 
 #[test]
@@ -301,6 +313,109 @@ fn sync_binding(rt: HostRuntime) -> Result<(), Fail> {
             "bind-2 succeeded p-sync {}",
             "unbind-3 succeeded p-sync {}",
             "delete-4 succeeded p-sync {}",
+        ],
+    )
+}
+
+#[test]
+fn context_kept(rt: HostRuntime) -> Result<(), Fail> {
+    let making = "Creating p-async {} 1.2.0 {\"platform\":\"x\"}";
+    let made = "Ready p-async {} 1.2.0 {\"platform\":\"x\"}";
+    stands(
+        rt.alloc(),
+        &contexts::KEPT,
+        &[
+            making, making, making, making, made, made, made, made, made, made,
+        ],
+        &["create-1 succeeded p-async {} 1.2.0 {\"platform\":\"x\"}"],
+    )
+}
+
+#[test]
+fn context_updated(rt: HostRuntime) -> Result<(), Fail> {
+    let settings = contexts::with_updates(rt.alloc())?;
+    let making = "Creating p-async {} 1.2.0 {\"platform\":\"x\"}";
+    let made = "Ready p-async {} 1.2.0 {\"platform\":\"x\"}";
+    let updating = "Updating p-async {} 1.2.0 {\"platform\":\"x\"}";
+    let updated = "Ready p-async {} 1.2.0 {\"platform\":\"y\"}";
+    let again = "Updating p-async {} 1.2.0 {\"platform\":\"y\"}";
+    let deleting = "Deleting p-async {} 1.2.0 {\"platform\":\"y\"}";
+    stands_over(
+        rt.alloc(),
+        &settings,
+        &contexts::UPDATED,
+        &[
+            making, making, making, made, made, updating, updating, updating, updating, updating,
+            updated, updated, updated, again, updated, updated, deleting, deleting,
+        ],
+        &[
+            "create-1 succeeded p-async {} 1.2.0 {\"platform\":\"x\"}",
+            "update-2 succeeded p-async {} 1.2.0 {\"platform\":\"y\"}",
+            "update-3 failed p-async {\"n\":1} 1.2.0 {\"platform\":\"z\"}",
+            "delete-4 in progress p-async {} 1.2.0 {\"platform\":\"y\"}",
+        ],
+    )
+}
+
+#[test]
+fn context_not_allowed(rt: HostRuntime) -> Result<(), Fail> {
+    let made = "Ready p-async {} 1.2.0 {\"platform\":\"x\"}";
+    let updating = "Updating p-async {} 1.2.0 {\"platform\":\"x\"}";
+    let updated = "Ready p-async {\"n\":1} 1.2.0 {\"platform\":\"x\"}";
+    stands(
+        rt.alloc(),
+        &contexts::NOT_ALLOWED,
+        &[
+            "Creating p-async {} 1.2.0 {\"platform\":\"x\"}",
+            made,
+            updating,
+            updating,
+            updating,
+            updating,
+            updated,
+            updated,
+            updated,
+        ],
+        &[
+            "create-1 succeeded p-async {} 1.2.0 {\"platform\":\"x\"}",
+            "update-2 succeeded p-async {\"n\":1} 1.2.0 {\"platform\":\"x\"}",
+        ],
+    )
+}
+
+#[test]
+fn contexts_of_bindings(rt: HostRuntime) -> Result<(), Fail> {
+    let with_x = "Ready p-async {} 1.2.0 {\"platform\":\"x\"}";
+    let deleting = "Deleting p-async {} 1.2.0 {\"platform\":\"x\"}";
+    stands(
+        rt.alloc(),
+        &contexts::OF_BINDINGS,
+        &[
+            "Creating p-async {} 1.2.0 {\"platform\":\"x\"}",
+            with_x,
+            with_x,
+            with_x,
+            with_x,
+            with_x,
+            with_x,
+            with_x,
+            with_x,
+            with_x,
+            with_x,
+            deleting,
+            deleting,
+            "Absent",
+            "Creating p-async {} 1.2.0",
+            "Ready p-async {} 1.2.0",
+            "Deleting p-async {} 1.2.0",
+        ],
+        &[
+            "create-1 succeeded p-async {} 1.2.0 {\"platform\":\"x\"}",
+            "bind-2 succeeded p-async {} {\"platform\":\"y\"}",
+            "unbind-3 succeeded p-async {}",
+            "delete-4 succeeded p-async {} 1.2.0 {\"platform\":\"x\"}",
+            "create-5 succeeded p-async {} 1.2.0",
+            "delete-6 in progress p-async {} 1.2.0",
         ],
     )
 }

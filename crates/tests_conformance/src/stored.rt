@@ -3,7 +3,7 @@
 use sqlite::{Connection, Error, MemStore, Row};
 use std::alloc::Global;
 use std::test::Fail;
-use tests_support::asks::{ASYNC, CREATE_1, SUCCEEDED, SYNC, TO_ASYNC, UPDATE_TO_1};
+use tests_support::asks::{ASYNC, CREATE_1, SUCCEEDED, TO_ASYNC, UPDATE_TO_1};
 use tests_support::catalogs::built_in;
 use tests_support::exchange::Exchange;
 use tests_support::replies::*;
@@ -14,7 +14,13 @@ const FAILED: &str = r#"{"state":"failed","description":"no disk"}"#;
 const KEY: &str = r#"{"state":"succeeded","credentials":{"k":"v"}}"#;
 
 const WITH_ALL: &str =
-    r#"{"service_id":"svc","plan_id":"p-async","app_guid":"app","bind_resource":{"r":1},"parameters":{"n":1}}"#;
+    r#"{"service_id":"svc","plan_id":"p-async","app_guid":"app","bind_resource":{"r":1},"context":{"q":2},"parameters":{"n":1}}"#;
+
+const ASYNC_WITH_CONTEXT: &str =
+    r#"{"service_id":"svc","plan_id":"p-async","organization_guid":"o","space_guid":"s","context":{"p":1}}"#;
+
+const SYNC_WITH_CONTEXT: &str =
+    r#"{"service_id":"svc","plan_id":"p-sync","organization_guid":"o","space_guid":"s","context":{"p":1}}"#;
 
 /// Orders of each kind and in each state leave instances and bindings in each phase.
 const EACH_PHASE: [Exchange; 23] = [
@@ -26,7 +32,7 @@ const EACH_PHASE: [Exchange; 23] = [
     ),
     (
         "PUT /v2/service_instances/b?accepts_incomplete=true",
-        ASYNC,
+        ASYNC_WITH_CONTEXT,
         ACCEPTED,
         CREATE_1,
     ),
@@ -66,7 +72,7 @@ const EACH_PHASE: [Exchange; 23] = [
     ),
     (
         "PUT /v2/service_instances/d?accepts_incomplete=true",
-        ASYNC,
+        ASYNC_WITH_CONTEXT,
         ACCEPTED,
         CREATE_1,
     ),
@@ -93,7 +99,7 @@ const EACH_PHASE: [Exchange; 23] = [
     ("PUT /backend/v1/orders/e/1", FAILED, OK, "{}"),
     (
         "PUT /v2/service_instances/f?accepts_incomplete=true",
-        ASYNC,
+        ASYNC_WITH_CONTEXT,
         ACCEPTED,
         CREATE_1,
     ),
@@ -104,7 +110,12 @@ const EACH_PHASE: [Exchange; 23] = [
         ACCEPTED,
         r#"{"operation":"delete-2"}"#,
     ),
-    ("PUT /v2/service_instances/g", SYNC, CREATED, "{}"),
+    (
+        "PUT /v2/service_instances/g",
+        SYNC_WITH_CONTEXT,
+        CREATED,
+        "{}",
+    ),
     (
         "DELETE /v2/service_instances/g?service_id=svc&plan_id=p-sync",
         "",
@@ -117,8 +128,8 @@ const EACH_PHASE: [Exchange; 23] = [
 /// cells.
 type Table = (&'static str, &'static str, &'static [&'static str]);
 
-const TABLES: [Table; 4] = [
-    ("SELECT version FROM format", "n", &["1"]),
+const TABLES: [Table; 5] = [
+    ("SELECT version FROM format", "n", &["2"]),
     (
         "SELECT instance_id, seq, kind, binding_id, service_id, plan_id, place, spot, params, maint, state, note, credentials FROM orders ORDER BY instance_id, seq",
         "tnntttttttntt",
@@ -161,6 +172,34 @@ const TABLES: [Table; 4] = [
             "b|y|3|svc|p-async||{}|{}|{}",
             "c|w|1|svc|p-async||{}|{}|{}",
             "d|v|2|svc|p-async||{}|{}|{}",
+        ],
+    ),
+    (
+        "SELECT instance_id, seq, context FROM contexts ORDER BY instance_id, seq",
+        "tnt",
+        &[
+            "a|0|{}",
+            "a|1|{}",
+            r#"b|0|{"p":1}"#,
+            r#"b|1|{"p":1}"#,
+            r#"b|2|{"q":2}"#,
+            "b|3|{}",
+            "b|4|{}",
+            "c|0|{}",
+            "c|1|{}",
+            "c|2|{}",
+            r#"d|0|{"p":1}"#,
+            r#"d|1|{"p":1}"#,
+            "d|2|{}",
+            r#"d|3|{"p":1}"#,
+            "e|0|{}",
+            "e|1|{}",
+            r#"f|0|{"p":1}"#,
+            r#"f|1|{"p":1}"#,
+            r#"f|2|{"p":1}"#,
+            "g|0|",
+            r#"g|1|{"p":1}"#,
+            r#"g|2|{"p":1}"#,
         ],
     ),
 ];
@@ -229,7 +268,7 @@ fn each_phase(rt: HostRuntime) -> Result<(), Fail> {
     Ok(())
 }
 
-const COLUMNS: [(&str, &str); 33] = [
+const COLUMNS: [(&str, &str); 36] = [
     ("format", "version"),
     ("orders", "instance_id"),
     ("orders", "seq"),
@@ -263,19 +302,24 @@ const COLUMNS: [(&str, &str); 33] = [
     ("bindings", "bind_resource"),
     ("bindings", "params"),
     ("bindings", "credentials"),
+    ("contexts", "instance_id"),
+    ("contexts", "seq"),
+    ("contexts", "context"),
 ];
 
 /// Statements that break a key or put a text where a number belongs.
-const REFUSED: [&str; 9] = [
+const REFUSED: [&str; 11] = [
     "INSERT INTO orders SELECT * FROM orders WHERE instance_id = 'a'",
     "INSERT INTO instances SELECT * FROM instances WHERE instance_id = 'a'",
     "INSERT INTO bindings SELECT * FROM bindings WHERE binding_id = 'v'",
+    "INSERT INTO contexts SELECT * FROM contexts WHERE instance_id = 'a'",
     "UPDATE format SET version = 'x'",
     "UPDATE orders SET seq = 'x'",
     "UPDATE orders SET kind = 'x'",
     "UPDATE orders SET state = 'x'",
     "UPDATE instances SET phase = 'x'",
     "UPDATE bindings SET phase = 'x'",
+    "UPDATE contexts SET seq = 'x'",
 ];
 
 /// Fails where a statement is carried out.

@@ -1,5 +1,5 @@
 //! Small tables by hand: rows of lives, and the same with one thing turned. All texts but the ids,
-//! the plans and the parameters are alike.
+//! the plans, the parameters and the contexts are alike.
 
 use osb_audit::{BindingEntry, are_rows_of_lives, plans_in_use};
 use osb_orders::BindingPhase::{Binding, Bound, Unbinding};
@@ -133,7 +133,7 @@ const REFUSED: [Case; 17] = [
     (&[CREATED], &[READY], &[("b", "x", Bound)]),
 ];
 
-fn attributes(alloc: Global, plan: &str) -> Result<Attributes, AllocError> {
+fn attributes(alloc: Global, plan: &str, context: &str) -> Result<Attributes, AllocError> {
     Ok(Attributes {
         service: Text::from_str(alloc, "s")?,
         plan: Text::from_str(alloc, plan)?,
@@ -141,7 +141,7 @@ fn attributes(alloc: Global, plan: &str) -> Result<Attributes, AllocError> {
         spot: Text::from_str(alloc, "{}")?,
         parameters: Text::from_str(alloc, "{}")?,
         maintenance: Text::new(alloc),
-        context: Text::from_str(alloc, "{}")?,
+        context: Text::from_str(alloc, context)?,
     })
 }
 
@@ -154,11 +154,16 @@ fn outcome(alloc: Global, state: OrderState) -> Result<Outcome, AllocError> {
     })
 }
 
-fn order(alloc: Global, case: &OrderCase, plan: &str) -> Result<(Text, Order), AllocError> {
+fn order(
+    alloc: Global,
+    case: &OrderCase,
+    plan: &str,
+    context: &str,
+) -> Result<(Text, Order), AllocError> {
     let id = Text::from_str(alloc, case.0)?;
     let binding = Text::from_str(alloc, case.4)?;
     let outcome = outcome(alloc, case.3)?;
-    let attributes = attributes(alloc, plan)?;
+    let attributes = attributes(alloc, plan, context)?;
     let order = Order {
         number: case.1,
         kind: case.2,
@@ -172,14 +177,18 @@ fn order(alloc: Global, case: &OrderCase, plan: &str) -> Result<(Text, Order), A
 fn orders(alloc: Global, cases: &[OrderCase]) -> Result<Vec<(Text, Order)>, AllocError> {
     let mut orders = Vec::new(alloc);
     for case in cases {
-        orders.push(order(alloc, case, "p")?)?;
+        orders.push(order(alloc, case, "p", "{}")?)?;
     }
     Ok(orders)
 }
 
-fn instance(alloc: Global, case: &InstanceCase) -> Result<(Text, InstanceRow), AllocError> {
+fn instance(
+    alloc: Global,
+    case: &InstanceCase,
+    context: &str,
+) -> Result<(Text, InstanceRow), AllocError> {
     let id = Text::from_str(alloc, case.0)?;
-    let attributes = attributes(alloc, case.4)?;
+    let attributes = attributes(alloc, case.4, context)?;
     let standing = match case.1 {
         None => None,
         Some(phase) => Some(Standing { phase, attributes }),
@@ -198,7 +207,7 @@ fn instances(
 ) -> Result<Vec<(Text, InstanceRow)>, AllocError> {
     let mut instances = Vec::new(alloc);
     for case in cases {
-        instances.push(instance(alloc, case)?)?;
+        instances.push(instance(alloc, case, "{}")?)?;
     }
     Ok(instances)
 }
@@ -260,6 +269,50 @@ fn one_thing_turned(rt: HostRuntime) -> Result<(), Fail> {
     Ok(())
 }
 
+/// Whether a creation with one context and the row of its instance with another are those of a life.
+fn with_contexts(alloc: Global, of_order: &str, of_row: &str) -> Result<bool, AllocError> {
+    let mut orders = Vec::new(alloc);
+    orders.push(order(alloc, &CREATED, "p", of_order)?)?;
+    let mut instances = Vec::new(alloc);
+    instances.push(instance(alloc, &READY, of_row)?)?;
+    are_rows_of_lives(alloc, orders.as_slice(), instances.as_slice(), &[])
+}
+
+#[test]
+fn contexts_are_compact_and_alike(rt: HostRuntime) -> Result<(), Fail> {
+    let alloc = rt.alloc();
+    let some = "{\"a\":1}";
+    assert!(rt; with_contexts(alloc, some, some)?);
+    assert!(rt; !with_contexts(alloc, some, "{}")?);
+    assert!(rt; !with_contexts(alloc, "{}", some)?);
+    assert!(rt; !with_contexts(alloc, "{ }", "{ }")?);
+    assert!(rt; !with_contexts(alloc, "[]", "[]")?);
+    assert!(rt; !with_contexts(alloc, "", "")?);
+    Ok(())
+}
+
+/// Whether a binding whose order has this context is one of a life. Its row has none.
+fn binds_with_context(alloc: Global, context: &str) -> Result<bool, AllocError> {
+    let mut orders = Vec::new(alloc);
+    orders.push(order(alloc, &CREATED, "p", "{}")?)?;
+    orders.push(order(alloc, &BINDS, "p", context)?)?;
+    let instances = instances(alloc, &[WITH_BINDING])?;
+    let bindings = bindings(alloc, &[BOUND])?;
+    are_rows_of_lives(
+        alloc,
+        orders.as_slice(),
+        instances.as_slice(),
+        bindings.as_slice(),
+    )
+}
+
+#[test]
+fn a_binding_may_have_any_context(rt: HostRuntime) -> Result<(), Fail> {
+    assert!(rt; binds_with_context(rt.alloc(), "{\"a\":1}")?);
+    assert!(rt; !binds_with_context(rt.alloc(), "{ }")?);
+    Ok(())
+}
+
 /// The plans of two instances, of an absent one and of an Update that runs.
 fn plans(alloc: Global) -> Result<String, AllocError> {
     let rows = [
@@ -269,7 +322,7 @@ fn plans(alloc: Global) -> Result<String, AllocError> {
     ];
     let instances = instances(alloc, &rows)?;
     let mut running = Vec::new(alloc);
-    running.push(order(alloc, &("b", 2, Update, Running, ""), "p")?)?;
+    running.push(order(alloc, &("b", 2, Update, Running, ""), "p", "{}")?)?;
     let mut told = String::new(alloc);
     for (service, plan) in &plans_in_use(alloc, instances.as_slice(), running.as_slice())? {
         told.push_str(service.as_str())?;

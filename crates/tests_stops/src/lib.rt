@@ -3,6 +3,8 @@
 #![tactic(auto)]
 
 #[cfg(test)]
+mod migrations;
+#[cfg(test)]
 mod restarts;
 #[cfg(test)]
 mod sockets;

@@ -1,13 +1,13 @@
 //! Each call once, over files in memory. A stop at each call of a disk stands in `stops`.
 
-use crate::stops::{OPTIONS, opened};
+use crate::stops::{OPTIONS, empty_files, opened};
 use osb_catalog::Settings;
 use osb_frames::{Limits, Step, next};
 use osb_orders::Change;
 use osb_records::Records;
 use osb_replies::Status;
 use osb_restart::{committed_and_restarted, handled_and_restarted, restarted};
-use sqlite::{FileStore, Files};
+use sqlite::FileStore;
 use sqlite_disk::{Crash, Memory};
 use std::alloc::Global;
 use std::test::Fail;
@@ -17,9 +17,7 @@ use tests_support::whole::PUT_I;
 
 /// The records of a new database.
 fn new_records(alloc: Global) -> Option<Records<FileStore<Memory>>> {
-    let log = Memory::new(alloc);
-    let db = Memory::new(alloc);
-    opened(alloc, Files { log, db }).ok()
+    opened(alloc, empty_files(alloc), OPTIONS).ok()
 }
 
 /// The records after a request, a stop and the next run, and what it was answered with.

@@ -65,20 +65,28 @@ pub(crate) const OPTIONS: Options = Options {
 
 /// The file whose disk stops.
 #[derive(Clone, Copy)]
-enum Stopping {
+pub(crate) enum Stopping {
     Log,
     Database,
 }
 
-/// Two empty files. One disk stops after so many calls, and the other never does.
-fn empty_files(alloc: Global, stopping: Stopping, calls: u64) -> Files<Fuse<Memory>> {
+/// Two empty files in memory.
+pub(crate) fn empty_files(alloc: Global) -> Files<Memory> {
+    Files {
+        log: Memory::new(alloc),
+        db: Memory::new(alloc),
+    }
+}
+
+/// These files, where one disk stops after so many calls, and the other never does.
+pub(crate) fn fused(files: Files<Memory>, stopping: Stopping, calls: u64) -> Files<Fuse<Memory>> {
     let (log_calls, db_calls) = match stopping {
         Stopping::Log => (calls, u64::MAX),
         Stopping::Database => (u64::MAX, calls),
     };
     Files {
-        log: Fuse::new(Memory::new(alloc), log_calls),
-        db: Fuse::new(Memory::new(alloc), db_calls),
+        log: Fuse::new(files.log, log_calls),
+        db: Fuse::new(files.db, db_calls),
     }
 }
 
@@ -96,11 +104,12 @@ fn adopted<D: Crash + Drop>(
 pub(crate) fn opened<D: Crash + Drop>(
     alloc: Global,
     files: Files<D>,
+    options: Options,
 ) -> Result<Records<FileStore<D>>, Files<D>> {
     if !files.may_be_used() {
         return Err(files);
     }
-    match Connection::open_files(alloc, files, OPTIONS) {
+    match Connection::open_files(alloc, files, options) {
         Ok(conn) => adopted(alloc, conn),
         Err((_, left)) => Err(left.into_files()),
     }
@@ -110,7 +119,7 @@ pub(crate) fn opened<D: Crash + Drop>(
 fn reopened<D: Crash + Drop>(alloc: Global, mut files: Files<D>) -> Option<Records<FileStore<D>>> {
     files.log.crash();
     files.db.crash();
-    match opened(alloc, files) {
+    match opened(alloc, files, OPTIONS) {
         Ok(records) => Some(records),
         Err(_) => None,
     }
@@ -225,7 +234,7 @@ fn stops<D: Crash + Drop>(
     settings: &Settings,
     files: Files<D>,
 ) -> Result<bool, Fail> {
-    match opened(alloc, files) {
+    match opened(alloc, files, OPTIONS) {
         Ok(records) => stops_serving(alloc, settings, records),
         Err(files) => {
             goes_on_with(alloc, settings, reopened(alloc, files), 0)?;
@@ -235,12 +244,13 @@ fn stops<D: Crash + Drop>(
 }
 
 /// More calls than a conversation makes of a disk.
-const MANY: u64 = 1000;
+pub(crate) const MANY: u64 = 1000;
 
 /// Stops the disk at each of its calls in turn, up to a conversation without a stop.
 fn stops_at_each_call(alloc: Global, settings: &Settings, stopping: Stopping) -> Result<(), Fail> {
     for calls in 0..MANY {
-        if !stops(alloc, settings, empty_files(alloc, stopping, calls))? {
+        let files = fused(empty_files(alloc), stopping, calls);
+        if !stops(alloc, settings, files)? {
             return Ok(());
         }
     }

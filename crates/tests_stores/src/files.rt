@@ -1,6 +1,6 @@
 //! A database file, made and opened again.
 
-use crate::adopting::{ORDER, READY, count_orders, run};
+use crate::adopting::{WHOLE, count_orders, run};
 use osb_file::{DatabaseFile, open_file};
 use osb_records::{Records, StoreFault};
 use sqlite::{Alter, Unknown};
@@ -38,7 +38,7 @@ fn unused(rt: &HostRuntime, name: &str) -> Result<String, Fail> {
 #[test]
 fn a_file_is_made_and_opened_again(rt: HostRuntime) -> Result<(), Fail> {
     let path = unused(&rt, "osb_file_test.db")?;
-    assert_eq!(rt; open_and_run(&rt, path.as_str(), &[ORDER, READY])?, 0);
+    assert_eq!(rt; open_and_run(&rt, path.as_str(), &WHOLE)?, 0);
     assert_eq!(rt; open_and_run(&rt, path.as_str(), &[])?, 1);
     Ok(())
 }

@@ -5,3 +5,5 @@
 mod adopting;
 #[cfg(test)]
 mod files;
+#[cfg(test)]
+mod spoilt;

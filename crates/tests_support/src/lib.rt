@@ -9,4 +9,5 @@ pub mod exchange;
 pub mod lives;
 pub mod replies;
 pub mod serving;
+pub mod versions;
 pub mod whole;

@@ -1,6 +1,6 @@
 use Rattle.std.proofs.Common.{[], ◌∷◌, refl}
 use Rattle.osb_bare.specs.Laws.{BareLivesHaveNoContext}
-use Rattle.osb_bare.proofs.LivesLemmas.{lives_are_bare, is_lives-bare, life_of-bare, lives_in-bare}
+use Rattle.osb_bare.proofs.LivesLemmas.{is_lives-bare, life_of-bare, lives_in-bare}
 use Rattle.osb_bare.proofs.bare_lives.Goals as goal
 
 none_kept : BareLivesHaveNoContext
@@ -8,4 +8,4 @@ none_kept [] = tt
 none_kept (order ∷ later) = (refl, none_kept later)
 
 pub returns : goal.returns
-returns c = record { no_context = none_kept; well_formed = lives_are_bare; kept = is_lives-bare; life = life_of-bare; entries = lives_in-bare }
+returns c = record { no_context = none_kept; kept = is_lives-bare; life = life_of-bare; entries = lives_in-bare }

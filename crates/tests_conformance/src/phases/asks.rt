@@ -110,6 +110,11 @@ pub(crate) const NOTHING: &str = r#"{"service_id":"svc"}"#;
 
 pub(crate) const CONTEXT: &str = r#"{"service_id":"svc","context":{"n":1}}"#;
 
+pub(crate) const NO_CONTEXT: &str = r#"{"service_id":"svc","context":{}}"#;
+
+pub(crate) const ONE_WITH_CONTEXT: &str =
+    r#"{"service_id":"svc","context":{"n":1},"parameters":{"n":1}}"#;
+
 pub(crate) const UPDATE_TO_THIS: &str =
     r#"{"service_id":"svc","maintenance_info":{"version":"1.2.0"}}"#;
 

@@ -40,9 +40,10 @@ fn absent(rt: HostRuntime) -> Result<(), Fail> {
 
 const CREATING: [Exchange; 1] = [(MAKE, LARGE, ACCEPTED, CREATE_1)];
 
-const IN_CREATING: [Exchange; 27] = [
+const IN_CREATING: [Exchange; 28] = [
     (MAKE, LARGE, ACCEPTED, CREATE_1),
     (MAKE, THIS_VERSION, ACCEPTED, CREATE_1),
+    (MAKE, OTHER_CONTEXT, ACCEPTED, CREATE_1),
     (MAKE_NOW, LARGE, UNPROCESSABLE, ASYNC_REQUIRED),
     (MAKE, OTHER_SPACE, CONFLICT, "{}"),
     (MAKE, OTHER_ORGANIZATION, CONFLICT, "{}"),
@@ -89,7 +90,7 @@ const IN_READY: [Exchange; 38] = [
     (MAKE, LARGE, OK, "{}"),
     (MAKE_NOW, LARGE, OK, "{}"),
     (MAKE, THIS_VERSION, OK, "{}"),
-    // Contexts don't count.
+    // The context doesn't count, and the service doesn't allow another one.
     (MAKE, OTHER_CONTEXT, OK, "{}"),
     (UPDATE_NOW, CONTEXT, OK, "{}"),
     (MAKE, OTHER_SPACE, CONFLICT, "{}"),

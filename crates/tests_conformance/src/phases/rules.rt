@@ -187,6 +187,54 @@ fn a_plan_that_stays(rt: HostRuntime) -> Result<(), Fail> {
     in_phase(alloc, &settings, &BINDING_RUNS, &IN_FIXED_AND_UPDATING)
 }
 
+/// Where contexts may be updated.
+const IN_OPEN_TO_CONTEXTS: [Exchange; 5] = [
+    (MAKE, OTHER_CONTEXT, OK, "{}"),
+    (UPDATE, CONTEXT, ACCEPTED, UPDATE_2),
+    (UPDATE_NOW, CONTEXT, UNPROCESSABLE, ASYNC_REQUIRED),
+    (UPDATE_NOW, NO_CONTEXT, OK, "{}"),
+    (UPDATE_NOW, NOTHING, OK, "{}"),
+];
+
+/// The update that runs has the context that stands.
+const IN_OPEN_AND_UPDATING: [Exchange; 3] = [
+    (UPDATE, ONE_WITH_CONTEXT, UNPROCESSABLE, BUSY),
+    (UPDATE, CONTEXT, UNPROCESSABLE, BUSY),
+    (UPDATE, ONE, ACCEPTED, UPDATE_2),
+];
+
+/// Another service of the catalog that allows it doesn't count.
+const IN_CLOSED_AND_UPDATING: [Exchange; 2] = [
+    (UPDATE, ONE_WITH_CONTEXT, ACCEPTED, UPDATE_2),
+    (UPDATE, CONTEXT, UNPROCESSABLE, BUSY),
+];
+
+/// The settings with another service that allows contexts to be updated.
+fn with_another_open(alloc: Global) -> Result<Settings, Fail> {
+    let open = OTHER_SERVICE.replacen(
+        alloc,
+        "\"bindable\":true,",
+        "\"bindable\":true,\"allow_context_updates\":true,",
+        1,
+    )?;
+    let services = format!(in alloc; "\"services\":[{open},")?;
+    settings_with(alloc, "\"services\":[", services.as_str())
+}
+
+#[test]
+fn contexts_of_a_service(rt: HostRuntime) -> Result<(), Fail> {
+    let alloc = rt.alloc();
+    let settings = settings_with(
+        alloc,
+        "\"bindable\":true,",
+        "\"bindable\":true,\"allow_context_updates\":true,",
+    )?;
+    in_phase(alloc, &settings, &MADE, &IN_OPEN_TO_CONTEXTS)?;
+    in_phase(alloc, &settings, &UPDATING, &IN_OPEN_AND_UPDATING)?;
+    let settings = with_another_open(alloc)?;
+    in_phase(alloc, &settings, &UPDATING, &IN_CLOSED_AND_UPDATING)
+}
+
 const IN_UNBINDABLE: [Exchange; 4] = [
     (BIND_C, BINDING, BAD, NOT_BINDABLE),
     (BIND_C_NOW, BINDING, BAD, NOT_BINDABLE),

@@ -1,10 +1,10 @@
-use Rattle.std.proofs.Common.{rules, ◌≡◌, refl, subst}
+use Rattle.std.proofs.Common.{rules, ◌≡◌, refl}
 use Rattle.std.specs.Prelude.{◌≢◌}
 use Rattle.std.specs.FinMap.{empty}
 use Rattle.sqlite.specs.Held.{state}
 use Rattle.sqlite.proofs.StateLemmas.{survives_weaker}
 use Rattle.osb_tables.specs.declared.schema.Indexes.{Indexes}
-use Rattle.osb_tables.specs.Tables.{made, no_schema, tables_schema}
+use Rattle.osb_tables.specs.Tables.{made, no_schema, tables_schema, five_tables}
 use Rattle.osb_records.specs.Opened.{HoldsSame}
 use Rattle.osb_records.specs.Steps.{HoldsLives}
 use Rattle.osb_records.proofs.OpenedLemmas.{empty_same, others_stand}
@@ -21,23 +21,6 @@ pub returns-in-Others-clause-takes : goal.returns-in-Others-clause-takes
 returns-in-Others-clause-takes g c =
     let old = state g.S.Store c.args.conn.now in
     let nothing : old.now.schema ≢ no_schema = search rules in
-    let others : (indexes : Indexes) → old.now.schema ≢ made tables_schema indexes = search rules in
-    record { ready = tt; ok = λ _ _. tt; err = λ _ _. refl; not_ours = λ _ _. others_stand old.now nothing others }
-
-pub take_tables-requires : goal.take_tables-requires
-take_tables-requires g c =
-    let old = state g.S.Store c.args.conn.now in
-    let schema : old.now.schema ≡ made tables_schema c.in-First.indexes = search rules in
-    (c.requires, subst (λ (indexes : Indexes). old.now.schema ≡ made tables_schema indexes) c.in-Both.is schema)
-
-pub complete_tables-requires : goal.complete_tables-requires
-complete_tables-requires g c =
-    let old = state g.S.Store c.args.conn.now in
-    let schema : old.now.schema ≡ made tables_schema c.in-First.indexes = search rules in
-    (c.requires, subst (λ (indexes : Indexes). old.now.schema ≡ made tables_schema indexes) c.in-Listing.is schema)
-
-pub complete_tables-requires-in-None : goal.complete_tables-requires-in-None
-complete_tables-requires-in-None g c =
-    let old = state g.S.Store c.args.conn.now in
-    let schema : old.now.schema ≡ made tables_schema c.in-First.indexes = search rules in
-    (c.requires, subst (λ (indexes : Indexes). old.now.schema ≡ made tables_schema indexes) c.in-None.is schema)
+    let first : (indexes : Indexes) → old.now.schema ≢ made tables_schema indexes = search rules in
+    let second : (indexes : Indexes) → old.now.schema ≢ made five_tables indexes = search rules in
+    record { ready = tt; ok = λ _ _. tt; err = λ _ _. refl; not_ours = λ _ _. others_stand old.now nothing first second }

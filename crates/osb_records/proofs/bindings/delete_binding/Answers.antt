@@ -4,7 +4,7 @@ use Rattle.sqlite.specs.declared.types.Value.TheVariants.{Text}
 use Rattle.sqlite_keyed.specs.Lists.{delete_where}
 use Rattle.osb_audit.specs.Bindings.{is_binding}
 use Rattle.osb_records.specs.Stored.{entries_in, instances_in, bindings_in}
-use Rattle.osb_records.specs.Steps.{stored}
+use Rattle.osb_records.specs.Steps.{told}
 use Rattle.osb_records.proofs.BindingTexts.{delete_binding}
 use Rattle.osb_records.proofs.StepLemmas.{steps_by}
 use Rattle.osb_records.proofs.BindingLemmas.{drops_binding}
@@ -18,6 +18,6 @@ returns-clause-ok g c clean =
     let id = c.args.instance.now in
     let binding = c.args.binding.now in
     steps_by delete_binding (Text id ∷ Text binding ∷ []) old new c.execute.result _ c.execute.ensures.ended c.execute.ensures.inside.survives clean
-    (stored old) (entries_in old.now.trees) (instances_in old.now.trees) (delete_where (is_binding id binding) (bindings_in old.now.trees)) (stored_bare old.now.trees) (instances_bare old.now.trees) (λ before live. (c.requires before live).schema)
+    (told old) (entries_in old.now.trees) (instances_in old.now.trees) (delete_where (is_binding id binding) (bindings_in old.now.trees)) (stored_bare old.now.trees) (instances_bare old.now.trees) (λ before live. (c.requires before live).schema)
     (λ count before live has h. (drops_binding old new count (c.requires before live) id binding h, refl))
     (rw (c.params-to_sql.ensures, c.params-to_sql-2.ensures) at (c.execute.ensures.runs clean))

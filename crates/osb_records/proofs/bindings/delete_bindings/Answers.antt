@@ -4,7 +4,7 @@ use Rattle.sqlite.specs.declared.types.Value.TheVariants.{Text}
 use Rattle.sqlite_keyed.specs.Lists.{delete_where}
 use Rattle.osb_audit.specs.Bindings.{is_bound}
 use Rattle.osb_records.specs.Stored.{entries_in, instances_in, bindings_in}
-use Rattle.osb_records.specs.Steps.{stored}
+use Rattle.osb_records.specs.Steps.{told}
 use Rattle.osb_records.proofs.BindingTexts.{delete_bindings}
 use Rattle.osb_records.proofs.StepLemmas.{steps_by}
 use Rattle.osb_records.proofs.BindingLemmas.{drops_bindings}
@@ -17,6 +17,6 @@ returns-clause-ok g c clean =
     let new = state g.S.Store c.execute.new.tx.conn.now in
     let id = c.args.instance.now in
     steps_by delete_bindings (Text id ∷ []) old new c.execute.result _ c.execute.ensures.ended c.execute.ensures.inside.survives clean
-    (stored old) (entries_in old.now.trees) (instances_in old.now.trees) (delete_where (is_bound id) (bindings_in old.now.trees)) (stored_bare old.now.trees) (instances_bare old.now.trees) (λ before live. (c.requires before live).schema)
+    (told old) (entries_in old.now.trees) (instances_in old.now.trees) (delete_where (is_bound id) (bindings_in old.now.trees)) (stored_bare old.now.trees) (instances_bare old.now.trees) (λ before live. (c.requires before live).schema)
     (λ count before live has h. (drops_bindings old new count (c.requires before live) id h, refl))
     (rw (c.params-to_sql.ensures) at (c.execute.ensures.runs clean))

@@ -4,7 +4,7 @@ use Rattle.sqlite_keyed.specs.Lists.{insert_sorted}
 use Rattle.osb_audit.specs.Bindings.{binding_entry, binding_cmp}
 use Rattle.osb_records.specs.Bindings.{binding_row}
 use Rattle.osb_records.specs.Stored.{entries_in, instances_in, bindings_in}
-use Rattle.osb_records.specs.Steps.{stored}
+use Rattle.osb_records.specs.Steps.{told}
 use Rattle.osb_records.proofs.BindingTexts.{insert_binding}
 use Rattle.osb_records.proofs.StepLemmas.{steps_by}
 use Rattle.osb_records.proofs.BindingLemmas.{adds_binding}
@@ -19,6 +19,6 @@ returns-clause-ok g c clean =
     let binding = c.args.binding.now in
     let row = c.args.row.now in
     steps_by insert_binding (binding_row (binding_entry id (binding, row))) old new c.execute_with.result _ c.execute_with.ensures.ended c.execute_with.ensures.inside.survives clean
-    (stored old) (entries_in old.now.trees) (instances_in old.now.trees) (insert_sorted binding_cmp (binding_entry id (binding, row)) (bindings_in old.now.trees)) (stored_bare old.now.trees) (instances_bare old.now.trees) (λ before live. (c.requires.tables before live).schema)
+    (told old) (entries_in old.now.trees) (instances_in old.now.trees) (insert_sorted binding_cmp (binding_entry id (binding, row)) (bindings_in old.now.trees)) (stored_bare old.now.trees) (instances_bare old.now.trees) (λ before live. (c.requires.tables before live).schema)
     (λ count before live has h. (adds_binding old new count (c.requires.tables before live) id binding row (c.requires.no_row before live) h, refl))
     (c.execute_with.ensures.runs clean)

@@ -5,7 +5,7 @@ use Rattle.osb_audit.specs.Bindings.{binding_entry, is_binding}
 use Rattle.osb_records.specs.Bindings.{binding_row}
 use Rattle.osb_records.specs.BindingRows.{with_binding}
 use Rattle.osb_records.specs.Stored.{entries_in, instances_in, bindings_in}
-use Rattle.osb_records.specs.Steps.{stored}
+use Rattle.osb_records.specs.Steps.{told}
 use Rattle.osb_records.proofs.BindingTexts.{update_binding}
 use Rattle.osb_records.proofs.StepLemmas.{steps_by}
 use Rattle.osb_records.proofs.BindingLemmas.{updates_binding}
@@ -20,6 +20,6 @@ returns-clause-ok g c clean =
     let binding = c.args.binding.now in
     let row = c.args.row.now in
     steps_by update_binding (binding_row (binding_entry id (binding, row))) old new c.execute_with.result _ c.execute_with.ensures.ended c.execute_with.ensures.inside.survives clean
-    (stored old) (entries_in old.now.trees) (instances_in old.now.trees) (update_where (is_binding id binding) (with_binding row) (bindings_in old.now.trees)) (stored_bare old.now.trees) (instances_bare old.now.trees) (λ before live. (c.requires before live).schema)
+    (told old) (entries_in old.now.trees) (instances_in old.now.trees) (update_where (is_binding id binding) (with_binding row) (bindings_in old.now.trees)) (stored_bare old.now.trees) (instances_bare old.now.trees) (λ before live. (c.requires before live).schema)
     (λ count before live has h. (updates_binding old new count (c.requires before live) id binding row h, refl))
     (c.execute_with.ensures.runs clean)

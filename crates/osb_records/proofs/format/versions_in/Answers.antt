@@ -1,5 +1,5 @@
 use Rattle.std.proofs.Common.{ap, sym, [], ◌∷◌}
-use Rattle.osb_records.specs.Stored.{version_row}
+use Rattle.osb_contexts.specs.Format.{version_row}
 use Rattle.osb_records.specs.Read.{version_columns}
 use Rattle.osb_records.proofs.ReadLemmas.{told_more}
 use Rattle.osb_records.proofs.format.versions_in.Goals as goal

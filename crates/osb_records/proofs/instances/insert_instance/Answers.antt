@@ -4,7 +4,7 @@ use Rattle.sqlite_keyed.specs.Lists.{insert_sorted}
 use Rattle.osb_audit.specs.Instances.{instance_cmp}
 use Rattle.osb_records.specs.Instances.{instance_row}
 use Rattle.osb_records.specs.Stored.{entries_in, instances_in, bindings_in}
-use Rattle.osb_records.specs.Steps.{stored}
+use Rattle.osb_records.specs.Steps.{told}
 use Rattle.osb_records.proofs.Texts.{insert_instance}
 use Rattle.osb_records.proofs.StepLemmas.{steps_by}
 use Rattle.osb_records.proofs.InstanceLemmas.{adds_instance}
@@ -20,6 +20,6 @@ returns-clause-ok g c clean =
     let id = c.args.instance.now in
     let row = bare_row c.args.row.now in
     steps_by insert_instance (instance_row (id, row)) old new c.execute_with.result _ c.execute_with.ensures.ended c.execute_with.ensures.inside.survives clean
-    (stored old) (entries_in old.now.trees) (insert_sorted instance_cmp (id, row) (instances_in old.now.trees)) (bindings_in old.now.trees) (stored_bare old.now.trees) (all_inserted _ instance_cmp (id, row) (instances_in old.now.trees) (bare_again c.args.row.now) (instances_bare old.now.trees)) (λ before live. (c.requires.tables before live).schema)
+    (told old) (entries_in old.now.trees) (insert_sorted instance_cmp (id, row) (instances_in old.now.trees)) (bindings_in old.now.trees) (stored_bare old.now.trees) (all_inserted _ instance_cmp (id, row) (instances_in old.now.trees) (bare_again c.args.row.now) (instances_bare old.now.trees)) (λ before live. (c.requires.tables before live).schema)
     (λ count before live has h. (adds_instance old new count (c.requires.tables before live) id row (c.requires.no_row before live) h, refl))
     (subst (λ params. IsTrue old.in_transaction → ExecutesInside 0 insert_instance params old new c.execute_with.result) (bare_shown id c.args.row.now) (c.execute_with.ensures.runs clean))

@@ -1,5 +1,5 @@
 use Rattle.std.proofs.Common.{ap, subst, map, ◌∙◌}
-use Rattle.osb_records.specs.Reads.{behind}
+use Rattle.osb_contexts.specs.Reads.{behind}
 use Rattle.osb_records.specs.Read.{AreRowids, instance_columns}
 use Rattle.osb_rows.proofs.ResultLemmas.{if_ok}
 use Rattle.osb_records.proofs.StepLemmas.{clean_before}

@@ -1,5 +1,5 @@
 use Rattle.std.proofs.Common.{sym}
-use Rattle.osb_records.specs.Reads.{behind}
+use Rattle.osb_contexts.specs.Reads.{behind}
 use Rattle.osb_records.specs.Steps.{content}
 use Rattle.osb_records.proofs.StepLemmas.{clean_before}
 use Rattle.osb_records.proofs.SortLemmas.{same_rows}

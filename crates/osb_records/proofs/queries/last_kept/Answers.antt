@@ -4,8 +4,8 @@ use Rattle.sqlite.specs.Held.{state}
 use Rattle.osb_orders.specs.declared.order.OrderKind.TheVariants.{Create, Update}
 use Rattle.osb_orders.specs.Lives.{life_of}
 use Rattle.osb_records.specs.Queries.{is_kind_of}
-use Rattle.osb_records.specs.Steps.{stored}
-use Rattle.osb_records.specs.Stored.{lives_stored}
+use Rattle.osb_records.specs.Steps.{told}
+use Rattle.osb_records.specs.Stored.{lives_told}
 use Rattle.osb_rows.proofs.ResultLemmas.{if_ok}
 use Rattle.osb_records.proofs.StepLemmas.{clean_before}
 use Rattle.osb_records.proofs.SubjectLemmas.{then_last, kept_last}
@@ -20,5 +20,5 @@ returns-clause-ok g c clean =
     let between = clean_before mid new _ c.later_of_kind.ensures.reads.survives clean in
     let same = c.in_ok-created.ensures.reads.same between in
     let records = c.requires (clean_before old mid _ c.last_of_kind.ensures.reads.survives between) same.0.was_open in
-    let life = ap (λ (db : Database). life_of (lives_stored db.trees) id) same.0.now_is in
-    if_ok c.later_of_kind.result (λ last is. then_last (is_kind_of [] Create) (is_kind_of [] Update) c.in_ok-created.created last (life_of (stored old) id) (life_of (stored mid) id) (c.in_ok-created.ensures.ok between) life is ∙ kept_last (stored old) id records.lives) (c.later_of_kind.ensures.ok clean)
+    let life = ap (λ (db : Database). life_of (lives_told db.trees) id) same.0.now_is in
+    if_ok c.later_of_kind.result (λ last is. then_last (is_kind_of [] Create) (is_kind_of [] Update) c.in_ok-created.created last (life_of (told old) id) (life_of (told mid) id) (c.in_ok-created.ensures.ok between) life is ∙ kept_last (told old) id records.lives) (c.later_of_kind.ensures.ok clean)

@@ -2,7 +2,7 @@ use Rattle.std.proofs.Common.{rules, None, sym, ap, false}
 use Rattle.sqlite.specs.Held.{state}
 use Rattle.osb_orders.specs.Lives.{life_of}
 use Rattle.osb_standing.specs.Rows.{birth_failed, row_of}
-use Rattle.osb_records.specs.Steps.{content, stored}
+use Rattle.osb_records.specs.Steps.{content, told}
 use Rattle.osb_records.proofs.StepLemmas.{clean_before}
 use Rattle.osb_records.proofs.NoRowLemmas.{never_had}
 use Rattle.osb_records.proofs.PutLemmas.{instances_stand, one_found}
@@ -19,8 +19,8 @@ returns-clause-ok g c clean = record {
       let id = c.args.instance.now in
       let put = c.in_ok-put.ensures.ok clean in
       let none = c.requires.no_row (clean_before first new _ c.put_instance-put.ensures.inside.survives clean) put.steps.within.was_open in
-      let told = one_found id None (row_of (life_of (stored first) id)) (content first).instances none (stood id) in
-      let never = never_had (life_of (stored first) id) (sym told) in
-      let follows = bare_row_follows (life_of (stored first) id) change c.args.order.now false None c.in_ok-row.row (stored_life_bare first.now.trees id) written told (λ _. sym (ap birth_failed never)) c.in_ok-row.ensures.row in
-      instances_stand (stored first) id change (bare_order c.args.order.now) (bare_row c.in_ok-row.row) (content first).instances (content new).instances written follows put.puts stood;
+      let was = one_found id None (row_of (life_of (told first) id)) (content first).instances none (stood id) in
+      let never = never_had (life_of (told first) id) (sym was) in
+      let follows = bare_row_follows (life_of (told first) id) change c.args.order.now false None c.in_ok-row.row (stored_life_bare first.now.trees id) written was (λ _. sym (ap birth_failed never)) c.in_ok-row.ensures.row in
+      instances_stand (told first) id change (bare_order c.args.order.now) (bare_row c.in_ok-row.row) (content first).instances (content new).instances written follows put.puts stood;
 }

@@ -1,7 +1,7 @@
 use Rattle.std.proofs.Common.{option_copied, sym, ap, ◌∙◌}
 use Rattle.sqlite.specs.Held.{state}
 use Rattle.osb_orders.specs.Lives.{life_of}
-use Rattle.osb_records.specs.Steps.{stored}
+use Rattle.osb_records.specs.Steps.{told}
 use Rattle.osb_records.proofs.NoRowLemmas.{no_binding, no_bindings, no_named, no_subject}
 use Rattle.osb_rows.proofs.ResultLemmas.{if_ok}
 use Rattle.osb_records.proofs.view.read_asked_of.Goals as goal
@@ -11,7 +11,7 @@ returns-in-Some-clause-ok g c clean = if_ok c.read_asked.result (λ asked is row
 
 pub returns-in-None-clause-ok : goal.returns-in-None-clause-ok
 returns-in-None-clause-ok g c clean row =
-    let life = life_of (stored (state g.S.Store c.args.tx.now.conn.now)) c.args.instance.now in
+    let life = life_of (told (state g.S.Store c.args.tx.now.conn.now)) c.args.instance.now in
     let ask = c.args.ask.now in
     let none = sym row ∙ ap option_copied c.in-None.is in
     ((sym (no_binding life ask none), sym (no_bindings life none)), (sym (no_named life ask none), sym (no_subject life ask none)))

@@ -5,7 +5,7 @@ use Rattle.osb_orders.specs.Lives.{life_of}
 use Rattle.osb_standing.specs.Rows.{bindings_of}
 use Rattle.osb_records.specs.BindingRows.{binding_found}
 use Rattle.osb_records.specs.Stored.{bindings_in}
-use Rattle.osb_records.specs.Steps.{stored}
+use Rattle.osb_records.specs.Steps.{told}
 use Rattle.osb_records.proofs.EditLemmas.{found_row}
 use Rattle.osb_rows.proofs.ResultLemmas.{if_ok}
 use Rattle.osb_records.proofs.StepLemmas.{clean_before}
@@ -17,7 +17,7 @@ returns-in-Some-clause-ok g c clean live =
     let new = state g.S.Store c.read_binding.new.tx.conn.now in
     let id = c.args.instance.now in
     let binding = c.in-Some.binding.now in
-    let life = life_of (stored old) id in
+    let life = life_of (told old) id in
     let bindings = bindings_in old.now.trees in
     let stands = (c.requires (clean_before old new _ c.read_binding.ensures.reads.survives clean) live).standing.bindings id in
     let named = sym c.binding.ensures ∙ ap option_copied c.in-Some.is in

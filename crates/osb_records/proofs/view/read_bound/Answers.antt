@@ -1,7 +1,7 @@
 use Rattle.std.proofs.Common.{◌∙◌}
 use Rattle.osb_orders.specs.Lives.{life_of}
-use Rattle.osb_records.specs.Reads.{behind}
-use Rattle.osb_records.specs.Steps.{content, stored}
+use Rattle.osb_contexts.specs.Reads.{behind}
+use Rattle.osb_records.specs.Steps.{content, told}
 use Rattle.osb_records.proofs.ReadsLemmas.{if_read}
 use Rattle.osb_records.proofs.ViewLemmas.{bound_is}
 use Rattle.osb_records.proofs.view.read_bound.Goals as goal
@@ -10,5 +10,5 @@ pub returns-clause-ok : goal.returns-clause-ok
 returns-clause-ok g c clean =
     let old = behind g.S.Store c.args.tx.now in
     let id = c.args.instance.now in
-    if_read c.is_bound.ensures.reads clean (λ before live bound is. is ∙ bound_is id (life_of (stored old) id) (content old).bindings ((c.requires before live).standing.bindings id))
+    if_read c.is_bound.ensures.reads clean (λ before live bound is. is ∙ bound_is id (life_of (told old) id) (content old).bindings ((c.requires before live).standing.bindings id))
     (c.is_bound.ensures.ok clean)

@@ -2,8 +2,8 @@ use Rattle.std.proofs.Common.{option_copied, sym, ap, ◌∙◌}
 use Rattle.osb_orders.specs.Lives.{life_of}
 use Rattle.osb_orders.specs.Named.{order_numbered}
 use Rattle.osb_standing.specs.Laws.{count_in}
-use Rattle.osb_records.specs.Reads.{behind}
-use Rattle.osb_records.specs.Steps.{stored}
+use Rattle.osb_contexts.specs.Reads.{behind}
+use Rattle.osb_records.specs.Steps.{told}
 use Rattle.osb_records.proofs.NoRowLemmas.{no_last}
 use Rattle.osb_records.proofs.ReadsLemmas.{if_read}
 use Rattle.osb_records.proofs.ViewLemmas.{last_is}
@@ -11,7 +11,7 @@ use Rattle.osb_records.proofs.view.read_last.Goals as goal
 
 pub returns-in-Some-clause-ok : goal.returns-in-Some-clause-ok
 returns-in-Some-clause-ok g c clean =
-    let lives = stored (behind g.S.Store c.args.tx.now) in
+    let lives = told (behind g.S.Store c.args.tx.now) in
     let id = c.args.instance.now in
     if_read c.order_numbered.ensures.reads clean (λ before live order is row.
     is ∙ ap (λ n. order_numbered n (life_of lives id)) (sym (ap (λ r. count_in (option_copied r)) c.in-Some.is)) ∙ last_is lives id (c.requires before live).lives (option_copied c.args.row) row)
@@ -19,4 +19,4 @@ returns-in-Some-clause-ok g c clean =
 
 pub returns-in-None-clause-ok : goal.returns-in-None-clause-ok
 returns-in-None-clause-ok g c clean row =
-    sym (no_last (life_of (stored (behind g.S.Store c.args.tx.now)) c.args.instance.now) (sym row ∙ ap option_copied c.in-None.is))
+    sym (no_last (life_of (told (behind g.S.Store c.args.tx.now)) c.args.instance.now) (sym row ∙ ap option_copied c.in-None.is))

@@ -1,6 +1,6 @@
 use Rattle.osb_orders.specs.Lives.{life_of}
-use Rattle.osb_records.specs.Reads.{behind}
-use Rattle.osb_records.specs.Steps.{content, stored}
+use Rattle.osb_contexts.specs.Reads.{behind}
+use Rattle.osb_records.specs.Steps.{content, told}
 use Rattle.osb_records.proofs.ReadsLemmas.{if_read}
 use Rattle.osb_records.proofs.ViewLemmas.{row_is}
 use Rattle.osb_records.proofs.view.read_row.Goals as goal
@@ -9,5 +9,5 @@ pub returns-clause-ok : goal.returns-clause-ok
 returns-clause-ok g c clean =
     let old = behind g.S.Store c.args.tx.now in
     let id = c.args.instance.now in
-    if_read c.read_instance.ensures.reads clean (λ before live row is. row_is id (life_of (stored old) id) row (content old).instances is ((c.requires before live).standing.instances id))
+    if_read c.read_instance.ensures.reads clean (λ before live row is. row_is id (life_of (told old) id) row (content old).instances is ((c.requires before live).standing.instances id))
     (c.read_instance.ensures.ok clean)

@@ -1,7 +1,7 @@
 use Rattle.std.proofs.lemmas.Bool.{eqb-true}
 use Rattle.sqlite.specs.Held.{state}
 use Rattle.osb_orders.specs.declared.order.Change.TheVariants.{Append}
-use Rattle.osb_records.specs.Steps.{content, stored}
+use Rattle.osb_records.specs.Steps.{content, told}
 use Rattle.osb_records.proofs.NoRowLemmas.{no_row_before}
 use Rattle.osb_records.proofs.StepLemmas.{clean_before}
 use Rattle.osb_records.proofs.CommitLemmas.{append_written, written_after}
@@ -19,7 +19,7 @@ returns-clause-ok g c clean =
     let id = c.args.instance.now in
     let order = bare_order c.args.order.now in
     let live = rows.steps.within.was_open in
-    let written = append_written (stored first) id order (c.requires.records clean_first live).lives (c.requires.whole clean_first live) in
+    let written = append_written (told first) id order (c.requires.records clean_first live).lives (c.requires.whole clean_first live) in
     written_after first mid new id (Append order) rows.steps (rows.stands (Append order) written (c.requires.records clean_first live).standing) (c.in_ok-insert_order.ensures.ok clean)
 
 pub write_standing-requires-clause-no_row : goal.write_standing-requires-clause-no_row
@@ -27,5 +27,5 @@ write_standing-requires-clause-no_row g c clean live first =
     let old = state g.S.Store c.args.tx.now.conn.now in
     let id = c.args.instance.now in
     let order = bare_order c.args.order.now in
-    let written = append_written (stored old) id order (c.requires.records clean live).lives (c.requires.whole clean live) in
-    no_row_before (stored old) id order (content old).instances written (eqb-true order.number 1 first) (c.requires.records clean live).standing.instances
+    let written = append_written (told old) id order (c.requires.records clean live).lives (c.requires.whole clean live) in
+    no_row_before (told old) id order (content old).instances written (eqb-true order.number 1 first) (c.requires.records clean live).standing.instances

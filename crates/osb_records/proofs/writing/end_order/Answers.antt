@@ -1,6 +1,6 @@
 use Rattle.sqlite.specs.Held.{state}
 use Rattle.osb_orders.specs.declared.order.Change.TheVariants.{Finish}
-use Rattle.osb_records.specs.Steps.{stored}
+use Rattle.osb_records.specs.Steps.{told}
 use Rattle.osb_records.proofs.StepLemmas.{clean_before}
 use Rattle.osb_records.proofs.CommitLemmas.{finish_written, written_later}
 use Rattle.osb_bare.specs.Bare.{bare_order}
@@ -24,8 +24,8 @@ returns-clause-ok g c clean =
     let id = c.args.instance.now in
     let lives = (c.requires.records clean_first same.0.was_open).lives in
     let may = c.requires.last clean_first same.0.was_open in
-    let written = finish_written (stored first) id c.args.number c.args.outcome.now c.in_ok-order.order lives may (c.in_ok-order.ensures.ok clean_read may) in
+    let written = finish_written (told first) id c.args.number c.args.outcome.now c.in_ok-order.order lives may (c.in_ok-order.ensures.ok clean_read may) in
     let order = bare_order c.in_ok-order.order in
     let bare = ended_bare first.now.trees id c.args.number c.args.outcome.now c.in_ok-order.order (c.in_ok-order.ensures.ok clean_read may) in
-    written_later first read mid new id order (Finish c.args.number c.args.outcome.now) same (subst (IsWritten (life_of (stored first) id) (Finish c.args.number c.args.outcome.now)) (sym bare) written) (c.requires.records clean_first same.0.was_open).standing
+    written_later first read mid new id order (Finish c.args.number c.args.outcome.now) same (subst (IsWritten (life_of (told first) id) (Finish c.args.number c.args.outcome.now)) (sym bare) written) (c.requires.records clean_first same.0.was_open).standing
     rows.steps rows.stands (c.in_ok-finish_order.ensures.ok clean)

@@ -1,9 +1,9 @@
 use Rattle.std.proofs.Common.{rules, ◌≡◌, sym, ap, ◌∙◌}
-use Rattle.osb_records.specs.Reads.{behind}
+use Rattle.osb_contexts.specs.Reads.{behind}
 use Rattle.osb_orders.specs.declared.order.Outcome.{Outcome}
 use Rattle.osb_orders.specs.declared.order.Change.TheVariants.{Finish}
 use Rattle.osb_standing.specs.Written.{order_written}
-use Rattle.osb_records.specs.Steps.{stored}
+use Rattle.osb_records.specs.Steps.{told}
 use Rattle.osb_records.proofs.StepLemmas.{clean_before}
 use Rattle.osb_records.proofs.CommitLemmas.{last_found}
 use Rattle.osb_records.proofs.writing.ended_order.Goals as goal
@@ -14,6 +14,6 @@ returns-in-Some-clause-ok g c clean may =
     let new = behind g.S.Store c.order_numbered.new.tx in
     let number = c.args.number in
     let lives = (c.requires (clean_before first new _ c.order_numbered.ensures.reads.survives clean) (c.in_ok-last.ensures.reads.same clean).0.was_open).lives in
-    let last = c.in_ok-last.ensures.ok clean ∙ last_found (stored first) c.args.instance.now number lives may.last in
+    let last = c.in_ok-last.ensures.ok clean ∙ last_found (told first) c.args.instance.now number lives may.last in
     let outcome : c.in_ok-clone.field-0 ≡ c.args.outcome.now = search rules in
     sym (ap (λ found. order_written found (Finish number c.args.outcome.now)) last) ∙ sym (ap (λ (o : Outcome). order_written c.in_ok-last.last (Finish number o)) outcome) ∙ sym c.order_written.ensures ∙ c.in-Some.is

@@ -1,0 +1,146 @@
+//! Databases that aren't ours, and stay as they were.
+
+use crate::adopting::{
+    ABSENT, DELETION, FAILED, LISTING, NO_LISTING, NO_SUBJECTS, OF_DELETION, OF_ORDER, ORDER,
+    READY, STANDING, SUBJECTS, WHOLE, changed, first, run,
+};
+use osb_records::{Records, StoreFault};
+use osb_tables::{Found, find};
+use sqlite::{Alter, Connection, Error, MemStore};
+use std::alloc::Global;
+use std::test::Fail;
+
+fn number<S: Alter>(conn: &mut Connection<S>, query: &str) -> Result<u32, Error> {
+    conn.query_row(query, &[])?.get(0)
+}
+
+/// What tells databases apart: the tables and the indexes, the version, and how many rows there are. A table
+/// that isn't there has none.
+fn told<S: Alter>(conn: &mut Connection<S>) -> (Found, [u32; 4]) {
+    let numbers = [
+        number(conn, "SELECT version FROM format").unwrap_or(0),
+        number(conn, "SELECT count(*) FROM orders").unwrap_or(0),
+        number(conn, "SELECT count(*) FROM instances").unwrap_or(0),
+        number(conn, "SELECT count(*) FROM contexts").unwrap_or(0),
+    ];
+    (find(conn.schema()), numbers)
+}
+
+/// Whether the database isn't ours and stays as it was.
+fn is_left(alloc: Global, mut conn: Connection<MemStore>) -> bool {
+    let before = told(&mut conn);
+    match Records::adopt(alloc, conn) {
+        Ok(_) => false,
+        Err((fault, mut conn)) => fault == StoreFault::NotOurs && told(&mut conn) == before,
+    }
+}
+
+/// What is done to a new database.
+const SPOILT: &[&[&str]] = &[
+    // another phase, and an order without a row of its instance
+    &[ORDER, FAILED, OF_ORDER, STANDING],
+    &[ORDER, OF_ORDER, STANDING],
+    // contexts that are missing, or of nothing
+    &[ORDER, READY, OF_ORDER],
+    &[ORDER, READY, STANDING],
+    &[ORDER, READY],
+    &[OF_ORDER, STANDING],
+    &[STANDING],
+    // an absent instance with one
+    &[ORDER, DELETION, ABSENT, OF_ORDER, OF_DELETION, STANDING],
+    // other tables, and other versions
+    &["CREATE TABLE more (a TEXT) STRICT"],
+    &["DROP TABLE bindings"],
+    &["DROP TABLE contexts"],
+    &["UPDATE format SET version = 0"],
+    &["UPDATE format SET version = 1"],
+    &["UPDATE format SET version = 3"],
+    &["INSERT INTO format VALUES (1)"],
+    &["DELETE FROM format"],
+    &[NO_SUBJECTS, "UPDATE format SET version = 1"],
+    &[NO_SUBJECTS, NO_LISTING, "UPDATE format SET version = 1"],
+];
+
+/// What is done to the contexts of an instance that is ready: one too many, one of another instance, ones that
+/// aren't compact, no objects or empty, and one that is unlike the other.
+const SPOILT_CONTEXTS: [&str; 7] = [
+    "INSERT INTO contexts VALUES ('i', 2, '{}')",
+    "INSERT INTO contexts VALUES ('j', 0, '')",
+    "UPDATE contexts SET context = '{ }'",
+    "UPDATE contexts SET context = '[]'",
+    "UPDATE contexts SET context = ''",
+    "UPDATE contexts SET context = '{\"a\":1}' WHERE seq = 0",
+    "UPDATE contexts SET context = '{\"a\":1}' WHERE seq = 1",
+];
+
+/// What is done to a new database of version 1 without an index.
+const SPOILT_FIRST: &[&[&str]] = &[
+    &[ORDER, FAILED],
+    &[ORDER],
+    &[READY],
+    &[LISTING, ORDER, FAILED],
+    &["UPDATE format SET version = 0"],
+    &["UPDATE format SET version = 2"],
+    &["UPDATE format SET version = 3"],
+    &["INSERT INTO format VALUES (2)"],
+    &["DELETE FROM format"],
+    &[LISTING, SUBJECTS, "UPDATE format SET version = 2"],
+    &[SUBJECTS],
+    // the table of contexts behind the indexes
+    &[
+        LISTING,
+        SUBJECTS,
+        "CREATE TABLE contexts (instance_id TEXT NOT NULL, seq INTEGER NOT NULL, context TEXT NOT NULL, PRIMARY KEY (instance_id, seq)) STRICT",
+        "UPDATE format SET version = 2",
+    ],
+];
+
+/// The first of the cases after which a new database isn't left aside, if there is one.
+fn first_taken(alloc: Global) -> Result<Option<usize>, StoreFault> {
+    for (at, statements) in SPOILT.iter().enumerate() {
+        if !is_left(alloc, changed(alloc, statements)?) {
+            return Ok(Some(at));
+        }
+    }
+    Ok(None)
+}
+
+/// The same of contexts.
+fn first_context_taken(alloc: Global) -> Result<Option<usize>, StoreFault> {
+    for (at, statement) in SPOILT_CONTEXTS.iter().enumerate() {
+        let mut conn = changed(alloc, &WHOLE)?;
+        run(&mut conn, &[statement])?;
+        if !is_left(alloc, conn) {
+            return Ok(Some(at));
+        }
+    }
+    Ok(None)
+}
+
+/// The same of version 1.
+fn first_version_taken(alloc: Global) -> Result<Option<usize>, StoreFault> {
+    for (at, statements) in SPOILT_FIRST.iter().enumerate() {
+        if !is_left(alloc, first(alloc, statements)?) {
+            return Ok(Some(at));
+        }
+    }
+    Ok(None)
+}
+
+#[test]
+fn another_database_is_not_taken(rt: HostRuntime) -> Result<(), Fail> {
+    assert_eq!(rt; first_taken(rt.alloc())?, None);
+    Ok(())
+}
+
+#[test]
+fn other_contexts_are_not_taken(rt: HostRuntime) -> Result<(), Fail> {
+    assert_eq!(rt; first_context_taken(rt.alloc())?, None);
+    Ok(())
+}
+
+#[test]
+fn another_of_version_1_is_not_taken(rt: HostRuntime) -> Result<(), Fail> {
+    assert_eq!(rt; first_version_taken(rt.alloc())?, None);
+    Ok(())
+}
