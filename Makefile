@@ -31,6 +31,7 @@ test:
 	python3 tests/clients.py ./osb-broker
 	python3 tests/database.py ./osb-broker
 	python3 tests/killed.py ./osb-broker
+	python3 tests/power.py ./osb-broker
 	python3 tests/refused.py ./osb-broker
 	python3 tests/readme.py ./osb-broker
 
