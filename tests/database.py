@@ -563,6 +563,41 @@ def try_modes(program, folder):
         yield "the modes of a file that was there", modes(path), [0o640, 0o640]
 
 
+def page_size(path):
+    """That of a database file, by its header."""
+    with open(path, "rb") as database:
+        return int.from_bytes(database.read(18)[16:], "big")
+
+
+def try_pages(program, folder):
+    """A new file has small pages, also where an earlier start left its draft of one. One that is there keeps its pages."""
+    made = ("PUT", I, SYNC, 201, "{}")
+    path = new_database(folder)
+    with open(path + "-new", "wb") as draft:
+        draft.write(b"SQLite")
+    with Serving(program, path) as serving:
+        yield from goes(serving, [made])
+        yield "the draft of a new file", os.path.exists(path + "-new"), False
+    yield "the pages of a new file", page_size(path), 1024
+    path = new_database(folder)
+    open(path, "wb").close()
+    with Serving(program, path) as serving:
+        yield from goes(serving, [made])
+    yield "the pages of a file that was made empty", page_size(path), 4096
+    with Serving(program, path) as serving:
+        yield from goes(serving, [("PUT", I, SYNC, 200, "{}")])
+    yield "the pages of a file that was there", page_size(path), 4096
+    path = new_database(folder)
+    os.mkdir(path + "-new")
+    with Serving(program, path) as serving:
+        yield from goes(serving, [made])
+    yield "the pages of a file whose draft can't be made", page_size(path), 4096
+    os.remove(path)
+    with Serving(program, path) as serving:
+        yield from goes(serving, [("GET", I, "", 404, "{}")])
+    yield "the pages of a file beside a log that was left", page_size(path), 4096
+
+
 def replaced(path):
     shutil.copy(path, path + ".copy")
     os.replace(path + ".copy", path)
@@ -777,6 +812,7 @@ def tries(program):
         yield from try_order(program, folder)
         yield from try_large(program, folder)
         yield from try_modes(program, folder)
+        yield from try_pages(program, folder)
         yield from try_taken_away(program, folder)
         yield from try_full_disk(program, folder)
         yield from try_full_disk_before(program, folder)

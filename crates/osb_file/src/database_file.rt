@@ -3,12 +3,10 @@
 ghost use Rattle.std.specs.Prelude.{◌≡◌, IfOk, IsOkUnless};
 ghost use Rattle.osb_records.specs.declared.fault.StoreFault.TheVariants.{Refused};
 
+use crate::first_page::make_new;
 use osb_records::StoreFault;
-use std::fs::{self, OpenOptions};
-use std::os::unix::fs::{MetadataExt, OpenOptionsExt};
-
-/// The permission bits of a file that is made: its owner reads and writes it.
-const OWNER_ALONE: u32 = 0o600;
+use std::fs;
+use std::os::unix::fs::MetadataExt;
 
 /// What tells a file from all others, whatever its name: its device and its number there.
 #[derive(Clone, Copy, Debug, PartialEq, Eq)]
@@ -28,16 +26,6 @@ fn node_at(rt: &HostRuntime, path: &str) -> Option<Node> {
     })
 }
 
-/// Makes an empty file where there is none. One that is there stays as it is.
-fn make_new(rt: &HostRuntime, path: &str) {
-    // Where it can't be made, the opening tells so.
-    let _ = OpenOptions::new()
-        .write(true)
-        .create_new(true)
-        .mode(OWNER_ALONE)
-        .open(rt, path);
-}
-
 /// Whether SQLite has another meaning for the path than a file's: a database in memory, or a URI.
 fn is_special(path: &str) -> bool {
     path == ":memory:" || path.starts_with("file:")
@@ -51,8 +39,8 @@ pub struct DatabaseFile<'a> {
 }
 
 impl<'a> DatabaseFile<'a> {
-    /// The file at a path. Where there is none it is made, empty and with mode 600, so that its owner
-    /// alone reads what the database will hold.
+    /// The file at a path. Where there is none it is made, as a database without tables and with mode 600,
+    /// so that its owner alone reads what the database will hold.
     ///
     /// It is refused where there is none and it can't be made, where it can't be looked at, and where
     /// SQLite has another meaning for the path: `:memory:`, or what begins with `file:`.

@@ -3,6 +3,7 @@
 
 mod database_file;
 mod file;
+mod first_page;
 
 pub use database_file::DatabaseFile;
 pub use file::open_file;
