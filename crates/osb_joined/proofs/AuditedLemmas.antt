@@ -1,14 +1,13 @@
 -- Lists without contexts and the contexts beside them, against the lists that they make up.
-use Rattle.std.proofs.Common.{◌≡◌, ℕ, List, [], ◌∷◌, map, filter, cond, Bool, true, false, Ordering, Less, nat_cmp, Option, None, Some, option_map, refl, sym, ap, ap₂, subst, subst₂, ◌∙◌, Result, Ok, Err}
+use Rattle.std.proofs.Common.{◌≡◌, ℕ, List, [], ◌∷◌, map, cond, Bool, true, false, Ordering, Less, Option, None, Some, option_map, refl, sym, ap, ap₂, subst, subst₂, ◌∙◌, Result, Ok, Err}
 use Rattle.std.specs.Prelude.{bytes_eq, ◌↔◌, IfOk}
 use Rattle.std.specs.Ordering.{eq_by_cmp}
 use Rattle.std.specs.Option.{option_to_list}
 use Rattle.std.specs.List.Sorted.{IsStrictlySortedBy}
-use Rattle.std.specs.Cmp.Lexicographic.{slice_cmp, nat_list_cmp_total}
+use Rattle.std.specs.Cmp.Lexicographic.{nat_list_cmp_total}
 use Rattle.std.specs.FinMap.{empty, get, get-empty, get-insert, insert, same_map, entries as rows_of, slice_cmp-IsAntisymmetric, nat_cmp-IsAntisymmetric}
 use Rattle.sqlite_trees.specs.Tree.{IsAscending}
 use Rattle.sqlite_keyed.proofs.ListLemmas.{ascending-map, filter-map}
-use Rattle.osb_orders.specs.declared.order.Order.{Order}
 use Rattle.osb_orders.specs.Life.{Life}
 use Rattle.osb_orders.specs.Lives.{Lives, life_of}
 use Rattle.osb_orders.specs.IsLife.{IsLives}
@@ -21,7 +20,7 @@ use Rattle.osb_audit.specs.Bindings.{binding_entry, AllBindingsStand}
 use Rattle.osb_audit.specs.Audit.{AreRowsOfLives}
 use Rattle.osb_audit.proofs.LivesLemmas.{key_is}
 use Rattle.osb_audit.proofs.RunLemmas.{by_bytes, same_text}
-use Rattle.osb_bare.specs.Bare.{bare_life, bare_lives, bare_entry, bare_row}
+use Rattle.osb_bare.specs.Bare.{bare_lives, bare_entry, bare_row}
 use Rattle.osb_bare.proofs.LifeLemmas.{row_of-bare, bindings_of-bare}
 use Rattle.osb_bare.proofs.LivesLemmas.{life_of-bare, lives_in-bare}
 use Rattle.osb_joined.specs.declared.entry.ContextEntry.{ContextEntry}

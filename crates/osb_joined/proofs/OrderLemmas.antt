@@ -17,7 +17,7 @@ use Rattle.osb_orders.specs.Named.{named_by, named_in, subject}
 use Rattle.osb_orders.specs.Listing.{with_last, is_listed, listing}
 use Rattle.osb_orders.specs.IsLife.{IsLives}
 use Rattle.osb_audit.proofs.RunLemmas.{by_bytes}
-use Rattle.osb_bare.specs.Bare.{bare_order, bare_life, bare_instance, bare_lives}
+use Rattle.osb_bare.specs.Bare.{bare_life, bare_instance, bare_lives}
 use Rattle.osb_bare.proofs.ListLemmas.{last_of-map, filter-map, find-map, filter_map-map}
 use Rattle.osb_bare.proofs.LivesLemmas.{entries-bare, get-bare}
 use Rattle.osb_joined.specs.declared.entry.ContextEntry.{ContextEntry}

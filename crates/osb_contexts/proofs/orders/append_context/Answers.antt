@@ -1,4 +1,4 @@
-use Rattle.std.proofs.Common.{ap, subst, filter, ◌∙◌}
+use Rattle.std.proofs.Common.{ap, filter, ◌∙◌}
 use Rattle.std.proofs.lemmas.Bool.{eqb-true}
 use Rattle.osb_joined.specs.Contexts.{is_context}
 use Rattle.osb_contexts.specs.Reads.{behind}

@@ -1,4 +1,3 @@
-use Rattle.std.proofs.Common.{ap, sym, subst}
 use Rattle.osb_contexts.specs.Reads.{behind}
 use Rattle.osb_contexts.proofs.StepLemmas.{clean_before}
 use Rattle.osb_contexts.proofs.OrderLemmas.{stands_updated}

@@ -1,5 +1,5 @@
-use Rattle.std.proofs.Common.{subst, sym}
-use Rattle.std.specs.Prelude.{Option, IfSome, IfNone}
+use Rattle.std.proofs.Common.{subst}
+use Rattle.std.specs.Prelude.{Option, IfSome}
 use Rattle.osb_joined.specs.declared.pass.Joined.{Joined}
 use Rattle.osb_joined.specs.Join.{AreJoined}
 use Rattle.osb_joined.proofs.AuditedLemmas.{answers_joined, answers_none, if_ok}
