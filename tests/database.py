@@ -543,6 +543,31 @@ def try_others(program, folder):
         yield from goes(serving, BEGUN)
 
 
+# A change with a rollback journal, whose program ends in the midst of it.
+CUT_OFF = """
+import os, sqlite3, sys
+conn = sqlite3.connect(sys.argv[1], isolation_level=None)
+for text in ("PRAGMA journal_mode = DELETE", "PRAGMA cache_size = 1", "BEGIN", "CREATE TABLE more (a)",
+             "INSERT INTO more VALUES (zeroblob(100000))"):
+    conn.execute(text)
+os._exit(0)
+"""
+
+
+def try_beside(program, folder, path):
+    """A file with a second name, and one with a journal that is to be rolled back, are refused and stay."""
+    named, journalled = copied(path, folder), copied(path, folder)
+    before = content(copied(path, folder))
+    os.link(named, named + "-too")
+    yield "a file with a second name", starts(program, named), REFUSED
+    os.remove(named + "-too")
+    yield "it stays", content(named), before
+    subprocess.run([sys.executable, "-c", CUT_OFF, journalled], check=True)
+    yield "a journal is left", os.path.getsize(journalled + "-journal") > 512, True
+    yield "a file with a journal", starts(program, journalled), REFUSED
+    yield "it can be rolled back", content(journalled), before
+
+
 def modes(path):
     return [stat.S_IMODE(os.stat(path + ending).st_mode) for ending in ("", "-wal")]
 
@@ -808,6 +833,7 @@ def tries(program):
         yield from try_harmless(program, folder, path)
         yield from try_made_before(program, folder)
         yield from try_others(program, folder)
+        yield from try_beside(program, folder, path)
         yield from try_plans(program, folder)
         yield from try_order(program, folder)
         yield from try_large(program, folder)
