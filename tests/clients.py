@@ -16,14 +16,13 @@ import tempfile
 import threading
 import time
 from concurrent.futures import ThreadPoolExecutor
-from contextlib import ExitStack
 from dataclasses import dataclass
 from functools import partial
 from typing import Callable, Optional
 
 from calm import Watch
-from conversations import I, LARGE_SYNC, reply, request
-from program import CATALOG_REPLY, GET_CATALOG, NO_HEAD_REPLY, head_of
+from conversations import CATALOG_REPLY, GET_CATALOG, I, LARGE_SYNC, NO_HEAD_REPLY, TOO_LARGE_REPLY
+from conversations import head_of, reply, request
 from serving import Serving, new_database, tell
 
 TRIES = 40
@@ -41,11 +40,6 @@ WRITE_LINE = b"connection: write\n"
 LARGE = b"PUT / HTTP/1.1\r\nHost: b\r\nContent-Length: 900000\r\n\r\n"
 
 SERVED = (CATALOG_REPLY, "closed")
-
-NO_BODY_REPLY = (
-    b"HTTP/1.1 413 Payload Too Large\r\nContent-Type: application/json\r\nContent-Length: 40\r\n"
-    b'Connection: close\r\n\r\n{"description":"The body is too large."}'
-)
 
 
 def heard(client):
@@ -150,11 +144,11 @@ KINDS = {
     "never closes": Kind(asks_once, CATALOG_REPLY, AT_ONCE),
     "pipelines": Kind(pipelines, CATALOG_REPLY),
     "pipelines more than is read": Kind(pipelines_much, CATALOG_REPLY),
-    "sends too large a body at once": Kind(large_at_once, NO_BODY_REPLY),
-    "sends too large a body slowly": Kind(large_slowly, NO_BODY_REPLY),
+    "sends too large a body at once": Kind(large_at_once, TOO_LARGE_REPLY),
+    "sends too large a body slowly": Kind(large_slowly, TOO_LARGE_REPLY),
     "goes on after its reply": Kind(goes_on_after_a_reply, CATALOG_REPLY),
-    "goes on after a fault": Kind(goes_on_after_a_fault, NO_BODY_REPLY),
-    "floods after a fault": Kind(floods_after_a_fault, NO_BODY_REPLY),
+    "goes on after a fault": Kind(goes_on_after_a_fault, TOO_LARGE_REPLY),
+    "floods after a fault": Kind(floods_after_a_fault, TOO_LARGE_REPLY),
     "asks in pieces, within its time": Kind(asks_in_pieces, CATALOG_REPLY, AT_ONCE),
     "sends too many lines and waits": Kind(too_many_lines, NO_HEAD_REPLY),
     "says nothing": Kind(says_nothing, most=TIME_LIMIT + SOON),
@@ -279,15 +273,9 @@ OTHERS = [
 ]
 
 
-# One program at a time looks for a free address and takes it.
-STARTS = threading.Lock()
-
-
 def over_its_own(program, folder, words, trial):
     """What a trial finds over a program of its own."""
-    with ExitStack() as stack:
-        with STARTS:
-            serving = stack.enter_context(Serving(program, new_database(folder), *words))
+    with Serving(program, new_database(folder), *words) as serving:
         return list(trial(serving))
 
 

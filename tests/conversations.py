@@ -1,4 +1,5 @@
-"""Conversations with the broker that the trials share: what is sent, and what has to come back.
+"""Requests, replies and conversations with the broker that the trials share: what is sent, and what has to
+come back.
 
 The expected replies are written out here; none comes from the program.
 """
@@ -10,31 +11,74 @@ PHRASES = {
     201: "Created",
     202: "Accepted",
     400: "Bad Request",
+    401: "Unauthorized",
     404: "Not Found",
     409: "Conflict",
     410: "Gone",
+    412: "Precondition Failed",
+    413: "Payload Too Large",
     422: "Unprocessable Entity",
+    500: "Internal Server Error",
 }
 
 
-def request(method, target, body):
+def request(method, target, body="", lines=""):
+    """A request of the platform or, by its target, of the backend, with further field lines."""
     backend = target.startswith("/backend")
     token = "YmFja2VuZDp3b3JrZXI=" if backend else "cGxhdGZvcm06c2VjcmV0"
     version = "" if backend else "X-Broker-API-Version: 2.17\r\n"
+    length = f"Content-Length: {len(body)}\r\n" if body else ""
     return (
         f"{method} {target} HTTP/1.1\r\nHost: b\r\n{version}Authorization: Basic {token}\r\n"
-        f"Content-Length: {len(body)}\r\n\r\n{body}"
+        f"{length}{lines}\r\n{body}"
     ).encode()
 
 
-def reply(status, body):
+def reply(status, body, closes=True, lines=""):
+    """A reply, with the further field lines that it has before the one that it closes by."""
+    close = "Connection: close\r\n" if closes else ""
     return (
         f"HTTP/1.1 {status} {PHRASES[status]}\r\nContent-Type: application/json\r\n"
-        f"Content-Length: {len(body)}\r\nConnection: close\r\n\r\n{body}"
+        f"Content-Length: {len(body)}\r\n{lines}{close}\r\n{body}"
     ).encode()
 
 
-I = "/v2/service_instances/i"
+def replies(output):
+    """The status and the body of each reply, in order."""
+    found = []
+    while output:
+        head, _, rest = output.partition(b"\r\n\r\n")
+        length = int(head.partition(b"Content-Length: ")[2].split(b"\r\n")[0])
+        found.append((int(head[9:12]), rest[:length].decode()))
+        output = rest[length:]
+    return found
+
+
+CATALOG = (
+    '{"services":[{"bindable":true,"bindings_retrievable":true,"description":"Key store",'
+    '"id":"svc","name":"store","plan_updateable":true,"plans":[{"description":"At once",'
+    '"id":"p-sync","name":"small"},{"description":"Later","id":"p-async",'
+    '"maintenance_info":{"version":"1.2.0"},"name":"large"}]}]}'
+)
+GET_CATALOG = request("GET", "/v2/catalog")
+CATALOG_REPLY = reply(200, CATALOG)
+NO_HEAD_REPLY = reply(400, '{"description":"No request head was found."}')
+TOO_LARGE_REPLY = reply(413, '{"description":"The body is too large."}')
+UNAUTHORIZED_REPLY = reply(401, "{}", lines='WWW-Authenticate: Basic realm="broker"\r\n')
+REFUSED_REPLY = reply(500, "{}")
+
+
+def head_of(lines):
+    """A request for the catalog with so many field lines."""
+    more = "".join(f"A{number}: b\r\n" for number in range(lines - 3))
+    return request("GET", "/v2/catalog", lines=more)
+
+
+def at(instance):
+    return f"/v2/service_instances/{instance}"
+
+
+I = at("i")
 B = I + "/service_bindings/b"
 LATER = "?accepts_incomplete=true"
 LEAVE = "?service_id=svc&plan_id=p-async&accepts_incomplete=true"

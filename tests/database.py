@@ -16,13 +16,12 @@ import tempfile
 
 from conversations import ASYNC, B, BIND, I, LATER, LEAVE, REPORT, SUCCEEDED, SYNC, SYNC_LEAVE
 from conversations import FETCHED_LARGE, LARGE, LARGE_PARAMETERS, MEMORY_1, SYNC_BIND, UPDATE, X, Y
-from conversations import listed, operation, reply, request, with_context
-from refused import REFUSED as NO_ROOM
+from conversations import REFUSED_REPLY, at, listed, operation, reply, request, with_context
 from serving import SETTINGS, Serving, new_database, tell
 
 VERSION_1 = os.path.join(os.path.dirname(os.path.abspath(__file__)), "version-1.sql")
-R = I[:-1] + "r"
-G = I[:-1] + "g"
+R = at("r")
+G = at("g")
 CREDENTIALS = '{"state":"succeeded","credentials":{"k":"v"}}'
 IN_PROGRESS = '{"state":"in progress"}'
 FETCHED = '{"parameters":{},"plan_id":"p-sync","service_id":"svc"}'
@@ -102,10 +101,6 @@ ASKED_AGAIN = [
     ("PUT", R + LATER, ASYNC, 202, operation("create-1")),
     ("GET", G + "/last_operation", "", 410, "{}"),
 ]
-
-
-def at(instance):
-    return f"/v2/service_instances/{instance}"
 
 
 def report(instance, number):
@@ -742,9 +737,9 @@ def try_full_disk(program, folder):
             fill(os.path.join(disk, "filling"))
             made, sent, found = make_many(serving)
             known = [("GET", name, "", 200, FETCHED) for name in [I, *made]] + [("PUT", I, SYNC, 200, "{}")]
-            yield "a change on a full disk", found, NO_ROOM
+            yield "a change on a full disk", found, REFUSED_REPLY
             for _ in range(3):
-                yield "the change again", serving.sends(sent), NO_ROOM
+                yield "the change again", serving.sends(sent), REFUSED_REPLY
                 yield from goes(serving, known)
             os.remove(os.path.join(disk, "filling"))
             yield "the change with room", serving.sends(sent), reply(201, "{}")

@@ -23,8 +23,8 @@ import tempfile
 from collections import namedtuple
 
 from conversations import ASYNC, B, BIND, BUSY, FAILED, I, LATER, LEAVE, MEMORY_1, REPORT, SUCCEEDED, SYNC, SYNC_BIND
-from conversations import SYNC_LEAVE, X, Y, listed, operation, reply, request, with_context, with_parameters
-from database import CREDENTIALS, IN_PROGRESS, at
+from conversations import SYNC_LEAVE, X, Y, at, listed, operation, reply, request, with_context, with_parameters
+from database import CREDENTIALS, IN_PROGRESS
 from serving import ROOT, Serving, new_database, settings_with_contexts, tell
 
 DATABASE, LOG, FOLDER = SYNCABLE = "database", "log", "folder"

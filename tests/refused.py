@@ -15,14 +15,8 @@ import sys
 import tempfile
 
 from conversations import ASYNC, CONVERSATIONS, FETCHED_LARGE, I, LARGE, LARGE_SYNC, LATER, PUT_TWICE, REPORT, SUCCEEDED
-from conversations import listed, operation, reply, request, with_context
+from conversations import REFUSED_REPLY, listed, operation, reply, request, with_context
 from serving import ROOT, Serving, new_database
-
-REFUSED = (
-    b"HTTP/1.1 500 Internal Server Error\r\nContent-Type: application/json\r\n"
-    b"Content-Length: 2\r\nConnection: close\r\n\r\n{}"
-)
-
 
 class Served(Serving):
     """The program, serving until it is stopped, with one growth of each connection refused or none."""
@@ -68,7 +62,7 @@ def exchange(served, asked, growth=0):
     found, refused = served.refusing(request(method, target, body), growth)
     if found == reply(status, text):
         return True, refused
-    if refused and found == REFUSED:
+    if refused and found == REFUSED_REPLY:
         return False, refused
     raise Wrong(f"{method} {target} {body}: {found!r:.300}, growth {growth}")
 

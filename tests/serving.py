@@ -12,7 +12,7 @@ SETTINGS = os.path.join(EXAMPLES, "settings.json")
 
 
 def free_address():
-    """An address of loopback at which nobody listens."""
+    """An address of loopback at which nobody listens. Another may take it before the program does."""
     with socket.socket() as free:
         free.bind(("127.0.0.1", 0))
         return f"127.0.0.1:{free.getsockname()[1]}"
@@ -34,22 +34,35 @@ def settings_with_contexts(folder):
     return path
 
 
+# How often it is started anew where another has taken its address.
+MOST_STARTS = 10
+
+
 class Serving:
     """The program, serving over a database file until it ends or is killed."""
 
     def __init__(self, program, database, *more, settings=SETTINGS, **process):
+        self.words = [program, "serve", "--settings", settings, "--database", database, *more]
+        self.more = process
+        self.start()
+
+    def start(self):
         self.address = free_address()
         self.port = int(self.address.rpartition(":")[2])
-        words = ["serve", "--settings", settings, "--database", database]
-        words += ["--listen", self.address, *more]
-        self.process = subprocess.Popen(
-            [program, *words], stdout=subprocess.PIPE, stderr=subprocess.PIPE, **process
-        )
+        words = [*self.words, "--listen", self.address]
+        self.process = subprocess.Popen(words, stdout=subprocess.PIPE, stderr=subprocess.PIPE, **self.more)
         self.first = b""
 
     def listens(self):
-        """Waits for its first line; whether it says that connections are taken."""
-        self.first = self.process.stdout.readline()
+        """Waits for its first line; whether it says that connections are taken. Where another has taken its
+        address meanwhile, it is started anew at another one."""
+        for again in range(MOST_STARTS):
+            if again:
+                self.start()
+            self.first = self.process.stdout.readline()
+            taken = (1, b"", f"osb-broker: cannot listen on {self.address}\n".encode())
+            if self.first or self.ended() != taken:
+                break
         return self.first == f"listening on {self.address}\n".encode()
 
     def kill(self):
