@@ -87,6 +87,9 @@ REPORT = "/backend/v1/orders/i/"
 SUCCEEDED = '{"state":"succeeded"}'
 FAILED = '{"state":"failed"}'
 BUSY = '{"description":"Another operation is in progress.","error":"ConcurrencyError"}'
+BINDINGS_REMAIN = '{"description":"The instance still has bindings."}'
+MISMATCH = '{"description":"The service or plan is not the instance\'s."}'
+QUERY = '{"description":"The query is not usable."}'
 UPDATE = '{"service_id":"svc","parameters":{"n":1}}'
 OTHER_UPDATE = '{"service_id":"svc","parameters":{"n":2}}'
 BIND = '{"service_id":"svc","plan_id":"p-async"}'
@@ -98,7 +101,8 @@ def operation(name):
     return f'{{"operation":"{name}"}}'
 
 
-# Conversations: method, target and body, status and body.
+# Conversations: method, target and body, status and body. Those before LARGE_PARAMETERS have every request of
+# the worked row of their name, update_failed those of update_running before its own.
 PUT_TWICE = [("PUT", I, SYNC, 201, "{}"), ("PUT", I, SYNC, 200, "{}")]
 
 POLL_AND_REPORT = [
@@ -113,6 +117,8 @@ POLL_AND_REPORT = [
         '"organization_guid":"o","parameters":{},"plan_id":"p-async","seq":1,'
         '"service_id":"svc","space_guid":"s"}]}',
     ),
+    ("GET", "/backend/v1/orders?after=i", "", 200, '{"orders":[]}'),
+    ("PUT", REPORT + "1", SUCCEEDED, 200, "{}"),
     ("PUT", REPORT + "1", SUCCEEDED, 200, "{}"),
     ("PUT", REPORT + "1", FAILED, 409, "{}"),
     ("PUT", REPORT + "2", SUCCEEDED, 404, "{}"),
@@ -135,8 +141,10 @@ UPDATE_FAILED = [
     ("PUT", I + LATER, ASYNC, 202, operation("create-1")),
     ("PUT", REPORT + "1", SUCCEEDED, 200, "{}"),
     ("PATCH", I + LATER, UPDATE, 202, operation("update-2")),
+    ("PATCH", I + LATER, UPDATE, 202, operation("update-2")),
     ("PATCH", I + LATER, OTHER_UPDATE, 422, BUSY),
     ("GET", I, "", 422, BUSY),
+    ("DELETE", I + LEAVE, "", 422, BUSY),
     ("PUT", REPORT + "2", FAILED, 200, "{}"),
     ("GET", I, "", 200, '{"parameters":{},"plan_id":"p-async","service_id":"svc"}'),
     ("PATCH", I + LATER, UPDATE, 202, operation("update-3")),
@@ -151,6 +159,7 @@ ASYNC_BINDING = [
     ("GET", B, "", 404, "{}"),
     ("PUT", REPORT + "2", '{"state":"succeeded","credentials":{"k":"v"}}', 200, "{}"),
     ("GET", B, "", 200, '{"credentials":{"k":"v"},"parameters":{}}'),
+    ("DELETE", I + LEAVE, "", 422, BINDINGS_REMAIN),
     ("DELETE", B + LEAVE, "", 202, operation("unbind-3")),
     ("PUT", REPORT + "3", SUCCEEDED, 200, "{}"),
     ("GET", B + "/last_operation", "", 410, "{}"),
@@ -239,9 +248,11 @@ SYNC_BINDING = [
     ("PUT", B, SYNC_BIND, 201, MEMORY_1),
     ("PUT", B, SYNC_BIND, 200, MEMORY_1),
     ("PUT", B, SYNC_BIND[:-1] + ',"app_guid":"x"}', 409, "{}"),
+    ("PUT", B[:-1] + "c", BIND, 400, MISMATCH),
     ("DELETE", B + SYNC_LEAVE, "", 200, "{}"),
     ("DELETE", B + SYNC_LEAVE, "", 410, "{}"),
     ("DELETE", I + SYNC_LEAVE, "", 200, "{}"),
+    ("DELETE", I, "", 400, QUERY),
 ]
 
 CONVERSATIONS = {

@@ -17,7 +17,6 @@ import os
 import random
 import sqlite3
 import struct
-import subprocess
 import sys
 import tempfile
 from collections import namedtuple
@@ -25,7 +24,7 @@ from collections import namedtuple
 from conversations import ASYNC, B, BIND, BUSY, FAILED, I, LATER, LEAVE, MEMORY_1, REPORT, SUCCEEDED, SYNC, SYNC_BIND
 from conversations import SYNC_LEAVE, X, Y, at, listed, operation, reply, request, with_context, with_parameters
 from database import CREDENTIALS, IN_PROGRESS
-from serving import ROOT, Serving, new_database, settings_with_contexts, tell
+from serving import Serving, environment_with, new_database, settings_with_contexts, tell
 
 DATABASE, LOG, FOLDER = SYNCABLE = "database", "log", "folder"
 OPEN, WRITE, CUT, SYNCED, TAKE, SEND = b"owcsar"
@@ -307,10 +306,8 @@ class Machine:
         self.settings = settings_with_contexts(folder)
         self.path = new_database(folder)
         self.record = os.path.join(folder, "record")
-        self.library = os.path.join(folder, "power.so")
+        self.environment = environment_with(folder, "power", POWER=self.record)
         self.begun = {DATABASE: first_page(folder)}
-        source = os.path.join(ROOT, "tests", "power.c")
-        subprocess.run(["cc", "-O2", "-shared", "-fPIC", "-o", self.library, source, "-ldl"], check=True)
 
     def paths(self):
         return {DATABASE: self.path, LOG: self.path + "-wal"}.items()
@@ -331,8 +328,7 @@ class Machine:
         return found
 
     def serving(self):
-        environment = {**os.environ, "LD_PRELOAD": self.library, "POWER": self.record}
-        return Serving(self.program, self.path, settings=self.settings, env=environment)
+        return Serving(self.program, self.path, settings=self.settings, env=self.environment)
 
     def calls(self):
         return list(calls_in(self.record))

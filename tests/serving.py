@@ -23,6 +23,14 @@ def new_database(folder):
     return os.path.join(tempfile.mkdtemp(dir=folder), "broker.db")
 
 
+def environment_with(folder, name, **more):
+    """The environment of a program that has a library before the C library, made of tests/NAME.c."""
+    library = os.path.join(folder, f"{name}.so")
+    source = os.path.join(ROOT, "tests", f"{name}.c")
+    subprocess.run(["cc", "-O2", "-shared", "-fPIC", "-o", library, source, "-ldl"], check=True)
+    return {**os.environ, "LD_PRELOAD": library, **more}
+
+
 def settings_with_contexts(folder):
     """A settings file with a service whose instances may change their context."""
     with open(SETTINGS, encoding="utf-8") as file:
