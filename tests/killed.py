@@ -1,14 +1,15 @@
 #!/usr/bin/env python3
-"""Kills the built program at twenty moments of one history and at some of a start, and looks at what its
-database then has.
+"""Kills the built program at twenty and more moments of one history and at some of a start, and looks at what
+its database then has.
 
 usage: tests/killed.py PROGRAM
 
 The program is killed (SIGKILL) after an answer, while a request is in flight, while one is being
 sent, while it starts, or while it brings a file of version 1 to version 2. After each kill what was
 answered is there, once, and what was in flight is there whole or not at all: sent again, it acts
-once. A file of version 1 is that still, or is of version 2 with the same orders. The system goes on,
-so these trials say nothing of a power failure.
+once. It is killed in flight until some requests had acted and some had not, and `slow.c` holds each sync of
+that history for a while, so that both come about. A file of version 1 is that still, or is of version 2 with
+the same orders. The system goes on, so these trials say nothing of a power failure.
 """
 
 import contextlib
@@ -18,12 +19,13 @@ import sqlite3
 import sys
 import tempfile
 import time
+from collections import Counter
 from dataclasses import dataclass
 
 from conversations import ASYNC, BIND, LATER, LEAVE, SUCCEEDED, SYNC, SYNC_BIND, SYNC_LEAVE, UPDATE, X, Y
-from conversations import FAILED, MEMORY_1, operation, reply, request, with_context
+from conversations import FAILED, MEMORY_1, at, operation, reply, request, with_context
 from database import copied, integrity, made_before, migrated, run, tables
-from serving import Serving, new_database, read_to_end, settings_with_contexts, tell
+from serving import Serving, environment_with, new_database, read_to_end, settings_with_contexts, tell
 
 CREATE, UPDATING, DELETE, BINDING, UNBINDING = range(1, 6)
 RUNS, DONE, BROKEN = range(3)
@@ -50,7 +52,7 @@ class Step:
 
 def at_once(instance):
     """The life of an instance whose orders are done as they are asked for."""
-    place = f"/v2/service_instances/{instance}"
+    place = at(instance)
     bound = place + "/service_bindings/b"
     made, empty, gone = (201, "{}"), (200, "{}"), (410, "{}")
     create, bind, update = with_context(SYNC, X), with_context(SYNC_BIND, X), with_context(UPDATE, Y)
@@ -67,7 +69,7 @@ def at_once(instance):
 
 def later(instance):
     """The life of an instance whose orders a backend reports. Its last order goes on running."""
-    place = f"/v2/service_instances/{instance}"
+    place = at(instance)
     bound = place + "/service_bindings/b"
     bind_done = '{"state":"succeeded","credentials":{"k":"v"}}'
     create, update = with_context(ASYNC, X), with_context(UPDATE, Y)
@@ -175,6 +177,8 @@ def killed_in_flight(serving, sent, pause):
 ANSWERED, HALF = "answered", "half"
 MOMENTS = [ANSWERED, 0, HALF, 0.1, 0.2, ANSWERED, 0.3, 0.4, HALF, 0.5]
 MOMENTS += [0.6, ANSWERED, 0.7, 0.8, HALF, 0.9, ANSWERED, 1.0, 1.2, 1.5]
+# How many more may be needed where by chance every request in flight had acted, or none had.
+MOST_MORE = 200
 
 
 class Trial:
@@ -184,14 +188,16 @@ class Trial:
         self.program = program
         self.folder = folder
         self.settings = settings_with_contexts(folder)
+        self.environment = environment_with(folder, "slow")
         self.path = new_database(folder)
         self.steps = history()
         self.noted = Noted()
         self.times = []
-        self.acted = 0
+        # How many in flight had no answer and had acted, and how many had not.
+        self.flights = Counter()
 
     def serving(self):
-        return Serving(self.program, self.path, settings=self.settings)
+        return Serving(self.program, self.path, settings=self.settings, env=self.environment)
 
     def answered(self, serving, count):
         """Takes so many steps to their answers."""
@@ -227,15 +233,17 @@ class Trial:
         return None
 
     def kept(self, moment, step):
-        """What the file has: what was answered, and the step without an answer or not."""
+        """What the file has: what was answered, and the step without an answer or not. Whether it has that."""
         yield f"integrity, {moment}", integrity(copied(self.path, self.folder)), {"ok"}
         rows = rows_in(self.path, self.folder)
         acted = step is not None and rows != self.noted.rows()
         if acted:
-            self.acted += 1
             self.noted.take(step)
+        if step is not None and moment != HALF:
+            self.flights[acted] += 1
         yield f"the orders, {moment}", rows, self.noted.rows()
         yield f"half a request, {moment}", acted and moment == HALF, False
+        return acted
 
     def sent_again(self, serving, step, acted):
         """The step without an answer acts once, and none that was answered acts again."""
@@ -250,19 +258,31 @@ class Trial:
         with self.serving() as serving:
             yield from self.answered(serving, count)
             step = yield from self.flown(serving, moment)
-        before = self.acted
-        yield from self.kept(moment, step)
+        acted = yield from self.kept(moment, step)
         with self.serving() as serving:
-            yield from self.sent_again(serving, step, self.acted > before)
+            yield from self.sent_again(serving, step, acted)
         yield f"the orders in the end, {moment}", rows_in(self.path, self.folder), self.noted.rows()
+
+
+def moments(flights):
+    """When it is killed: those moments, and more in flight until some of these had acted and some had not."""
+    yield from MOMENTS
+    for number in range(MOST_MORE):
+        if not flights[False]:
+            yield 0
+        elif not flights[True]:
+            yield number % 20 / 20
 
 
 def try_history(program, folder):
     trial = Trial(program, folder)
-    for place, moment in enumerate(MOMENTS):
-        yield from trial.round(moment, 3 + place % 4)
-    flights = len(MOMENTS) - MOMENTS.count(ANSWERED) - MOMENTS.count(HALF)
-    print(f"killed: {len(MOMENTS)} kills, {flights} of them in flight, where {trial.acted} had acted")
+    kills = 0
+    for kills, moment in enumerate(moments(trial.flights), start=1):
+        yield from trial.round(moment, 3 + kills % 4)
+    acted, not_acted = trial.flights[True], trial.flights[False]
+    yield "some in flight had acted", acted > 0, True
+    yield "some in flight had not acted", not_acted > 0, True
+    print(f"killed: {kills} kills; of what was in flight without an answer {acted} had acted, {not_acted} had not")
 
 
 def try_starts(program, folder):
@@ -292,6 +312,14 @@ MANY = [
 FIRST = ["format", "orders", "instances", "bindings"]
 
 
+def shares(left):
+    """When a start over version 1 is killed, in its usual times: later too, until one has left version 2."""
+    yield from [0, 0.3, 0.5, 0.7, 0.8, 0.9, 0.95, 1.0, 1.05, 1.1, 1.2, 1.5]
+    for share in [2, 4, 8, 16, 32]:
+        if not left[2]:
+            yield share
+
+
 def try_migrations(program, folder):
     """Killed while it brings a file of version 1 to version 2."""
     first = made_before(folder, 2)
@@ -300,20 +328,21 @@ def try_migrations(program, folder):
     usual = time.monotonic()
     with Serving(program, copied(first, folder)):
         usual = time.monotonic() - usual
-    left = []
-    for share in [0.3, 0.5, 0.7, 0.8, 0.9, 0.95, 1.0, 1.05, 1.1, 1.2, 1.5]:
+    left = Counter()
+    for share in shares(left):
         path = copied(first, folder)
         killed = Serving(program, path)
         time.sleep(usual * share)
         killed.kill()
         yield f"its integrity, {share}", integrity(copied(path, folder)), {"ok"}
-        version = tables(copied(path, folder), ["format"])["format"]
-        left += version
-        whole = tables(first, FIRST) if version == [(1,)] else expected
+        version = tables(copied(path, folder), ["format"])["format"][0][0]
+        left[version] += 1
+        whole = tables(first, FIRST) if version == 1 else expected
         yield f"what is left, {share}", tables(copied(path, folder), whole), whole
         with Serving(program, path):
             yield f"after a start, {share}", tables(copied(path, folder)), expected
-    print(f"killed: {left.count((1,))} starts over version 1 left it so, and {left.count((2,))} left version 2")
+    yield "some left version 1 and some version 2", left[1] > 0 and left[2] > 0, True
+    print(f"killed: {left[1]} starts over version 1 left it so, and {left[2]} left version 2")
 
 
 def tries(program):
