@@ -21,7 +21,7 @@ from functools import partial
 from typing import Callable, Optional
 
 from calm import Watch
-from conversations import CATALOG_REPLY, GET_CATALOG, I, LARGE_SYNC, NO_HEAD_REPLY, TOO_LARGE_REPLY
+from conversations import CATALOG_REPLY, CLOSE, GET_CATALOG, I, LARGE_SYNC, NO_HEAD_REPLY, TOO_LARGE_REPLY
 from conversations import head_of, reply, request
 from serving import Serving, new_database, tell
 
@@ -198,19 +198,15 @@ def some_tries(serving, name, watch):
         yield from watch.calmly(partial(one_try, serving, name))
 
 
-def closing(sent):
-    """A request that closes its connection."""
-    return sent.replace(b"\r\n\r\n", b"\r\nConnection: close\r\n\r\n", 1)
-
-
 def unread_replies(serving):
     """One that asks for more than the system holds and reads nothing is let go when its time is over."""
-    makes = closing(request("PUT", I, LARGE_SYNC))
+    makes = request("PUT", I, LARGE_SYNC, CLOSE)
+    asks = request("GET", "/v2/catalog", lines=CLOSE)
     yield "made", heard_next(serving, partial(asks_once, sent=makes)), (reply(201, "{}"), "closed")
     with serving.connection() as client:
         begun = time.monotonic()
         client.sendall(request("GET", I, "") * 1000)
-        next_answer = heard_next(serving, partial(asks_once, sent=closing(GET_CATALOG)))
+        next_answer = heard_next(serving, partial(asks_once, sent=asks))
         waited = time.monotonic() - begun
     yield "behind one that doesn't read", next_answer, SERVED
     yield "the wait behind it", max(waited, TIME_LIMIT + SOON), TIME_LIMIT + SOON

@@ -68,6 +68,10 @@ UNAUTHORIZED_REPLY = reply(401, "{}", lines='WWW-Authenticate: Basic realm="brok
 REFUSED_REPLY = reply(500, "{}")
 
 
+# The line of a request that closes its connection.
+CLOSE = "Connection: close\r\n"
+
+
 def head_of(lines):
     """A request for the catalog with so many field lines."""
     more = "".join(f"A{number}: b\r\n" for number in range(lines - 3))

@@ -25,9 +25,9 @@ import sys
 import tempfile
 from functools import partial
 
-from conversations import ASYNC, BUSY, CATALOG_REPLY, CONVERSATIONS, FETCHED_LARGE, GET_CATALOG, I, LARGE, LARGE_SYNC
-from conversations import LATER, PUT_TWICE, REFUSED_REPLY, REPORT, SUCCEEDED, SYNC, UNAUTHORIZED_REPLY, UPDATE
-from conversations import at, listed, operation, replies, reply, request, with_context
+from conversations import ASYNC, BUSY, CATALOG_REPLY, CLOSE, CONVERSATIONS, FETCHED_LARGE, GET_CATALOG, I, LARGE
+from conversations import LARGE_SYNC, LATER, PUT_TWICE, REFUSED_REPLY, REPORT, SUCCEEDED, SYNC, UNAUTHORIZED_REPLY
+from conversations import UPDATE, at, listed, operation, replies, reply, request, with_context
 from serving import Serving, environment_with, new_database
 
 # The growth that is refused, how many there were, how many before the first reply, whether from the start.
@@ -201,7 +201,6 @@ def twice_refused(machine):
     return told(growth - 1, failed)
 
 
-CLOSE = "Connection: close\r\n"
 FURTHER = ("PUT", at("z"), SYNC, 201, "{}")
 FURTHER_AGAIN = (*FURTHER[:3], 200, "{}")
 
