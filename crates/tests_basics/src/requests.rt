@@ -198,6 +198,13 @@ fn hosts(rt: HostRuntime) {
     );
     assert!(rt; reads(b"GET / HTTP/1.0\r\n\r\n", 18));
     assert!(rt; reads(b"GET / HTTP/1.0\r\nHost: a\r\n\r\n", 27));
+    // It is told before a length that isn't usable.
+    assert!(rt;
+        stops_with(
+            b"PUT / HTTP/1.1\r\nContent-Length: x\r\n\r\n",
+            StopKind::Host
+        )
+    );
     // A Host line without a value is one.
     assert!(rt; reads(b"GET / HTTP/1.1\r\nHost:\r\n\r\n", 25));
 }
@@ -206,6 +213,9 @@ fn hosts(rt: HostRuntime) {
 fn codings(rt: HostRuntime) {
     let front = b"PUT / HTTP/1.1\r\nHost: b\r\nTransfer-Encoding: chunked\r\n\r\n";
     assert!(rt; stops_with(front, StopKind::Coding));
+    // The name has no case, and the value doesn't count.
+    let empty = b"PUT / HTTP/1.1\r\nHost: b\r\ntransfer-ENCODING:\r\n\r\n";
+    assert!(rt; stops_with(empty, StopKind::Coding));
     let both =
         b"PUT / HTTP/1.1\r\nHost: b\r\nTransfer-Encoding: identity\r\nContent-Length: x\r\n\r\n";
     assert!(rt; stops_with(both, StopKind::Coding));
@@ -325,6 +335,8 @@ fn closing(rt: HostRuntime) {
     );
     let second = b"GET / HTTP/1.1\r\nHost: b\r\nConnection: a\r\nConnection: close\r\n\r\n";
     assert_eq!(rt; closes(second), Some(true));
+    let case = b"GET / HTTP/1.1\r\nHost: b\r\ncONNECTION: close\r\n\r\n";
+    assert_eq!(rt; closes(case), Some(true));
     let other = b"GET / HTTP/1.1\r\nHost: b\r\nConnections: close\r\n\r\n";
     assert_eq!(rt; closes(other), Some(false));
 }

@@ -154,13 +154,17 @@ const LENGTHS: [(&str, &str, &[u8]); 4] = [
     ("Content-Length: x\r\n", "", BAD_LENGTH),
 ];
 
-#[test]
-fn bodies_and_lengths(rt: HostRuntime) -> Result<(), Fail> {
-    let alloc = rt.alloc();
-    for (lines, rest, text) in LENGTHS {
-        with_lines(alloc, lines, rest, text)?;
+/// Fails where one of these lines is answered otherwise.
+fn with_each(alloc: Global, cases: &[(&str, &str, &[u8])]) -> Result<(), Fail> {
+    for (lines, rest, text) in cases {
+        with_lines(alloc, *lines, *rest, *text)?;
     }
     Ok(())
+}
+
+#[test]
+fn bodies_and_lengths(rt: HostRuntime) -> Result<(), Fail> {
+    with_each(rt.alloc(), &LENGTHS)
 }
 
 /// Fails where a request for the catalog with a body of that length is answered otherwise.
@@ -200,19 +204,60 @@ fn host_close_identity(rt: HostRuntime) -> Result<(), Fail> {
 const NAMED_TWICE: &str =
     "X-Broker-API-Request-Identity: r1\r\nX-Broker-API-Request-Identity: r2\r\n";
 
-const NAMED_FAULTY: &str = "X-Broker-API-Request-Identity: r1\r\nContent-Length: x\r\n";
+/// Spaces and tabs around it don't count.
+const NAMED_WIDELY: &str = "X-Broker-API-Request-Identity: \t r1\t \r\n";
+
+/// Lines with an identity, what follows the head, and the reply to the fault, which doesn't repeat it.
+const NAMED_FAULTS: [(&str, &str, &[u8]); 5] = [
+    (
+        "Host: b\r\nX-Broker-API-Request-Identity: r1\r\n",
+        "",
+        BAD_HOST,
+    ),
+    (
+        "X-Broker-API-Request-Identity: r1\r\nTransfer-Encoding: chunked\r\n",
+        "",
+        BAD_CODING,
+    ),
+    (
+        "X-Broker-API-Request-Identity: r1\r\nContent-Length: x\r\n",
+        "",
+        BAD_LENGTH,
+    ),
+    (
+        "X-Broker-API-Request-Identity: r1\r\nContent-Length: 262145\r\n",
+        "",
+        TOO_LARGE,
+    ),
+    (
+        "X-Broker-API-Request-Identity: r1\r\nContent-Length: 3\r\n",
+        "ab",
+        CUT,
+    ),
+];
+
+/// A head that is none has a line with an identity.
+const NAMED_NO_HEAD: &[u8] =
+    b"GET /v2/catalog HTTP/1.1\r\nHost: b\r\nX-Broker-API-Request-Identity: r1\r\nX : a\r\n\r\n";
 
 const NAMED_EMPTY: &[u8] = b"GET /v1 HTTP/1.1\r\nHost: b\r\nX-Broker-API-Request-Identity:\r\n\r\n";
 
 const EMPTY_NAME: &[u8] =
     b"HTTP/1.1 404 Not Found\r\nContent-Type: application/json\r\nContent-Length: 2\r\nX-Broker-API-Request-Identity: \r\nConnection: close\r\n\r\n{}";
 
-/// The first identity is repeated, also an empty one, and none with a fault of the framing.
+/// The first identity is repeated, also an empty one.
 #[test]
 fn identities(rt: HostRuntime) -> Result<(), Fail> {
     let alloc = rt.alloc();
     let twice = catalog_with(alloc, NAMED_TWICE, "")?;
     answers(alloc, 1, twice.as_slice(), NAMED_CATALOG_LAST)?;
     answers(alloc, 1, NAMED_EMPTY, EMPTY_NAME)?;
-    with_lines(alloc, NAMED_FAULTY, "", BAD_LENGTH)
+    let widely = catalog_with(alloc, NAMED_WIDELY, "")?;
+    answers(alloc, 1, widely.as_slice(), NAMED_CATALOG_LAST)
+}
+
+#[test]
+fn faults_repeat_no_identity(rt: HostRuntime) -> Result<(), Fail> {
+    with_each(rt.alloc(), &NAMED_FAULTS)?;
+    answers(rt.alloc(), 1, NAMED_NO_HEAD, NO_HEAD)
 }

@@ -356,7 +356,7 @@ fn members(rt: HostRuntime) -> Result<(), Fail> {
     tells_changes(&rt, REPORT, REPORT_BODY, &OF_REPORT)
 }
 
-const NUMBERS: [Change; 15] = [
+const NUMBERS: [Change; 16] = [
     ("1}", "0}", r#"Report i 1 succeeded done {"u":0}"#),
     (
         "1}",
@@ -380,11 +380,31 @@ const NUMBERS: [Change; 15] = [
     ("1}", "1.5,\"u\":1}", r#"Report i 1 succeeded done {"u":1}"#),
     ("1}", "1,\"u\":2}", r#"Report i 1 succeeded done {"u":2}"#),
     (r#"{"state""#, r#"{"other":0.5,"state""#, "Body"),
+    (
+        r#"{"state""#,
+        r#"{"other":18446744073709551615,"state""#,
+        r#"Report i 1 succeeded done {"u":1}"#,
+    ),
+];
+
+/// Under a name that is read past, in a list of it, and in an object that is kept.
+const NUMBERS_ANYWHERE: [Change; 4] = [
+    (r#"{"service_id""#, r#"{"other":-0,"service_id""#, "Body"),
+    (
+        r#"{"service_id""#,
+        r#"{"other":[{"x":18446744073709551616}],"service_id""#,
+        "Body",
+    ),
+    (r#"{"c":1}"#, r#"{"c":1.0}"#, "Body"),
+    (r#"{"p":1}"#, r#"{"p":-9223372036854775809}"#, "Body"),
 ];
 
 #[test]
 fn numbers(rt: HostRuntime) -> Result<(), Fail> {
-    tells_changes(&rt, REPORT, REPORT_BODY, &NUMBERS)
+    tells_changes(&rt, REPORT, REPORT_BODY, &NUMBERS)?;
+    tells_changes(&rt, PROVISION, PROVISION_BODY, &NUMBERS_ANYWHERE)?;
+    tells_changes(&rt, UPDATE, UPDATE_BODY, &NUMBERS_ANYWHERE)?;
+    tells_changes(&rt, BIND, BIND_BODY, &NUMBERS_ANYWHERE)
 }
 
 const NO_OBJECT_BODIES: [Case; 9] = [

@@ -70,7 +70,7 @@ fn tells_contents(rt: &(impl Abort + AllocGlobal), cases: &[Case]) -> Result<(),
     Ok(())
 }
 
-const CONTENTS: [Case; 15] = [
+const CONTENTS: [Case; 17] = [
     (
         r#""bindable":true"#,
         r#""bindable":true"#,
@@ -95,6 +95,17 @@ const CONTENTS: [Case; 15] = [
         r#""plan_updateable":true,"#,
         "",
         r#"true false 1.2.0; Asynchronous Asynchronous {}; {"uri":"mem:1"}; 1000000"#,
+    ),
+    // The plan's word counts, also where it allows what its service doesn't.
+    (
+        r#""1.2.0"}}]"#,
+        r#""1.2.0"},"bindable":true}],"bindable":false"#,
+        r#"true true 1.2.0; Asynchronous Asynchronous {}; {"uri":"mem:1"}; 1000000"#,
+    ),
+    (
+        r#""1.2.0"}}]"#,
+        r#""1.2.0"},"plan_updateable":true}],"plan_updateable":false"#,
+        r#"true true 1.2.0; Asynchronous Asynchronous {}; {"uri":"mem:1"}; 1000000"#,
     ),
     (
         r#","maintenance_info":{"version":"1.2.0"}"#,

@@ -199,7 +199,7 @@ fn versions(rt: HostRuntime) -> Result<(), Fail> {
     tells_faults(&rt, &VERSIONS)
 }
 
-const MODES: [Case; 6] = [
+const MODES: [Case; 8] = [
     (r#""bindings_retrievable":true,"#, "", "6 Mode"),
     (
         r#""bindings_retrievable":true"#,
@@ -209,6 +209,17 @@ const MODES: [Case; 6] = [
     (
         r#""bindings_retrievable":true"#,
         r#""instances_retrievable":true"#,
+        "6 Mode",
+    ),
+    // The plan's own service has to allow it, and no other.
+    (
+        r#""services":["#,
+        r#""services":[{"id":"other","name":"n","description":"d","bindable":true,"plans":[{"id":"p","name":"n","description":"d"}]},"#,
+        "",
+    ),
+    (
+        r#""plans":["#,
+        r#""plans":[{"id":"p","name":"n","description":"d"}]},{"id":"other","name":"n","description":"d","bindable":true,"plans":["#,
         "6 Mode",
     ),
     (r#""modes":{"#, r#""modes":{"svc":{},"#, "6 Mode"),
@@ -225,7 +236,7 @@ fn modes(rt: HostRuntime) -> Result<(), Fail> {
     tells_faults(&rt, &MODES)
 }
 
-const CREDENTIALS: [Case; 12] = [
+const CREDENTIALS: [Case; 14] = [
     (r#""user":"platform""#, r#""user":"a:b""#, "7 Credential"),
     (r#""user":"platform""#, r#""user":"""#, "7 Credential"),
     (r#""user":"backend""#, r#""user":":""#, "7 Credential"),
@@ -246,6 +257,17 @@ const CREDENTIALS: [Case; 12] = [
     (
         r#""user":"platform""#,
         r#""user":"aaaaaaaaaaaaaaaaaaaaaaaaaaaaaaaaaaaaaaaaaaaaaaaaaaaaaaaaaaaaaaaaaaaaaaaaaaaaaaaaaaaaaaaaaaaaaaaaaaaaaaaaaaaaaaaaaaaaaaaaaaaaaaaaaaaaaaaaaaaaaaaaaaaaaaaaaaaaaaaaaaaaaaaaaaaaaaaaaaaaaaaaaaaaaaaaaaaaaaaaaaaaaaaaaaaaaaaaaaaaaaaaaaaaaaaaaaaaaaaaaaaaaaaaaaaaaaaaa""#,
+        "7 Credential",
+    ),
+    // Bytes count, and not letters: 256 of 128, and 257 of 129.
+    (
+        r#""user":"backend""#,
+        r#""user":"éééééééééééééééééééééééééééééééééééééééééééééééééééééééééééééééééééééééééééééééééééééééééééééééééééééééééééééééééééééééééééééééé""#,
+        "",
+    ),
+    (
+        r#""user":"backend""#,
+        r#""user":"ééééééééééééééééééééééééééééééééééééééééééééééééééééééééééééééééééééééééééééééééééééééééééééééééééééééééééééééééééééééééééééééééa""#,
         "7 Credential",
     ),
     (
