@@ -11,6 +11,8 @@ mod beside;
 #[cfg(test)]
 mod connections;
 #[cfg(test)]
+mod lines;
+#[cfg(test)]
 mod phases;
 #[cfg(test)]
 mod rooms;

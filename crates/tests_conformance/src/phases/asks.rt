@@ -24,6 +24,11 @@ pub(crate) const ASK_DELETE: &str = "GET /v2/service_instances/n/last_operation?
 pub(crate) const ASK_WRONG_KIND: &str =
     "GET /v2/service_instances/n/last_operation?operation=update-1";
 
+pub(crate) const ASK_ZERO: &str = "GET /v2/service_instances/n/last_operation?operation=create-01";
+
+pub(crate) const ASK_CAPITAL: &str =
+    "GET /v2/service_instances/n/last_operation?operation=Create-1";
+
 pub(crate) const ASK_NO_NAME: &str = "GET /v2/service_instances/n/last_operation?operation=";
 
 pub(crate) const ASK_OTHER: &str = "GET /v2/service_instances/n/last_operation?operation=bind-1";
@@ -54,6 +59,9 @@ pub(crate) const ASK_C: &str = "GET /v2/service_instances/n/service_bindings/c/l
 pub(crate) const ASK_C_BIND: &str =
     "GET /v2/service_instances/n/service_bindings/c/last_operation?operation=bind-2";
 
+pub(crate) const ASK_C_ZERO: &str =
+    "GET /v2/service_instances/n/service_bindings/c/last_operation?operation=bind-02";
+
 pub(crate) const ASK_C_UNBIND: &str =
     "GET /v2/service_instances/n/service_bindings/c/last_operation?operation=unbind-3";
 
@@ -61,6 +69,9 @@ pub(crate) const ASK_C_OTHER: &str =
     "GET /v2/service_instances/n/service_bindings/c/last_operation?operation=create-1";
 
 pub(crate) const ASK_D: &str = "GET /v2/service_instances/n/service_bindings/d/last_operation";
+
+pub(crate) const ASK_D_BIND: &str =
+    "GET /v2/service_instances/n/service_bindings/d/last_operation?operation=bind-2";
 
 pub(crate) const LIST: &str = "GET /backend/v1/orders";
 
@@ -93,6 +104,9 @@ pub(crate) const THIS_VERSION: &str =
 pub(crate) const OLD_VERSION: &str =
     r#"{"service_id":"svc","plan_id":"p-async","organization_guid":"o","space_guid":"s","maintenance_info":{"version":"1.1.0"}}"#;
 
+pub(crate) const NO_VERSION: &str =
+    r#"{"service_id":"svc","plan_id":"p-async","organization_guid":"o","space_guid":"s","maintenance_info":{"version":""}}"#;
+
 pub(crate) const SMALL_WITH_VERSION: &str =
     r#"{"service_id":"svc","plan_id":"p-sync","organization_guid":"o","space_guid":"s","maintenance_info":{"version":"1.2.0"}}"#;
 
@@ -120,6 +134,15 @@ pub(crate) const UPDATE_TO_THIS: &str =
 
 pub(crate) const UPDATE_TO_OLD: &str =
     r#"{"service_id":"svc","maintenance_info":{"version":"1.1.0"}}"#;
+
+pub(crate) const UPDATE_TO_NO_VERSION: &str =
+    r#"{"service_id":"svc","maintenance_info":{"version":""}}"#;
+
+pub(crate) const CHANGE_WITH_VERSION: &str =
+    r#"{"service_id":"svc","plan_id":"p-sync","maintenance_info":{"version":"1.2.0"}}"#;
+
+pub(crate) const CHANGE_WITH_NO_VERSION: &str =
+    r#"{"service_id":"svc","plan_id":"p-sync","maintenance_info":{"version":""}}"#;
 
 pub(crate) const BINDING: &str = r#"{"service_id":"svc","plan_id":"p-async"}"#;
 
@@ -159,7 +182,11 @@ pub(crate) const KEY_SHOWN: &str = r#"{"credentials":{"k":"v"}}"#;
 
 pub(crate) const CREATE_1: &str = r#"{"operation":"create-1"}"#;
 
+pub(crate) const CREATE_3: &str = r#"{"operation":"create-3"}"#;
+
 pub(crate) const UPDATE_2: &str = r#"{"operation":"update-2"}"#;
+
+pub(crate) const UPDATE_3: &str = r#"{"operation":"update-3"}"#;
 
 pub(crate) const DELETE_2: &str = r#"{"operation":"delete-2"}"#;
 
@@ -168,6 +195,12 @@ pub(crate) const DELETE_3: &str = r#"{"operation":"delete-3"}"#;
 pub(crate) const BIND_2: &str = r#"{"operation":"bind-2"}"#;
 
 pub(crate) const BIND_3: &str = r#"{"operation":"bind-3"}"#;
+
+pub(crate) const DELETE_4: &str = r#"{"operation":"delete-4"}"#;
+
+pub(crate) const BIND_4: &str = r#"{"operation":"bind-4"}"#;
+
+pub(crate) const UNBIND_4: &str = r#"{"operation":"unbind-4"}"#;
 
 pub(crate) const UNBIND_3: &str = r#"{"operation":"unbind-3"}"#;
 

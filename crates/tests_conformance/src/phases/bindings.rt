@@ -1,7 +1,7 @@
 //! The phases of a binding.
 
 use super::asks::*;
-use super::each_in;
+use super::{Change, each_in};
 use std::test::Fail;
 use tests_support::exchange::Exchange;
 use tests_support::replies::*;
@@ -12,7 +12,7 @@ const BIND_RUNS: [Exchange; 3] = [
     (BIND_C, BINDING, ACCEPTED, BIND_2),
 ];
 
-const IN_BINDING: [Exchange; 29] = [
+const IN_BINDING: [Exchange; 28] = [
     (BIND_C, BINDING, ACCEPTED, BIND_2),
     (BIND_C, BINDING_WITH_CONTEXT, ACCEPTED, BIND_2),
     (BIND_C_NOW, BINDING, UNPROCESSABLE, ASYNC_REQUIRED),
@@ -27,6 +27,7 @@ const IN_BINDING: [Exchange; 29] = [
     (ASK_C, "", OK, IN_PROGRESS),
     (ASK_C_BIND, "", OK, IN_PROGRESS),
     (ASK_C_OTHER, "", BAD, NO_SUCH_OPERATION),
+    (ASK_C_ZERO, "", BAD, NO_SUCH_OPERATION),
     (ASK_D, "", NOT_FOUND, "{}"),
     (ASK, "", OK, SUCCEEDED),
     (MAKE, LARGE, OK, "{}"),
@@ -34,6 +35,7 @@ const IN_BINDING: [Exchange; 29] = [
     (FETCH, "", OK, LARGE_SHOWN),
     (UPDATE, ONE, UNPROCESSABLE, BUSY),
     (UPDATE, NOTHING, OK, "{}"),
+    (UPDATE, UPDATE_TO_OLD, UNPROCESSABLE, OTHER_VERSION),
     (REMOVE, "", UNPROCESSABLE, BUSY),
     (
         LIST,
@@ -42,16 +44,51 @@ const IN_BINDING: [Exchange; 29] = [
         r#"{"orders":[{"app_guid":"","bind_resource":{},"binding_id":"c","instance_id":"n","kind":"bind","parameters":{},"plan_id":"p-async","seq":2,"service_id":"svc"}]}"#,
     ),
     (LIST_AFTER, "", OK, NO_ORDERS),
-    (END_2, SUCCEEDED, OK, "{}"),
-    (END_2, KEY, OK, "{}"),
-    (END_2, FAILED, OK, "{}"),
     (END_1, SUCCEEDED, OK, "{}"),
     (END_3, SUCCEEDED, NOT_FOUND, "{}"),
 ];
 
+const ENDED_IN_BINDING: [Change; 5] = [
+    (
+        END_2,
+        SUCCEEDED,
+        OK,
+        "{}",
+        r#"bind-2 succeeded svc p-async - {} {} - {} c - {}"#,
+    ),
+    (
+        END_2,
+        KEY,
+        OK,
+        "{}",
+        r#"bind-2 succeeded svc p-async - {} {} - {} c - {"k":"v"}"#,
+    ),
+    (
+        END_2,
+        TOLD,
+        OK,
+        "{}",
+        r#"bind-2 succeeded svc p-async - {} {} - {} c done {}"#,
+    ),
+    (
+        END_2,
+        FAILED,
+        OK,
+        "{}",
+        r#"bind-2 failed svc p-async - {} {} - {} c - {}"#,
+    ),
+    (
+        END_2,
+        FAILED_WITH_KEY,
+        OK,
+        "{}",
+        r#"bind-2 failed svc p-async - {} {} - {} c no disk {}"#,
+    ),
+];
+
 #[test]
 fn binding(rt: HostRuntime) -> Result<(), Fail> {
-    each_in(rt.alloc(), &BIND_RUNS, &IN_BINDING)
+    each_in(rt.alloc(), &BIND_RUNS, &IN_BINDING, &ENDED_IN_BINDING)
 }
 
 const BOUND: [Exchange; 4] = [
@@ -61,7 +98,7 @@ const BOUND: [Exchange; 4] = [
     (END_2, KEY, OK, "{}"),
 ];
 
-const IN_BOUND: [Exchange; 30] = [
+const IN_BOUND: [Exchange; 28] = [
     (BIND_C, BINDING, OK, KEY_SHOWN),
     (BIND_C_NOW, BINDING, OK, KEY_SHOWN),
     (BIND_C, BINDING_WITH_CONTEXT, OK, KEY_SHOWN),
@@ -69,7 +106,6 @@ const IN_BOUND: [Exchange; 30] = [
     (BIND_C, OTHER_APP, CONFLICT, "{}"),
     (BIND_C, OTHER_RESOURCE, CONFLICT, "{}"),
     (BIND_C, OTHER_PLAN, CONFLICT, "{}"),
-    (BIND_D, BINDING, ACCEPTED, BIND_3),
     (BIND_D, OTHER_PLAN, BAD, MISMATCH),
     (
         FETCH_C,
@@ -78,17 +114,16 @@ const IN_BOUND: [Exchange; 30] = [
         r#"{"credentials":{"k":"v"},"parameters":{}}"#,
     ),
     (FETCH_D, "", NOT_FOUND, "{}"),
-    (UNBIND_C, "", ACCEPTED, UNBIND_3),
     (UNBIND_C_NOW, "", UNPROCESSABLE, ASYNC_REQUIRED),
     (UNBIND_D, "", GONE, "{}"),
     (ASK_C, "", OK, SUCCEEDED),
     (ASK_C_BIND, "", OK, SUCCEEDED),
     (ASK_C_UNBIND, "", BAD, NO_SUCH_OPERATION),
     (ASK_D, "", NOT_FOUND, "{}"),
+    (ASK_D_BIND, "", NOT_FOUND, "{}"),
     (ASK, "", OK, SUCCEEDED),
     (MAKE, LARGE, OK, "{}"),
     (FETCH, "", OK, LARGE_SHOWN),
-    (UPDATE, ONE, ACCEPTED, r#"{"operation":"update-3"}"#),
     (UPDATE, NOTHING, OK, "{}"),
     (REMOVE, "", UNPROCESSABLE, BINDINGS_REMAIN),
     (REMOVE_NOW, "", UNPROCESSABLE, BINDINGS_REMAIN),
@@ -99,9 +134,33 @@ const IN_BOUND: [Exchange; 30] = [
     (LIST, "", OK, NO_ORDERS),
 ];
 
+const OPENED_IN_BOUND: [Change; 3] = [
+    (
+        BIND_D,
+        BINDING,
+        ACCEPTED,
+        BIND_3,
+        r#"bind-3 in progress svc p-async - {} {} - {} d - {}"#,
+    ),
+    (
+        UNBIND_C,
+        "",
+        ACCEPTED,
+        UNBIND_3,
+        r#"unbind-3 in progress svc p-async - {} {} - {} c - {}"#,
+    ),
+    (
+        UPDATE,
+        ONE,
+        ACCEPTED,
+        UPDATE_3,
+        r#"update-3 in progress svc p-async o s {"n":1} 1.2.0 {} - - {}"#,
+    ),
+];
+
 #[test]
 fn bound(rt: HostRuntime) -> Result<(), Fail> {
-    each_in(rt.alloc(), &BOUND, &IN_BOUND)
+    each_in(rt.alloc(), &BOUND, &IN_BOUND, &OPENED_IN_BOUND)
 }
 
 /// An update runs beside the binding.
@@ -110,7 +169,7 @@ const BOUND_AND_UPDATING: [Exchange; 5] = [
     (END_1, SUCCEEDED, OK, "{}"),
     (BIND_C, BINDING, ACCEPTED, BIND_2),
     (END_2, KEY, OK, "{}"),
-    (UPDATE, ONE, ACCEPTED, r#"{"operation":"update-3"}"#),
+    (UPDATE, ONE, ACCEPTED, UPDATE_3),
 ];
 
 const IN_BOUND_AND_UPDATING: [Exchange; 10] = [
@@ -128,12 +187,25 @@ const IN_BOUND_AND_UPDATING: [Exchange; 10] = [
     (ASK_C, "", OK, SUCCEEDED),
     (ASK, "", OK, IN_PROGRESS),
     (REMOVE, "", UNPROCESSABLE, BUSY),
-    (UPDATE, ONE, ACCEPTED, r#"{"operation":"update-3"}"#),
+    (UPDATE, ONE, ACCEPTED, UPDATE_3),
 ];
+
+const ENDED_IN_BOUND_AND_UPDATING: [Change; 1] = [(
+    END_3,
+    SUCCEEDED,
+    OK,
+    "{}",
+    r#"update-3 succeeded svc p-async o s {"n":1} 1.2.0 {} - - {}"#,
+)];
 
 #[test]
 fn bound_while_an_update_runs(rt: HostRuntime) -> Result<(), Fail> {
-    each_in(rt.alloc(), &BOUND_AND_UPDATING, &IN_BOUND_AND_UPDATING)
+    each_in(
+        rt.alloc(),
+        &BOUND_AND_UPDATING,
+        &IN_BOUND_AND_UPDATING,
+        &ENDED_IN_BOUND_AND_UPDATING,
+    )
 }
 
 const BIND_FAILED: [Exchange; 4] = [
@@ -143,20 +215,17 @@ const BIND_FAILED: [Exchange; 4] = [
     (END_2, FAILED_TOLD, OK, "{}"),
 ];
 
-const IN_BIND_FAILED: [Exchange; 18] = [
+const IN_BIND_FAILED: [Exchange; 15] = [
     (BIND_C, BINDING, CONFLICT, "{}"),
     (BIND_C, OTHER_BINDING, CONFLICT, "{}"),
     (BIND_C_NOW, BINDING, CONFLICT, "{}"),
-    (BIND_D, BINDING, ACCEPTED, BIND_3),
     (FETCH_C, "", NOT_FOUND, "{}"),
-    (UNBIND_C, "", ACCEPTED, UNBIND_3),
     (UNBIND_C_NOW, "", UNPROCESSABLE, ASYNC_REQUIRED),
     (ASK_C, "", OK, FAILED_SHOWN),
     (ASK_C_BIND, "", OK, FAILED_SHOWN),
     (ASK_C_OTHER, "", BAD, NO_SUCH_OPERATION),
     (MAKE, LARGE, OK, "{}"),
     (FETCH, "", OK, LARGE_SHOWN),
-    (UPDATE, ONE, ACCEPTED, r#"{"operation":"update-3"}"#),
     (REMOVE, "", UNPROCESSABLE, BINDINGS_REMAIN),
     (END_2, FAILED_TOLD, OK, "{}"),
     // Credentials count for a binding that succeeded alone.
@@ -165,9 +234,65 @@ const IN_BIND_FAILED: [Exchange; 18] = [
     (LIST, "", OK, NO_ORDERS),
 ];
 
+const OPENED_IN_BIND_FAILED: [Change; 3] = [
+    (
+        BIND_D,
+        BINDING,
+        ACCEPTED,
+        BIND_3,
+        r#"bind-3 in progress svc p-async - {} {} - {} d - {}"#,
+    ),
+    (
+        UNBIND_C,
+        "",
+        ACCEPTED,
+        UNBIND_3,
+        r#"unbind-3 in progress svc p-async - {} {} - {} c - {}"#,
+    ),
+    (
+        UPDATE,
+        ONE,
+        ACCEPTED,
+        UPDATE_3,
+        r#"update-3 in progress svc p-async o s {"n":1} 1.2.0 {} - - {}"#,
+    ),
+];
+
 #[test]
 fn failed(rt: HostRuntime) -> Result<(), Fail> {
-    each_in(rt.alloc(), &BIND_FAILED, &IN_BIND_FAILED)
+    each_in(
+        rt.alloc(),
+        &BIND_FAILED,
+        &IN_BIND_FAILED,
+        &OPENED_IN_BIND_FAILED,
+    )
+}
+
+/// An update runs beside the binding that failed.
+const BIND_FAILED_AND_UPDATING: [Exchange; 5] = [
+    (MAKE, LARGE, ACCEPTED, CREATE_1),
+    (END_1, SUCCEEDED, OK, "{}"),
+    (BIND_C, BINDING, ACCEPTED, BIND_2),
+    (END_2, FAILED_TOLD, OK, "{}"),
+    (UPDATE, ONE, ACCEPTED, UPDATE_3),
+];
+
+const IN_BIND_FAILED_AND_UPDATING: [Exchange; 5] = [
+    (BIND_C, BINDING, CONFLICT, "{}"),
+    (FETCH_C, "", NOT_FOUND, "{}"),
+    (UNBIND_C, "", UNPROCESSABLE, BUSY),
+    (ASK_C, "", OK, FAILED_SHOWN),
+    (REMOVE, "", UNPROCESSABLE, BUSY),
+];
+
+#[test]
+fn failed_while_an_update_runs(rt: HostRuntime) -> Result<(), Fail> {
+    each_in(
+        rt.alloc(),
+        &BIND_FAILED_AND_UPDATING,
+        &IN_BIND_FAILED_AND_UPDATING,
+        &[],
+    )
 }
 
 const UNBINDING: [Exchange; 5] = [
@@ -178,7 +303,7 @@ const UNBINDING: [Exchange; 5] = [
     (UNBIND_C, "", ACCEPTED, UNBIND_3),
 ];
 
-const IN_UNBINDING: [Exchange; 23] = [
+const IN_UNBINDING: [Exchange; 20] = [
     (BIND_C, BINDING, UNPROCESSABLE, BUSY),
     (BIND_C, OTHER_BINDING, UNPROCESSABLE, BUSY),
     (BIND_D, BINDING, UNPROCESSABLE, BUSY),
@@ -201,17 +326,38 @@ const IN_UNBINDING: [Exchange; 23] = [
         OK,
         r#"{"orders":[{"app_guid":"","bind_resource":{},"binding_id":"c","instance_id":"n","kind":"unbind","parameters":{},"plan_id":"p-async","seq":3,"service_id":"svc"}]}"#,
     ),
-    (END_3, SUCCEEDED, OK, "{}"),
-    (END_3, KEY, OK, "{}"),
-    (END_3, FAILED, OK, "{}"),
     (END_2, KEY, OK, "{}"),
     (END_2, FAILED, CONFLICT, "{}"),
     (END_1, SUCCEEDED, OK, "{}"),
 ];
 
+const ENDED_IN_UNBINDING: [Change; 3] = [
+    (
+        END_3,
+        SUCCEEDED,
+        OK,
+        "{}",
+        r#"unbind-3 succeeded svc p-async - {} {} - {} c - {}"#,
+    ),
+    (
+        END_3,
+        KEY,
+        OK,
+        "{}",
+        r#"unbind-3 succeeded svc p-async - {} {} - {} c - {}"#,
+    ),
+    (
+        END_3,
+        FAILED_TOLD,
+        OK,
+        "{}",
+        r#"unbind-3 failed svc p-async - {} {} - {} c no disk {}"#,
+    ),
+];
+
 #[test]
 fn unbinding(rt: HostRuntime) -> Result<(), Fail> {
-    each_in(rt.alloc(), &UNBINDING, &IN_UNBINDING)
+    each_in(rt.alloc(), &UNBINDING, &IN_UNBINDING, &ENDED_IN_UNBINDING)
 }
 
 const UNBIND_FAILED: [Exchange; 6] = [
@@ -223,20 +369,40 @@ const UNBIND_FAILED: [Exchange; 6] = [
     (END_3, FAILED, OK, "{}"),
 ];
 
-const AFTER_UNBIND_FAILED: [Exchange; 8] = [
+const AFTER_UNBIND_FAILED: [Exchange; 6] = [
     (BIND_C, BINDING, CONFLICT, "{}"),
     (FETCH_C, "", NOT_FOUND, "{}"),
-    (UNBIND_C, "", ACCEPTED, r#"{"operation":"unbind-4"}"#),
     (ASK_C, "", OK, FAILED),
     (ASK_C_BIND, "", OK, SUCCEEDED),
-    (BIND_D, BINDING, ACCEPTED, r#"{"operation":"bind-4"}"#),
     (REMOVE, "", UNPROCESSABLE, BINDINGS_REMAIN),
     (END_3, FAILED, OK, "{}"),
 ];
 
+const OPENED_AFTER_UNBIND_FAILED: [Change; 2] = [
+    (
+        UNBIND_C,
+        "",
+        ACCEPTED,
+        UNBIND_4,
+        r#"unbind-4 in progress svc p-async - {} {} - {} c - {}"#,
+    ),
+    (
+        BIND_D,
+        BINDING,
+        ACCEPTED,
+        BIND_4,
+        r#"bind-4 in progress svc p-async - {} {} - {} d - {}"#,
+    ),
+];
+
 #[test]
 fn failed_after_a_failed_unbinding(rt: HostRuntime) -> Result<(), Fail> {
-    each_in(rt.alloc(), &UNBIND_FAILED, &AFTER_UNBIND_FAILED)
+    each_in(
+        rt.alloc(),
+        &UNBIND_FAILED,
+        &AFTER_UNBIND_FAILED,
+        &OPENED_AFTER_UNBIND_FAILED,
+    )
 }
 
 const UNBOUND: [Exchange; 6] = [
@@ -248,22 +414,37 @@ const UNBOUND: [Exchange; 6] = [
     (END_3, SUCCEEDED, OK, "{}"),
 ];
 
-const IN_UNBOUND: [Exchange; 12] = [
-    (BIND_C, BINDING, ACCEPTED, r#"{"operation":"bind-4"}"#),
+const IN_UNBOUND: [Exchange; 10] = [
     (BIND_C, OTHER_PLAN, BAD, MISMATCH),
     (FETCH_C, "", NOT_FOUND, "{}"),
     (UNBIND_C, "", GONE, "{}"),
     (ASK_C, "", GONE, "{}"),
     (ASK_C_UNBIND, "", GONE, "{}"),
     (ASK_C_BIND, "", OK, SUCCEEDED),
-    (REMOVE, "", ACCEPTED, r#"{"operation":"delete-4"}"#),
     (END_3, SUCCEEDED, OK, "{}"),
     (END_3, KEY, OK, "{}"),
     (END_3, FAILED, CONFLICT, "{}"),
     (LIST, "", OK, NO_ORDERS),
 ];
 
+const OPENED_IN_UNBOUND: [Change; 2] = [
+    (
+        BIND_C,
+        BINDING,
+        ACCEPTED,
+        BIND_4,
+        r#"bind-4 in progress svc p-async - {} {} - {} c - {}"#,
+    ),
+    (
+        REMOVE,
+        "",
+        ACCEPTED,
+        DELETE_4,
+        r#"delete-4 in progress svc p-async o s {} 1.2.0 {} - - {}"#,
+    ),
+];
+
 #[test]
 fn absent_after_an_unbinding(rt: HostRuntime) -> Result<(), Fail> {
-    each_in(rt.alloc(), &UNBOUND, &IN_UNBOUND)
+    each_in(rt.alloc(), &UNBOUND, &IN_UNBOUND, &OPENED_IN_UNBOUND)
 }

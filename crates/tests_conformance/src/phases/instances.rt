@@ -1,21 +1,17 @@
 //! The phases of an instance.
 
 use super::asks::*;
-use super::each_in;
+use super::{Change, each_in};
 use std::test::Fail;
 use tests_support::exchange::Exchange;
 use tests_support::replies::*;
 
-const IN_ABSENT: [Exchange; 23] = [
-    (MAKE, LARGE, ACCEPTED, CREATE_1),
-    (MAKE, THIS_VERSION, ACCEPTED, CREATE_1),
+const IN_ABSENT: [Exchange; 19] = [
     (MAKE_NOW, LARGE, UNPROCESSABLE, ASYNC_REQUIRED),
-    (MAKE_NOW, SMALL, CREATED, "{}"),
-    (MAKE, SMALL, CREATED, "{}"),
     (MAKE, OLD_VERSION, UNPROCESSABLE, OTHER_VERSION),
+    (MAKE, NO_VERSION, UNPROCESSABLE, OTHER_VERSION),
     // The version is compared with that of the plan, which has none.
     (MAKE, SMALL_WITH_VERSION, UNPROCESSABLE, OTHER_VERSION),
-    (MAKE, SMALL_WITH_NO_VERSION, CREATED, "{}"),
     (FETCH, "", NOT_FOUND, "{}"),
     (UPDATE, ONE, NOT_FOUND, "{}"),
     (UPDATE, NOTHING, NOT_FOUND, "{}"),
@@ -33,14 +29,66 @@ const IN_ABSENT: [Exchange; 23] = [
     (END_1, SUCCEEDED, NOT_FOUND, "{}"),
 ];
 
+const MADE_IN_ABSENT: [Change; 7] = [
+    (
+        MAKE,
+        LARGE,
+        ACCEPTED,
+        CREATE_1,
+        r#"create-1 in progress svc p-async o s {} 1.2.0 {} - - {}"#,
+    ),
+    (
+        MAKE,
+        THIS_VERSION,
+        ACCEPTED,
+        CREATE_1,
+        r#"create-1 in progress svc p-async o s {} 1.2.0 {} - - {}"#,
+    ),
+    (
+        MAKE,
+        OTHER_PARAMETERS,
+        ACCEPTED,
+        CREATE_1,
+        r#"create-1 in progress svc p-async o s {"n":1} 1.2.0 {} - - {}"#,
+    ),
+    (
+        MAKE,
+        OTHER_CONTEXT,
+        ACCEPTED,
+        CREATE_1,
+        r#"create-1 in progress svc p-async o s {} 1.2.0 {"n":1} - - {}"#,
+    ),
+    (
+        MAKE_NOW,
+        SMALL,
+        CREATED,
+        "{}",
+        r#"create-1 succeeded svc p-sync o s {} - {} - - {}"#,
+    ),
+    (
+        MAKE,
+        SMALL,
+        CREATED,
+        "{}",
+        r#"create-1 succeeded svc p-sync o s {} - {} - - {}"#,
+    ),
+    (
+        MAKE,
+        SMALL_WITH_NO_VERSION,
+        CREATED,
+        "{}",
+        r#"create-1 succeeded svc p-sync o s {} - {} - - {}"#,
+    ),
+];
+
 #[test]
 fn absent(rt: HostRuntime) -> Result<(), Fail> {
-    each_in(rt.alloc(), &[], &IN_ABSENT)
+    each_in(rt.alloc(), &[], &IN_ABSENT, &MADE_IN_ABSENT)
 }
 
 const CREATING: [Exchange; 1] = [(MAKE, LARGE, ACCEPTED, CREATE_1)];
 
-const IN_CREATING: [Exchange; 28] = [
+const IN_CREATING: [Exchange; 27] = [
     (MAKE, LARGE, ACCEPTED, CREATE_1),
     (MAKE, THIS_VERSION, ACCEPTED, CREATE_1),
     (MAKE, OTHER_CONTEXT, ACCEPTED, CREATE_1),
@@ -51,6 +99,7 @@ const IN_CREATING: [Exchange; 28] = [
     (MAKE_NOW, OTHER_SPACE, CONFLICT, "{}"),
     (MAKE_NOW, SMALL, CONFLICT, "{}"),
     (MAKE, OLD_VERSION, UNPROCESSABLE, OTHER_VERSION),
+    (MAKE, NO_VERSION, UNPROCESSABLE, OTHER_VERSION),
     (FETCH, "", NOT_FOUND, "{}"),
     (UPDATE, ONE, UNPROCESSABLE, BUSY),
     (UPDATE, NOTHING, UNPROCESSABLE, BUSY),
@@ -71,14 +120,51 @@ const IN_CREATING: [Exchange; 28] = [
         r#"{"orders":[{"instance_id":"n","kind":"create","maintenance_version":"1.2.0","organization_guid":"o","parameters":{},"plan_id":"p-async","seq":1,"service_id":"svc","space_guid":"s"}]}"#,
     ),
     (LIST_AFTER, "", OK, NO_ORDERS),
-    (END_1, SUCCEEDED, OK, "{}"),
-    (END_1, FAILED, OK, "{}"),
     (END_2, SUCCEEDED, NOT_FOUND, "{}"),
+];
+
+const ENDED_IN_CREATING: [Change; 5] = [
+    (
+        END_1,
+        SUCCEEDED,
+        OK,
+        "{}",
+        r#"create-1 succeeded svc p-async o s {} 1.2.0 {} - - {}"#,
+    ),
+    (
+        END_1,
+        TOLD,
+        OK,
+        "{}",
+        r#"create-1 succeeded svc p-async o s {} 1.2.0 {} - done {}"#,
+    ),
+    // Credentials are kept of a binding alone.
+    (
+        END_1,
+        KEY,
+        OK,
+        "{}",
+        r#"create-1 succeeded svc p-async o s {} 1.2.0 {} - - {}"#,
+    ),
+    (
+        END_1,
+        FAILED,
+        OK,
+        "{}",
+        r#"create-1 failed svc p-async o s {} 1.2.0 {} - - {}"#,
+    ),
+    (
+        END_1,
+        FAILED_WITH_KEY,
+        OK,
+        "{}",
+        r#"create-1 failed svc p-async o s {} 1.2.0 {} - no disk {}"#,
+    ),
 ];
 
 #[test]
 fn creating(rt: HostRuntime) -> Result<(), Fail> {
-    each_in(rt.alloc(), &CREATING, &IN_CREATING)
+    each_in(rt.alloc(), &CREATING, &IN_CREATING, &ENDED_IN_CREATING)
 }
 
 const READY: [Exchange; 2] = [
@@ -98,23 +184,24 @@ const IN_READY: [Exchange; 38] = [
     (MAKE, OTHER_PARAMETERS, CONFLICT, "{}"),
     (MAKE_NOW, SMALL, CONFLICT, "{}"),
     (MAKE, OLD_VERSION, UNPROCESSABLE, OTHER_VERSION),
+    (MAKE, NO_VERSION, UNPROCESSABLE, OTHER_VERSION),
     (FETCH, "", OK, LARGE_SHOWN),
-    (UPDATE, ONE, ACCEPTED, UPDATE_2),
-    (UPDATE, OTHER_PLAN, ACCEPTED, UPDATE_2),
     (UPDATE_NOW, ONE, UNPROCESSABLE, ASYNC_REQUIRED),
     (UPDATE_NOW, NOTHING, OK, "{}"),
     (UPDATE_NOW, BINDING, OK, "{}"),
     (UPDATE_NOW, UPDATE_TO_THIS, OK, "{}"),
     (UPDATE, UPDATE_TO_OLD, UNPROCESSABLE, OTHER_VERSION),
-    (REMOVE, "", ACCEPTED, DELETE_2),
+    (UPDATE, UPDATE_TO_NO_VERSION, UNPROCESSABLE, OTHER_VERSION),
+    (UPDATE, CHANGE_WITH_VERSION, UNPROCESSABLE, OTHER_VERSION),
     (REMOVE_NOW, "", UNPROCESSABLE, ASYNC_REQUIRED),
     (ASK, "", OK, SUCCEEDED),
     (ASK_CREATE, "", OK, SUCCEEDED),
     (ASK_OTHER, "", BAD, NO_SUCH_OPERATION),
     (ASK_WRONG_KIND, "", BAD, NO_SUCH_OPERATION),
+    // A name that reads as the same number isn't the same name.
+    (ASK_ZERO, "", BAD, NO_SUCH_OPERATION),
+    (ASK_CAPITAL, "", BAD, NO_SUCH_OPERATION),
     (ASK_NO_NAME, "", BAD, NO_SUCH_OPERATION),
-    (BIND_C, BINDING, ACCEPTED, BIND_2),
-    (BIND_C, OTHER_APP, ACCEPTED, BIND_2),
     (BIND_C_NOW, BINDING, UNPROCESSABLE, ASYNC_REQUIRED),
     (BIND_C, OTHER_PLAN, BAD, MISMATCH),
     (FETCH_C, "", NOT_FOUND, "{}"),
@@ -129,9 +216,83 @@ const IN_READY: [Exchange; 38] = [
     (END_2, SUCCEEDED, NOT_FOUND, "{}"),
 ];
 
+const OPENED_IN_READY: [Change; 10] = [
+    (
+        UPDATE,
+        ONE,
+        ACCEPTED,
+        UPDATE_2,
+        r#"update-2 in progress svc p-async o s {"n":1} 1.2.0 {} - - {}"#,
+    ),
+    (
+        UPDATE,
+        ONE_WITH_CONTEXT,
+        ACCEPTED,
+        UPDATE_2,
+        r#"update-2 in progress svc p-async o s {"n":1} 1.2.0 {} - - {}"#,
+    ),
+    // A plan without a version takes the one that stands away.
+    (
+        UPDATE,
+        OTHER_PLAN,
+        ACCEPTED,
+        UPDATE_2,
+        r#"update-2 in progress svc p-sync o s {} - {} - - {}"#,
+    ),
+    (
+        UPDATE,
+        CHANGE_WITH_NO_VERSION,
+        ACCEPTED,
+        UPDATE_2,
+        r#"update-2 in progress svc p-sync o s {} - {} - - {}"#,
+    ),
+    (
+        REMOVE,
+        "",
+        ACCEPTED,
+        DELETE_2,
+        r#"delete-2 in progress svc p-async o s {} 1.2.0 {} - - {}"#,
+    ),
+    (
+        BIND_C,
+        BINDING,
+        ACCEPTED,
+        BIND_2,
+        r#"bind-2 in progress svc p-async - {} {} - {} c - {}"#,
+    ),
+    (
+        BIND_C,
+        OTHER_APP,
+        ACCEPTED,
+        BIND_2,
+        r#"bind-2 in progress svc p-async x {} {} - {} c - {}"#,
+    ),
+    (
+        BIND_C,
+        OTHER_RESOURCE,
+        ACCEPTED,
+        BIND_2,
+        r#"bind-2 in progress svc p-async - {"app_guid":"x"} {} - {} c - {}"#,
+    ),
+    (
+        BIND_C,
+        OTHER_BINDING,
+        ACCEPTED,
+        BIND_2,
+        r#"bind-2 in progress svc p-async - {} {"n":1} - {} c - {}"#,
+    ),
+    (
+        BIND_C,
+        BINDING_WITH_CONTEXT,
+        ACCEPTED,
+        BIND_2,
+        r#"bind-2 in progress svc p-async - {} {} - {"n":1} c - {}"#,
+    ),
+];
+
 #[test]
 fn ready(rt: HostRuntime) -> Result<(), Fail> {
-    each_in(rt.alloc(), &READY, &IN_READY)
+    each_in(rt.alloc(), &READY, &IN_READY, &OPENED_IN_READY)
 }
 
 const CREATION_FAILED: [Exchange; 2] = [
@@ -139,7 +300,7 @@ const CREATION_FAILED: [Exchange; 2] = [
     (END_1, FAILED_TOLD, OK, "{}"),
 ];
 
-const IN_FAILED: [Exchange; 22] = [
+const IN_FAILED: [Exchange; 21] = [
     (MAKE, LARGE, CONFLICT, "{}"),
     (MAKE, OTHER_SPACE, CONFLICT, "{}"),
     (MAKE_NOW, SMALL, CONFLICT, "{}"),
@@ -148,7 +309,6 @@ const IN_FAILED: [Exchange; 22] = [
     (UPDATE, ONE, NOT_FOUND, "{}"),
     (UPDATE, NOTHING, NOT_FOUND, "{}"),
     (UPDATE, UPDATE_TO_OLD, NOT_FOUND, "{}"),
-    (REMOVE, "", ACCEPTED, DELETE_2),
     (REMOVE_NOW, "", UNPROCESSABLE, ASYNC_REQUIRED),
     (ASK, "", OK, FAILED_SHOWN),
     (ASK_CREATE, "", OK, FAILED_SHOWN),
@@ -164,9 +324,17 @@ const IN_FAILED: [Exchange; 22] = [
     (END_2, SUCCEEDED, NOT_FOUND, "{}"),
 ];
 
+const OPENED_IN_FAILED: [Change; 1] = [(
+    REMOVE,
+    "",
+    ACCEPTED,
+    DELETE_2,
+    r#"delete-2 in progress svc p-async o s {} 1.2.0 {} - - {}"#,
+)];
+
 #[test]
 fn failed(rt: HostRuntime) -> Result<(), Fail> {
-    each_in(rt.alloc(), &CREATION_FAILED, &IN_FAILED)
+    each_in(rt.alloc(), &CREATION_FAILED, &IN_FAILED, &OPENED_IN_FAILED)
 }
 
 const UPDATING: [Exchange; 3] = [
@@ -175,7 +343,7 @@ const UPDATING: [Exchange; 3] = [
     (UPDATE, ONE, ACCEPTED, UPDATE_2),
 ];
 
-const IN_UPDATING: [Exchange; 27] = [
+const IN_UPDATING: [Exchange; 25] = [
     (MAKE, LARGE, OK, "{}"),
     (MAKE, OTHER_SPACE, CONFLICT, "{}"),
     // What the update is to bring doesn't stand yet.
@@ -204,16 +372,38 @@ const IN_UPDATING: [Exchange; 27] = [
         r#"{"orders":[{"instance_id":"n","kind":"update","maintenance_version":"1.2.0","organization_guid":"o","parameters":{"n":1},"plan_id":"p-async","seq":2,"service_id":"svc","space_guid":"s"}]}"#,
     ),
     (LIST_AFTER, "", OK, NO_ORDERS),
-    (END_2, SUCCEEDED, OK, "{}"),
-    (END_2, FAILED, OK, "{}"),
     (END_1, SUCCEEDED, OK, "{}"),
     (END_1, FAILED, CONFLICT, "{}"),
     (END_3, SUCCEEDED, NOT_FOUND, "{}"),
 ];
 
+const ENDED_IN_UPDATING: [Change; 3] = [
+    (
+        END_2,
+        SUCCEEDED,
+        OK,
+        "{}",
+        r#"update-2 succeeded svc p-async o s {"n":1} 1.2.0 {} - - {}"#,
+    ),
+    (
+        END_2,
+        KEY,
+        OK,
+        "{}",
+        r#"update-2 succeeded svc p-async o s {"n":1} 1.2.0 {} - - {}"#,
+    ),
+    (
+        END_2,
+        FAILED,
+        OK,
+        "{}",
+        r#"update-2 failed svc p-async o s {"n":1} 1.2.0 {} - - {}"#,
+    ),
+];
+
 #[test]
 fn updating(rt: HostRuntime) -> Result<(), Fail> {
-    each_in(rt.alloc(), &UPDATING, &IN_UPDATING)
+    each_in(rt.alloc(), &UPDATING, &IN_UPDATING, &ENDED_IN_UPDATING)
 }
 
 /// Ready again, as it was.
@@ -224,20 +414,162 @@ const UPDATE_FAILED: [Exchange; 4] = [
     (END_2, FAILED_TOLD, OK, "{}"),
 ];
 
-const AFTER_UPDATE_FAILED: [Exchange; 8] = [
+const AFTER_UPDATE_FAILED: [Exchange; 5] = [
     (MAKE, LARGE, OK, "{}"),
     (MAKE, OTHER_PARAMETERS, CONFLICT, "{}"),
     (FETCH, "", OK, LARGE_SHOWN),
     (UPDATE, NOTHING, OK, "{}"),
-    (UPDATE, ONE, ACCEPTED, r#"{"operation":"update-3"}"#),
-    (REMOVE, "", ACCEPTED, DELETE_3),
     (ASK, "", OK, FAILED_SHOWN),
-    (BIND_C, BINDING, ACCEPTED, BIND_3),
+];
+
+const OPENED_AFTER_UPDATE_FAILED: [Change; 3] = [
+    (
+        UPDATE,
+        ONE,
+        ACCEPTED,
+        UPDATE_3,
+        r#"update-3 in progress svc p-async o s {"n":1} 1.2.0 {} - - {}"#,
+    ),
+    (
+        REMOVE,
+        "",
+        ACCEPTED,
+        DELETE_3,
+        r#"delete-3 in progress svc p-async o s {} 1.2.0 {} - - {}"#,
+    ),
+    (
+        BIND_C,
+        BINDING,
+        ACCEPTED,
+        BIND_3,
+        r#"bind-3 in progress svc p-async - {} {} - {} c - {}"#,
+    ),
 ];
 
 #[test]
 fn ready_after_a_failed_update(rt: HostRuntime) -> Result<(), Fail> {
-    each_in(rt.alloc(), &UPDATE_FAILED, &AFTER_UPDATE_FAILED)
+    each_in(
+        rt.alloc(),
+        &UPDATE_FAILED,
+        &AFTER_UPDATE_FAILED,
+        &OPENED_AFTER_UPDATE_FAILED,
+    )
+}
+
+/// The update is to bring another plan, which has no version.
+const CHANGING_PLAN: [Exchange; 3] = [
+    (MAKE, LARGE, ACCEPTED, CREATE_1),
+    (END_1, SUCCEEDED, OK, "{}"),
+    (UPDATE, OTHER_PLAN, ACCEPTED, UPDATE_2),
+];
+
+const IN_CHANGING_PLAN: [Exchange; 9] = [
+    (UPDATE, OTHER_PLAN, ACCEPTED, UPDATE_2),
+    (UPDATE, CHANGE_WITH_NO_VERSION, ACCEPTED, UPDATE_2),
+    (UPDATE_NOW, OTHER_PLAN, UNPROCESSABLE, ASYNC_REQUIRED),
+    (UPDATE, CHANGE_WITH_VERSION, UNPROCESSABLE, OTHER_VERSION),
+    (UPDATE, BINDING, UNPROCESSABLE, BUSY),
+    (UPDATE, ONE, UNPROCESSABLE, BUSY),
+    (MAKE, LARGE, OK, "{}"),
+    (MAKE_NOW, SMALL, CONFLICT, "{}"),
+    (
+        LIST,
+        "",
+        OK,
+        r#"{"orders":[{"instance_id":"n","kind":"update","organization_guid":"o","parameters":{},"plan_id":"p-sync","seq":2,"service_id":"svc","space_guid":"s"}]}"#,
+    ),
+];
+
+const ENDED_IN_CHANGING_PLAN: [Change; 2] = [
+    (
+        END_2,
+        SUCCEEDED,
+        OK,
+        "{}",
+        "update-2 succeeded svc p-sync o s {} - {} - - {}",
+    ),
+    (
+        END_2,
+        FAILED,
+        OK,
+        "{}",
+        "update-2 failed svc p-sync o s {} - {} - - {}",
+    ),
+];
+
+#[test]
+fn changing_the_plan(rt: HostRuntime) -> Result<(), Fail> {
+    each_in(
+        rt.alloc(),
+        &CHANGING_PLAN,
+        &IN_CHANGING_PLAN,
+        &ENDED_IN_CHANGING_PLAN,
+    )
+}
+
+/// What is done at once from then on, by the plan that stands.
+const PLAN_CHANGED: [Exchange; 4] = [
+    (MAKE, LARGE, ACCEPTED, CREATE_1),
+    (END_1, SUCCEEDED, OK, "{}"),
+    (UPDATE, OTHER_PLAN, ACCEPTED, UPDATE_2),
+    (END_2, SUCCEEDED, OK, "{}"),
+];
+
+const IN_PLAN_CHANGED: [Exchange; 7] = [
+    (MAKE_NOW, SMALL, OK, "{}"),
+    (MAKE, LARGE, CONFLICT, "{}"),
+    (
+        FETCH,
+        "",
+        OK,
+        r#"{"parameters":{},"plan_id":"p-sync","service_id":"svc"}"#,
+    ),
+    (UPDATE_NOW, OTHER_PLAN, OK, "{}"),
+    (UPDATE_NOW, UPDATE_TO_NO_VERSION, OK, "{}"),
+    (UPDATE_NOW, UPDATE_TO_THIS, UNPROCESSABLE, OTHER_VERSION),
+    (BIND_C_NOW, BINDING, BAD, MISMATCH),
+];
+
+const DONE_IN_PLAN_CHANGED: [Change; 4] = [
+    (
+        UPDATE_NOW,
+        ONE,
+        OK,
+        "{}",
+        r#"update-3 succeeded svc p-sync o s {"n":1} - {} - - {}"#,
+    ),
+    // Back again, to the version of that plan.
+    (
+        UPDATE_NOW,
+        BINDING,
+        OK,
+        "{}",
+        "update-3 succeeded svc p-async o s {} 1.2.0 {} - - {}",
+    ),
+    (
+        REMOVE_NOW,
+        "",
+        OK,
+        "{}",
+        "delete-3 succeeded svc p-sync o s {} - {} - - {}",
+    ),
+    (
+        BIND_C_NOW,
+        OTHER_PLAN,
+        CREATED,
+        r#"{"credentials":{"uri":"mem:1"}}"#,
+        r#"bind-3 succeeded svc p-sync - {} {} - {} c - {"uri":"mem:1"}"#,
+    ),
+];
+
+#[test]
+fn ready_with_another_plan(rt: HostRuntime) -> Result<(), Fail> {
+    each_in(
+        rt.alloc(),
+        &PLAN_CHANGED,
+        &IN_PLAN_CHANGED,
+        &DONE_IN_PLAN_CHANGED,
+    )
 }
 
 const DELETING: [Exchange; 3] = [
@@ -246,7 +578,7 @@ const DELETING: [Exchange; 3] = [
     (REMOVE, "", ACCEPTED, DELETE_2),
 ];
 
-const IN_DELETING: [Exchange; 26] = [
+const IN_DELETING: [Exchange; 23] = [
     (MAKE, LARGE, UNPROCESSABLE, BUSY),
     (MAKE, OTHER_SPACE, UNPROCESSABLE, BUSY),
     (MAKE, OLD_VERSION, UNPROCESSABLE, OTHER_VERSION),
@@ -271,18 +603,39 @@ const IN_DELETING: [Exchange; 26] = [
         r#"{"orders":[{"instance_id":"n","kind":"delete","maintenance_version":"1.2.0","organization_guid":"o","parameters":{},"plan_id":"p-async","seq":2,"service_id":"svc","space_guid":"s"}]}"#,
     ),
     (LIST_AFTER, "", OK, NO_ORDERS),
-    (END_2, SUCCEEDED, OK, "{}"),
-    (END_2, FAILED, OK, "{}"),
-    (END_2, KEY, OK, "{}"),
     (END_1, SUCCEEDED, OK, "{}"),
     (END_1, TOLD, CONFLICT, "{}"),
     (END_1, FAILED, CONFLICT, "{}"),
     (END_3, SUCCEEDED, NOT_FOUND, "{}"),
 ];
 
+const ENDED_IN_DELETING: [Change; 3] = [
+    (
+        END_2,
+        SUCCEEDED,
+        OK,
+        "{}",
+        r#"delete-2 succeeded svc p-async o s {} 1.2.0 {} - - {}"#,
+    ),
+    (
+        END_2,
+        KEY,
+        OK,
+        "{}",
+        r#"delete-2 succeeded svc p-async o s {} 1.2.0 {} - - {}"#,
+    ),
+    (
+        END_2,
+        FAILED_TOLD,
+        OK,
+        "{}",
+        r#"delete-2 failed svc p-async o s {} 1.2.0 {} - no disk {}"#,
+    ),
+];
+
 #[test]
 fn deleting(rt: HostRuntime) -> Result<(), Fail> {
-    each_in(rt.alloc(), &DELETING, &IN_DELETING)
+    each_in(rt.alloc(), &DELETING, &IN_DELETING, &ENDED_IN_DELETING)
 }
 
 const DELETION_FAILED: [Exchange; 4] = [
@@ -292,18 +645,94 @@ const DELETION_FAILED: [Exchange; 4] = [
     (END_2, FAILED, OK, "{}"),
 ];
 
-const AFTER_DELETION_FAILED: [Exchange; 6] = [
+const AFTER_DELETION_FAILED: [Exchange; 3] = [
     (MAKE, LARGE, OK, "{}"),
     (FETCH, "", OK, LARGE_SHOWN),
-    (UPDATE, ONE, ACCEPTED, r#"{"operation":"update-3"}"#),
-    (REMOVE, "", ACCEPTED, DELETE_3),
     (ASK, "", OK, FAILED),
-    (BIND_C, BINDING, ACCEPTED, BIND_3),
+];
+
+const OPENED_AFTER_DELETION_FAILED: [Change; 3] = [
+    (
+        UPDATE,
+        ONE,
+        ACCEPTED,
+        UPDATE_3,
+        r#"update-3 in progress svc p-async o s {"n":1} 1.2.0 {} - - {}"#,
+    ),
+    (
+        REMOVE,
+        "",
+        ACCEPTED,
+        DELETE_3,
+        r#"delete-3 in progress svc p-async o s {} 1.2.0 {} - - {}"#,
+    ),
+    (
+        BIND_C,
+        BINDING,
+        ACCEPTED,
+        BIND_3,
+        r#"bind-3 in progress svc p-async - {} {} - {} c - {}"#,
+    ),
 ];
 
 #[test]
 fn ready_after_a_failed_deletion(rt: HostRuntime) -> Result<(), Fail> {
-    each_in(rt.alloc(), &DELETION_FAILED, &AFTER_DELETION_FAILED)
+    each_in(
+        rt.alloc(),
+        &DELETION_FAILED,
+        &AFTER_DELETION_FAILED,
+        &OPENED_AFTER_DELETION_FAILED,
+    )
+}
+
+/// It was never made, and is being deleted.
+const FAILED_DELETING: [Exchange; 3] = [
+    (MAKE, LARGE, ACCEPTED, CREATE_1),
+    (END_1, FAILED, OK, "{}"),
+    (REMOVE, "", ACCEPTED, DELETE_2),
+];
+
+const IN_FAILED_DELETING: [Exchange; 13] = [
+    (MAKE, LARGE, UNPROCESSABLE, BUSY),
+    (MAKE, OTHER_SPACE, UNPROCESSABLE, BUSY),
+    (MAKE, OLD_VERSION, UNPROCESSABLE, OTHER_VERSION),
+    (FETCH, "", UNPROCESSABLE, BUSY),
+    (UPDATE, ONE, UNPROCESSABLE, BUSY),
+    (UPDATE, NOTHING, UNPROCESSABLE, BUSY),
+    (REMOVE, "", ACCEPTED, DELETE_2),
+    (REMOVE_NOW, "", UNPROCESSABLE, ASYNC_REQUIRED),
+    (ASK, "", OK, IN_PROGRESS),
+    (ASK_CREATE, "", OK, FAILED),
+    (BIND_C, BINDING, UNPROCESSABLE, BUSY),
+    (FETCH_C, "", NOT_FOUND, "{}"),
+    (UNBIND_C, "", GONE, "{}"),
+];
+
+const ENDED_IN_FAILED_DELETING: [Change; 2] = [
+    (
+        END_2,
+        SUCCEEDED,
+        OK,
+        "{}",
+        "delete-2 succeeded svc p-async o s {} 1.2.0 {} - - {}",
+    ),
+    (
+        END_2,
+        FAILED,
+        OK,
+        "{}",
+        "delete-2 failed svc p-async o s {} 1.2.0 {} - - {}",
+    ),
+];
+
+#[test]
+fn deleting_after_a_failed_creation(rt: HostRuntime) -> Result<(), Fail> {
+    each_in(
+        rt.alloc(),
+        &FAILED_DELETING,
+        &IN_FAILED_DELETING,
+        &ENDED_IN_FAILED_DELETING,
+    )
 }
 
 /// Neither was it made nor could it be deleted.
@@ -314,18 +743,30 @@ const BOTH_FAILED: [Exchange; 4] = [
     (END_2, FAILED, OK, "{}"),
 ];
 
-const AFTER_BOTH_FAILED: [Exchange; 6] = [
+const AFTER_BOTH_FAILED: [Exchange; 5] = [
     (MAKE, LARGE, CONFLICT, "{}"),
     (FETCH, "", NOT_FOUND, "{}"),
     (UPDATE, ONE, NOT_FOUND, "{}"),
-    (REMOVE, "", ACCEPTED, DELETE_3),
     (ASK, "", OK, FAILED),
     (BIND_C, BINDING, NOT_FOUND, "{}"),
 ];
 
+const OPENED_AFTER_BOTH_FAILED: [Change; 1] = [(
+    REMOVE,
+    "",
+    ACCEPTED,
+    DELETE_3,
+    r#"delete-3 in progress svc p-async o s {} 1.2.0 {} - - {}"#,
+)];
+
 #[test]
 fn failed_after_a_failed_deletion(rt: HostRuntime) -> Result<(), Fail> {
-    each_in(rt.alloc(), &BOTH_FAILED, &AFTER_BOTH_FAILED)
+    each_in(
+        rt.alloc(),
+        &BOTH_FAILED,
+        &AFTER_BOTH_FAILED,
+        &OPENED_AFTER_BOTH_FAILED,
+    )
 }
 
 const DELETED: [Exchange; 4] = [
@@ -335,9 +776,7 @@ const DELETED: [Exchange; 4] = [
     (END_2, SUCCEEDED, OK, "{}"),
 ];
 
-const IN_DELETED: [Exchange; 15] = [
-    (MAKE, LARGE, ACCEPTED, r#"{"operation":"create-3"}"#),
-    (MAKE_NOW, SMALL, CREATED, "{}"),
+const IN_DELETED: [Exchange; 13] = [
     (FETCH, "", NOT_FOUND, "{}"),
     (UPDATE, ONE, NOT_FOUND, "{}"),
     (REMOVE, "", GONE, "{}"),
@@ -353,7 +792,24 @@ const IN_DELETED: [Exchange; 15] = [
     (END_2, FAILED, CONFLICT, "{}"),
 ];
 
+const MADE_IN_DELETED: [Change; 2] = [
+    (
+        MAKE,
+        LARGE,
+        ACCEPTED,
+        CREATE_3,
+        r#"create-3 in progress svc p-async o s {} 1.2.0 {} - - {}"#,
+    ),
+    (
+        MAKE_NOW,
+        SMALL,
+        CREATED,
+        "{}",
+        r#"create-3 succeeded svc p-sync o s {} - {} - - {}"#,
+    ),
+];
+
 #[test]
 fn absent_after_a_deletion(rt: HostRuntime) -> Result<(), Fail> {
-    each_in(rt.alloc(), &DELETED, &IN_DELETED)
+    each_in(rt.alloc(), &DELETED, &IN_DELETED, &MADE_IN_DELETED)
 }

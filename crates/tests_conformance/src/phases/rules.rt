@@ -2,12 +2,13 @@
 //! allow less.
 
 use super::asks::*;
-use super::in_phase;
+use super::{Change, Over, Phase, in_phases, in_phases_over};
 use osb_catalog::Settings;
 use osb_records::{Records, open_memory};
 use sqlite::MemStore;
 use std::alloc::Global;
 use std::test::Fail;
+use tests_support::asks::MEMORY_1;
 use tests_support::catalogs::{built_in, settings_with};
 use tests_support::exchange::Exchange;
 use tests_support::replies::*;
@@ -18,26 +19,51 @@ const MADE: [Exchange; 2] = [
     (END_1, SUCCEEDED, OK, "{}"),
 ];
 
-const IN_FULL: [Exchange; 8] = [
+/// The built-in settings with so many orders for an instance.
+fn with_limit(alloc: Global, limit: u32) -> Result<Settings, Fail> {
+    let modes = format!(in alloc; "\"orders_per_instance\":{limit},\"modes\":")?;
+    settings_with(alloc, "\"modes\":", modes.as_str())
+}
+
+const IN_FULL: [Exchange; 11] = [
     (MAKE, LARGE, OK, "{}"),
+    (MAKE, OTHER_SPACE, CONFLICT, "{}"),
     (UPDATE, ONE, UNPROCESSABLE, FULL),
     // Asking at all comes before the room for it.
     (UPDATE_NOW, ONE, UNPROCESSABLE, ASYNC_REQUIRED),
     (UPDATE, NOTHING, OK, "{}"),
+    (UPDATE, UPDATE_TO_OLD, UNPROCESSABLE, OTHER_VERSION),
     (REMOVE, "", UNPROCESSABLE, FULL),
     (REMOVE_NOW, "", UNPROCESSABLE, ASYNC_REQUIRED),
     (BIND_C, BINDING, UNPROCESSABLE, FULL),
     (BIND_C, OTHER_PLAN, BAD, MISMATCH),
+    (UNBIND_C, "", GONE, "{}"),
+];
+
+/// What runs is told and ends, although there is no room for another.
+const IN_CREATING_AND_FULL: [Exchange; 3] = [
+    (MAKE, LARGE, ACCEPTED, CREATE_1),
+    (UPDATE, ONE, UNPROCESSABLE, BUSY),
+    (REMOVE, "", UNPROCESSABLE, BUSY),
+];
+
+const ENDED_IN_FULL: [Change; 1] = [(
+    END_1,
+    SUCCEEDED,
+    OK,
+    "{}",
+    "create-1 succeeded svc p-async o s {} 1.2.0 {} - - {}",
+)];
+
+const FULL_OF_ONE: [Phase; 2] = [
+    (&MADE, &IN_FULL, &[]),
+    (&CREATING, &IN_CREATING_AND_FULL, &ENDED_IN_FULL),
 ];
 
 #[test]
 fn a_life_of_one_order(rt: HostRuntime) -> Result<(), Fail> {
-    let settings = settings_with(
-        rt.alloc(),
-        "\"modes\":",
-        "\"orders_per_instance\":1,\"modes\":",
-    )?;
-    in_phase(rt.alloc(), &settings, &MADE, &IN_FULL)
+    let settings = with_limit(rt.alloc(), 1)?;
+    in_phases(rt.alloc(), &settings, &FULL_OF_ONE)
 }
 
 const BOUND: [Exchange; 4] = [
@@ -47,10 +73,17 @@ const BOUND: [Exchange; 4] = [
     (END_2, KEY, OK, "{}"),
 ];
 
-const IN_BOUND_AND_FULL: [Exchange; 3] = [
+const IN_BOUND_AND_FULL: [Exchange; 9] = [
     (UNBIND_C, "", UNPROCESSABLE, FULL),
     (UNBIND_C_NOW, "", UNPROCESSABLE, ASYNC_REQUIRED),
+    (UNBIND_D, "", GONE, "{}"),
     (BIND_C, BINDING, OK, KEY_SHOWN),
+    (BIND_C, OTHER_BINDING, CONFLICT, "{}"),
+    (BIND_D, BINDING, UNPROCESSABLE, FULL),
+    (UPDATE, ONE, UNPROCESSABLE, FULL),
+    // A binding that remains comes before the room for it.
+    (REMOVE, "", UNPROCESSABLE, BINDINGS_REMAIN),
+    (END_2, KEY, OK, "{}"),
 ];
 
 const DELETED: [Exchange; 4] = [
@@ -60,22 +93,56 @@ const DELETED: [Exchange; 4] = [
     (END_2, SUCCEEDED, OK, "{}"),
 ];
 
-const IN_DELETED_AND_FULL: [Exchange; 4] = [
+const IN_DELETED_AND_FULL: [Exchange; 5] = [
     (MAKE, LARGE, UNPROCESSABLE, FULL),
     (MAKE_NOW, LARGE, UNPROCESSABLE, ASYNC_REQUIRED),
     (MAKE_NOW, SMALL, UNPROCESSABLE, FULL),
+    (MAKE, OLD_VERSION, UNPROCESSABLE, OTHER_VERSION),
     (REMOVE, "", GONE, "{}"),
+];
+
+const BINDING_RUNS: [Exchange; 3] = [
+    (MAKE, LARGE, ACCEPTED, CREATE_1),
+    (END_1, SUCCEEDED, OK, "{}"),
+    (BIND_C, BINDING, ACCEPTED, BIND_2),
+];
+
+/// What runs comes before the room as well.
+const IN_BINDING_AND_FULL: [Exchange; 5] = [
+    (BIND_C, BINDING, ACCEPTED, BIND_2),
+    (BIND_D, BINDING, UNPROCESSABLE, BUSY),
+    (UPDATE, ONE, UNPROCESSABLE, BUSY),
+    (REMOVE, "", UNPROCESSABLE, BUSY),
+    (UNBIND_C, "", UNPROCESSABLE, BUSY),
+];
+
+const FULL_OF_TWO: [Phase; 3] = [
+    (&BOUND, &IN_BOUND_AND_FULL, &[]),
+    (&DELETED, &IN_DELETED_AND_FULL, &[]),
+    (&BINDING_RUNS, &IN_BINDING_AND_FULL, &[]),
 ];
 
 #[test]
 fn a_life_of_two_orders(rt: HostRuntime) -> Result<(), Fail> {
-    let settings = settings_with(
-        rt.alloc(),
-        "\"modes\":",
-        "\"orders_per_instance\":2,\"modes\":",
-    )?;
-    in_phase(rt.alloc(), &settings, &BOUND, &IN_BOUND_AND_FULL)?;
-    in_phase(rt.alloc(), &settings, &DELETED, &IN_DELETED_AND_FULL)
+    let settings = with_limit(rt.alloc(), 2)?;
+    in_phases(rt.alloc(), &settings, &FULL_OF_TWO)
+}
+
+/// Fails where one of these asks goes otherwise, once the limit became one.
+fn in_phases_beyond(alloc: Global, before: &Settings) -> Result<(), Fail> {
+    let fewer = with_limit(alloc, 1)?;
+    let over = Over {
+        before,
+        now: &fewer,
+    };
+    in_phases_over(alloc, over, &FULL_OF_TWO)
+}
+
+/// Lives of two orders stood there before.
+#[test]
+fn a_life_beyond_its_limit(rt: HostRuntime) -> Result<(), Fail> {
+    let settings = built_in(rt.alloc())?;
+    in_phases_beyond(rt.alloc(), &settings)
 }
 
 const OTHER_SERVICE: &str =
@@ -93,14 +160,37 @@ const OTHER_AND_VERSION: &str = r#"{"service_id":"other","maintenance_info":{"ve
 const REMOVE_OTHER: &str =
     "DELETE /v2/service_instances/n?service_id=other&plan_id=p-other&accepts_incomplete=true";
 
-const IN_READY: [Exchange; 5] = [
+const UNBIND_OTHER: &str =
+    "DELETE /v2/service_instances/n/service_bindings/c?service_id=other&plan_id=p-other&accepts_incomplete=true";
+
+const IN_READY: [Exchange; 4] = [
     (UPDATE, UPDATE_OF_OTHER, BAD, MISMATCH),
     (UPDATE, OTHER_AND_VERSION, BAD, MISMATCH),
-    // What a deletion names has to be in the catalog, and isn't compared.
-    (REMOVE_OTHER, "", ACCEPTED, DELETE_2),
     (BIND_C, BINDING_OF_OTHER, BAD, MISMATCH),
     (MAKE, INSTANCE_OF_OTHER, CONFLICT, "{}"),
 ];
+
+/// What a deletion names has to be in the catalog, and isn't compared.
+const REMOVED_AS_OTHER: [Change; 1] = [(
+    REMOVE_OTHER,
+    "",
+    ACCEPTED,
+    DELETE_2,
+    "delete-2 in progress svc p-async o s {} 1.2.0 {} - - {}",
+)];
+
+const IN_BOUND: [Exchange; 2] = [
+    (BIND_C, BINDING_OF_OTHER, CONFLICT, "{}"),
+    (BIND_D, BINDING_OF_OTHER, BAD, MISMATCH),
+];
+
+const UNBOUND_AS_OTHER: [Change; 1] = [(
+    UNBIND_OTHER,
+    "",
+    ACCEPTED,
+    UNBIND_3,
+    "unbind-3 in progress svc p-async - {} {} - {} c - {}",
+)];
 
 const UPDATING: [Exchange; 3] = [
     (MAKE, LARGE, ACCEPTED, CREATE_1),
@@ -143,57 +233,100 @@ fn with_another_service(alloc: Global) -> Result<Settings, Fail> {
     settings_with(alloc, "\"services\":[", services.as_str())
 }
 
-/// Fails where an ask for the other service goes otherwise in one of the phases.
-fn asks_for_another(alloc: Global, settings: &Settings) -> Result<(), Fail> {
-    in_phase(alloc, settings, &MADE, &IN_READY)?;
-    in_phase(alloc, settings, &UPDATING, &IN_UPDATING)?;
-    in_phase(alloc, settings, &CREATING, &IN_CREATING_OR_DELETING)?;
-    in_phase(alloc, settings, &DELETING, &IN_CREATING_OR_DELETING)?;
-    in_phase(alloc, settings, &CREATION_FAILED, &IN_ABSENT_OR_FAILED)?;
-    in_phase(alloc, settings, &[], &IN_ABSENT_OR_FAILED)
-}
+const ASKED_FOR_ANOTHER: [Phase; 7] = [
+    (&MADE, &IN_READY, &REMOVED_AS_OTHER),
+    (&BOUND, &IN_BOUND, &UNBOUND_AS_OTHER),
+    (&UPDATING, &IN_UPDATING, &[]),
+    (&CREATING, &IN_CREATING_OR_DELETING, &[]),
+    (&DELETING, &IN_CREATING_OR_DELETING, &[]),
+    (&CREATION_FAILED, &IN_ABSENT_OR_FAILED, &[]),
+    (&[], &IN_ABSENT_OR_FAILED, &[]),
+];
 
 #[test]
 fn another_service(rt: HostRuntime) -> Result<(), Fail> {
     let settings = with_another_service(rt.alloc())?;
-    asks_for_another(rt.alloc(), &settings)
+    in_phases(rt.alloc(), &settings, &ASKED_FOR_ANOTHER)
 }
 
 const IN_FIXED: [Exchange; 4] = [
     (UPDATE, OTHER_PLAN, UNPROCESSABLE, NO_PLAN_CHANGE),
     (UPDATE_NOW, OTHER_PLAN, UNPROCESSABLE, NO_PLAN_CHANGE),
-    (UPDATE, ONE, ACCEPTED, UPDATE_2),
     (UPDATE, BINDING, OK, "{}"),
+    // The version comes before the plan.
+    (UPDATE, CHANGE_WITH_VERSION, UNPROCESSABLE, OTHER_VERSION),
 ];
 
-const IN_FIXED_AND_UPDATING: [Exchange; 1] = [(UPDATE, OTHER_PLAN, UNPROCESSABLE, BUSY)];
+const UPDATED_IN_FIXED: [Change; 1] = [(
+    UPDATE,
+    ONE,
+    ACCEPTED,
+    UPDATE_2,
+    r#"update-2 in progress svc p-async o s {"n":1} 1.2.0 {} - - {}"#,
+)];
 
-const BINDING_RUNS: [Exchange; 3] = [
-    (MAKE, LARGE, ACCEPTED, CREATE_1),
-    (END_1, SUCCEEDED, OK, "{}"),
-    (BIND_C, BINDING, ACCEPTED, BIND_2),
+const IN_FIXED_AND_BUSY: [Exchange; 2] = [
+    (UPDATE, OTHER_PLAN, UNPROCESSABLE, BUSY),
+    (UPDATE, CHANGE_WITH_VERSION, UNPROCESSABLE, OTHER_VERSION),
+];
+
+const FIXED: [Phase; 3] = [
+    (&MADE, &IN_FIXED, &UPDATED_IN_FIXED),
+    (&UPDATING, &IN_FIXED_AND_BUSY, &[]),
+    (&BINDING_RUNS, &IN_FIXED_AND_BUSY, &[]),
 ];
 
 #[test]
 fn a_plan_that_stays(rt: HostRuntime) -> Result<(), Fail> {
-    let alloc = rt.alloc();
     let settings = settings_with(
-        alloc,
+        rt.alloc(),
         "\"id\":\"p-async\",",
         "\"id\":\"p-async\",\"plan_updateable\":false,",
     )?;
-    in_phase(alloc, &settings, &MADE, &IN_FIXED)?;
-    in_phase(alloc, &settings, &UPDATING, &IN_FIXED_AND_UPDATING)?;
-    in_phase(alloc, &settings, &BINDING_RUNS, &IN_FIXED_AND_UPDATING)
+    in_phases(rt.alloc(), &settings, &FIXED)
+}
+
+/// What the plan doesn't allow comes before the room for it.
+const IN_FIXED_AND_FULL: [Exchange; 4] = [
+    (UPDATE, OTHER_PLAN, UNPROCESSABLE, NO_PLAN_CHANGE),
+    (UPDATE, ONE, UNPROCESSABLE, FULL),
+    (BIND_C, BINDING, BAD, NOT_BINDABLE),
+    (BIND_C, OTHER_PLAN, BAD, MISMATCH),
+];
+
+#[test]
+fn a_plan_that_stays_and_is_full(rt: HostRuntime) -> Result<(), Fail> {
+    let settings = settings_with(
+        rt.alloc(),
+        "\"1.2.0\"}}]}]},",
+        "\"1.2.0\"},\"plan_updateable\":false,\"bindable\":false}]}]},\"orders_per_instance\":1,",
+    )?;
+    in_phases(rt.alloc(), &settings, &[(&MADE, &IN_FIXED_AND_FULL, &[])])
 }
 
 /// Where contexts may be updated.
-const IN_OPEN_TO_CONTEXTS: [Exchange; 5] = [
+const IN_OPEN_TO_CONTEXTS: [Exchange; 4] = [
     (MAKE, OTHER_CONTEXT, OK, "{}"),
-    (UPDATE, CONTEXT, ACCEPTED, UPDATE_2),
     (UPDATE_NOW, CONTEXT, UNPROCESSABLE, ASYNC_REQUIRED),
     (UPDATE_NOW, NO_CONTEXT, OK, "{}"),
     (UPDATE_NOW, NOTHING, OK, "{}"),
+];
+
+const UPDATED_CONTEXTS: [Change; 2] = [
+    (
+        UPDATE,
+        CONTEXT,
+        ACCEPTED,
+        UPDATE_2,
+        r#"update-2 in progress svc p-async o s {} 1.2.0 {"n":1} - - {}"#,
+    ),
+    (
+        UPDATE,
+        ONE_WITH_CONTEXT,
+        ACCEPTED,
+        UPDATE_2,
+        r#"update-2 in progress svc p-async o s {"n":1} 1.2.0 {"n":1} - - {}"#,
+    ),
 ];
 
 /// The update that runs has the context that stands.
@@ -201,6 +334,11 @@ const IN_OPEN_AND_UPDATING: [Exchange; 3] = [
     (UPDATE, ONE_WITH_CONTEXT, UNPROCESSABLE, BUSY),
     (UPDATE, CONTEXT, UNPROCESSABLE, BUSY),
     (UPDATE, ONE, ACCEPTED, UPDATE_2),
+];
+
+const OPEN_TO_CONTEXTS: [Phase; 2] = [
+    (&MADE, &IN_OPEN_TO_CONTEXTS, &UPDATED_CONTEXTS),
+    (&UPDATING, &IN_OPEN_AND_UPDATING, &[]),
 ];
 
 /// Another service of the catalog that allows it doesn't count.
@@ -223,16 +361,58 @@ fn with_another_open(alloc: Global) -> Result<Settings, Fail> {
 
 #[test]
 fn contexts_of_a_service(rt: HostRuntime) -> Result<(), Fail> {
-    let alloc = rt.alloc();
     let settings = settings_with(
-        alloc,
+        rt.alloc(),
         "\"bindable\":true,",
         "\"bindable\":true,\"allow_context_updates\":true,",
     )?;
-    in_phase(alloc, &settings, &MADE, &IN_OPEN_TO_CONTEXTS)?;
-    in_phase(alloc, &settings, &UPDATING, &IN_OPEN_AND_UPDATING)?;
-    let settings = with_another_open(alloc)?;
-    in_phase(alloc, &settings, &UPDATING, &IN_CLOSED_AND_UPDATING)
+    in_phases(rt.alloc(), &settings, &OPEN_TO_CONTEXTS)
+}
+
+#[test]
+fn contexts_of_another_service(rt: HostRuntime) -> Result<(), Fail> {
+    let settings = with_another_open(rt.alloc())?;
+    in_phases(
+        rt.alloc(),
+        &settings,
+        &[(&UPDATING, &IN_CLOSED_AND_UPDATING, &[])],
+    )
+}
+
+/// Objects with the same members in another order, and with spaces.
+const UPDATE_TO_BOTH: &str =
+    r#"{"service_id":"svc","context":{"d":4, "c":3},"parameters":{"b":2, "a":1}}"#;
+
+const UPDATE_TO_BOTH_AGAIN: &str =
+    r#"{"service_id":"svc","context":{"c":3,"d":4},"parameters":{"a":1,"b":2}}"#;
+
+const BINDING_TO_BOTH: &str =
+    r#"{"service_id":"svc","plan_id":"p-async","bind_resource":{"d":4, "c":3},"parameters":{"b":2, "a":1}}"#;
+
+const BINDING_TO_BOTH_AGAIN: &str =
+    r#"{"service_id":"svc","plan_id":"p-async","bind_resource":{"c":3,"d":4},"parameters":{"a":1,"b":2}}"#;
+
+/// Objects are compared as values, also of an update and of a binding.
+const COMPARED: [Exchange; 9] = [
+    (MAKE, LARGE, ACCEPTED, CREATE_1),
+    (END_1, SUCCEEDED, OK, "{}"),
+    (UPDATE, UPDATE_TO_BOTH, ACCEPTED, UPDATE_2),
+    (UPDATE, UPDATE_TO_BOTH_AGAIN, ACCEPTED, UPDATE_2),
+    (END_2, SUCCEEDED, OK, "{}"),
+    (UPDATE_NOW, UPDATE_TO_BOTH_AGAIN, OK, "{}"),
+    (BIND_C, BINDING_TO_BOTH, ACCEPTED, BIND_3),
+    (BIND_C, BINDING_TO_BOTH_AGAIN, ACCEPTED, BIND_3),
+    (UPDATE_NOW, UPDATE_TO_BOTH, OK, "{}"),
+];
+
+#[test]
+fn objects_are_compared_as_values(rt: HostRuntime) -> Result<(), Fail> {
+    let settings = settings_with(
+        rt.alloc(),
+        "\"bindable\":true,",
+        "\"bindable\":true,\"allow_context_updates\":true,",
+    )?;
+    goes_over(rt.alloc(), &settings, &COMPARED)
 }
 
 const IN_UNBINDABLE: [Exchange; 4] = [
@@ -249,55 +429,90 @@ fn a_plan_without_bindings(rt: HostRuntime) -> Result<(), Fail> {
         "\"id\":\"p-async\",",
         "\"id\":\"p-async\",\"bindable\":false,",
     )?;
-    in_phase(rt.alloc(), &settings, &MADE, &IN_UNBINDABLE)
+    in_phases(rt.alloc(), &settings, &[(&MADE, &IN_UNBINDABLE, &[])])
 }
 
 /// An instance whose plan does at once what is asked of it.
 const MADE_AT_ONCE: [Exchange; 1] = [(MAKE, SMALL, CREATED, "{}")];
 
-const IN_MADE_AT_ONCE: [Exchange; 8] = [
+const IN_MADE_AT_ONCE: [Exchange; 4] = [
     (MAKE_NOW, SMALL, OK, "{}"),
-    (UPDATE_NOW, ONE, OK, "{}"),
-    (UPDATE_NOW, BINDING, OK, "{}"),
-    (REMOVE_NOW, "", OK, "{}"),
-    (
-        BIND_C_NOW,
-        OTHER_PLAN,
-        CREATED,
-        r#"{"credentials":{"uri":"mem:1"}}"#,
-    ),
     (BIND_C_NOW, BINDING, BAD, MISMATCH),
     (ASK, "", OK, SUCCEEDED),
     (END_1, SUCCEEDED, OK, "{}"),
 ];
 
-const BOUND_AT_ONCE: [Exchange; 2] = [
-    (MAKE, SMALL, CREATED, "{}"),
+const DONE_AT_ONCE: [Change; 4] = [
     (
-        BIND_C,
+        UPDATE_NOW,
+        ONE,
+        OK,
+        "{}",
+        r#"update-2 succeeded svc p-sync o s {"n":1} - {} - - {}"#,
+    ),
+    (
+        UPDATE_NOW,
+        BINDING,
+        OK,
+        "{}",
+        "update-2 succeeded svc p-async o s {} 1.2.0 {} - - {}",
+    ),
+    (
+        REMOVE_NOW,
+        "",
+        OK,
+        "{}",
+        "delete-2 succeeded svc p-sync o s {} - {} - - {}",
+    ),
+    (
+        BIND_C_NOW,
         OTHER_PLAN,
         CREATED,
-        r#"{"credentials":{"uri":"mem:1"}}"#,
+        MEMORY_1,
+        r#"bind-2 succeeded svc p-sync - {} {} - {} c - {"uri":"mem:1"}"#,
     ),
 ];
 
-const IN_BOUND_AT_ONCE: [Exchange; 4] = [
+const BOUND_AT_ONCE: [Exchange; 2] = [
+    (MAKE, SMALL, CREATED, "{}"),
+    (BIND_C, OTHER_PLAN, CREATED, MEMORY_1),
+];
+
+const IN_BOUND_AT_ONCE: [Exchange; 7] = [
     (
         FETCH_C,
         "",
         OK,
         r#"{"credentials":{"uri":"mem:1"},"parameters":{}}"#,
     ),
-    (UNBIND_C_NOW, "", OK, "{}"),
     (REMOVE_NOW, "", UNPROCESSABLE, BINDINGS_REMAIN),
     (ASK_C, "", OK, SUCCEEDED),
+    // It ended with the credentials of its plan, and not without any.
+    (END_2, SUCCEEDED, CONFLICT, "{}"),
+    (END_2, KEY, CONFLICT, "{}"),
+    (END_2, OF_THE_PLAN, OK, "{}"),
+    (END_2, FAILED, CONFLICT, "{}"),
+];
+
+const UNBOUND_AT_ONCE: [Change; 1] = [(
+    UNBIND_C_NOW,
+    "",
+    OK,
+    "{}",
+    "unbind-3 succeeded svc p-sync - {} {} - {} c - {}",
+)];
+
+const OF_THE_PLAN: &str = r#"{"state":"succeeded","credentials":{"uri":"mem:1"}}"#;
+
+const AT_ONCE: [Phase; 2] = [
+    (&MADE_AT_ONCE, &IN_MADE_AT_ONCE, &DONE_AT_ONCE),
+    (&BOUND_AT_ONCE, &IN_BOUND_AT_ONCE, &UNBOUND_AT_ONCE),
 ];
 
 #[test]
 fn at_once(rt: HostRuntime) -> Result<(), Fail> {
     let settings = built_in(rt.alloc())?;
-    in_phase(rt.alloc(), &settings, &MADE_AT_ONCE, &IN_MADE_AT_ONCE)?;
-    in_phase(rt.alloc(), &settings, &BOUND_AT_ONCE, &IN_BOUND_AT_ONCE)
+    in_phases(rt.alloc(), &settings, &AT_ONCE)
 }
 
 /// Only what is done to the instance itself takes its time.

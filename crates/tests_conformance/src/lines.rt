@@ -1,0 +1,62 @@
+//! What is stored, in lines: parts with spaces between them, and `-` for an empty one.
+
+use osb_orders::{Attributes, Order};
+use osb_records::{Records, memory};
+use sqlite::MemStore;
+use std::alloc::{AllocError, Global};
+use std::test::Fail;
+
+/// Appends a part, and a space before it where it isn't the first. Where memory is refused nothing is
+/// left, so that the test fails.
+fn add(line: &mut String, part: &str) {
+    let part = if part.is_empty() { "-" } else { part };
+    let spaced = line.is_empty() || line.push(' ').is_ok();
+    if !spaced || line.push_str(part).is_err() {
+        line.clear();
+    }
+}
+
+/// Appends service, plan, organization and space (of a binding its app and its resource), parameters,
+/// maintenance version and context.
+fn add_attributes(line: &mut String, attributes: &Attributes) {
+    add(line, attributes.service.as_str());
+    add(line, attributes.plan.as_str());
+    add(line, attributes.place.as_str());
+    add(line, attributes.spot.as_str());
+    add(line, attributes.parameters.as_str());
+    add(line, attributes.maintenance.as_str());
+    add(line, attributes.context.as_str());
+}
+
+/// An order: its name, its state, its attributes, its binding, and the description and the credentials
+/// that it ended with.
+pub(crate) fn order_line(alloc: Global, order: &Order) -> Result<String, AllocError> {
+    let mut line = format!(in alloc; "{}-{}", order.kind.as_str(), order.number)?;
+    add(&mut line, order.outcome.state.as_str());
+    add_attributes(&mut line, &order.attributes);
+    add(&mut line, order.binding.as_str());
+    add(&mut line, order.outcome.description.as_str());
+    add(&mut line, order.outcome.credentials.as_str());
+    Ok(line)
+}
+
+/// Lines of orders, a line break before each.
+fn lines_of(alloc: Global, orders: &[Order]) -> Result<String, AllocError> {
+    let mut lines = String::new(alloc);
+    for order in orders {
+        let line = order_line(alloc, order)?;
+        lines.push('\n')?;
+        lines.push_str(line.as_str())?;
+    }
+    Ok(lines)
+}
+
+/// The life of an instance, a line break before each of its orders.
+pub(crate) fn life_lines(
+    alloc: Global,
+    records: &mut Records<MemStore>,
+    instance: &str,
+) -> Result<String, Fail> {
+    let life = memory::life(records, alloc, instance)?;
+    Ok(lines_of(alloc, life.as_slice())?)
+}
