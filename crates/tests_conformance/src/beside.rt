@@ -1,21 +1,17 @@
 //! The records beside the plain lives: after each request of a conversation both give one view for
-//! its ask, and have one life.
+//! its ask, and have one life. `standing` looks at it after each request of each conversation.
 
-use crate::rows::{again, bindings, contexts, instances};
 use crate::standing::standing_by;
 use osb_asks::{Ask, AskFault, read_ask};
 use osb_catalog::Settings;
 use osb_frames::{Limits, Step as Front, next};
 use osb_machine::{Step, decide};
 use osb_orders::{Change, PlainLives, View};
-use osb_records::{Records, memory, open_memory};
+use osb_records::{Records, memory};
 use sqlite::MemStore;
 use std::alloc::{AllocError, Global};
 use std::test::Fail;
-use tests_support::catalogs::built_in;
-use tests_support::conversations::ASYNC_BINDING;
 use tests_support::exchange::{Exchange, request};
-use tests_support::serving::after;
 
 /// A view as text.
 fn told(alloc: Global, view: &View) -> Result<String, Fail> {
@@ -158,66 +154,4 @@ pub(crate) fn stay_beside_once(
     };
     drop(found);
     told
-}
-
-/// Fails where records and plain lives part in a conversation over these settings.
-fn stay_beside_over(
-    alloc: Global,
-    settings: &Settings,
-    exchanges: &[Exchange],
-) -> Result<(), Fail> {
-    let mut records = open_memory(alloc)?;
-    let mut plain = PlainLives::new(alloc);
-    for exchange in exchanges {
-        records = after(alloc, settings, records, *exchange)?;
-        let _ = stay_beside_once(alloc, settings, &mut records, &mut plain, *exchange)?;
-    }
-    Ok(())
-}
-
-/// The same over the built-in settings.
-fn stay_beside(alloc: Global, exchanges: &[Exchange]) -> Result<(), Fail> {
-    let settings = built_in(alloc)?;
-    stay_beside_over(alloc, &settings, exchanges)
-}
-
-#[test]
-fn views_of_instances(rt: HostRuntime) -> Result<(), Fail> {
-    let alloc = rt.alloc();
-    stay_beside(alloc, &instances::PARAMETERS_DIFFER)?;
-    stay_beside(alloc, &instances::ASYNC_ASKED)?;
-    stay_beside(alloc, &instances::POLL_AND_REPORT)?;
-    stay_beside(alloc, &instances::FAILED_CREATE)?;
-    stay_beside(alloc, &instances::UPDATE_FAILED)?;
-    stay_beside(alloc, &instances::MAINTENANCE_CONFLICT)?;
-    stay_beside(alloc, &instances::VERSION_OF_ITS_PLAN)?;
-    stay_beside(alloc, &instances::PLAN_CHANGED)?;
-    stay_beside(alloc, &instances::UPDATED_TWICE)?;
-    stay_beside(alloc, &instances::MADE_AGAIN)?;
-    stay_beside(alloc, &instances::FAILED_DELETION)?;
-    stay_beside(alloc, &again::SENT_AGAIN)?;
-    stay_beside(alloc, &instances::APART)
-}
-
-#[test]
-fn views_of_bindings(rt: HostRuntime) -> Result<(), Fail> {
-    let alloc = rt.alloc();
-    stay_beside(alloc, &ASYNC_BINDING)?;
-    stay_beside(alloc, &bindings::FAILED_BINDING)?;
-    stay_beside(alloc, &bindings::SYNC_BINDING)?;
-    stay_beside(alloc, &bindings::TWO_BINDINGS)?;
-    stay_beside(alloc, &bindings::BOUND_AGAIN)?;
-    stay_beside(alloc, &bindings::PLAN_CHANGED_UNDER_IT)
-}
-
-#[test]
-fn views_of_contexts(rt: HostRuntime) -> Result<(), Fail> {
-    let alloc = rt.alloc();
-    stay_beside(alloc, &contexts::KEPT)?;
-    stay_beside(alloc, &contexts::NOT_ALLOWED)?;
-    stay_beside(alloc, &contexts::OF_BINDINGS)?;
-    stay_beside(alloc, &contexts::AT_ONCE)?;
-    let settings = contexts::with_updates(alloc)?;
-    stay_beside_over(alloc, &settings, &contexts::UPDATED)?;
-    stay_beside_over(alloc, &settings, &contexts::EMPTIED)
 }

@@ -1,6 +1,6 @@
 //! What is stored, in lines: parts with spaces between them, and `-` for an empty one.
 
-use osb_orders::{Attributes, Order};
+use osb_orders::{Attributes, BindingNow, Order, Standing};
 use osb_records::{Records, memory};
 use sqlite::MemStore;
 use std::alloc::{AllocError, Global};
@@ -37,6 +37,21 @@ pub(crate) fn order_line(alloc: Global, order: &Order) -> Result<String, AllocEr
     add(&mut line, order.binding.as_str());
     add(&mut line, order.outcome.description.as_str());
     add(&mut line, order.outcome.credentials.as_str());
+    Ok(line)
+}
+
+/// An instance: its phase and its attributes.
+pub(crate) fn instance_line(alloc: Global, instance: &Standing) -> Result<String, AllocError> {
+    let mut line = format!(in alloc; "{:?}", instance.phase)?;
+    add_attributes(&mut line, &instance.attributes);
+    Ok(line)
+}
+
+/// A binding: its phase, its attributes and its credentials.
+pub(crate) fn binding_line(alloc: Global, binding: &BindingNow) -> Result<String, AllocError> {
+    let mut line = format!(in alloc; "{:?}", binding.phase)?;
+    add_attributes(&mut line, &binding.attributes);
+    add(&mut line, binding.credentials.as_str());
     Ok(line)
 }
 

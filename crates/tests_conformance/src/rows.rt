@@ -8,7 +8,7 @@ pub(crate) mod instances;
 mod listing;
 mod login;
 mod plans;
-mod requests;
+pub(crate) mod requests;
 mod settings;
 mod streams;
 mod versions;

@@ -1,5 +1,7 @@
 //! Conversations about a binding.
 
+use osb_catalog::Settings;
+use std::alloc::Global;
 use std::test::Fail;
 use tests_support::asks::*;
 use tests_support::catalogs::settings_with;
@@ -211,17 +213,22 @@ fn plan_changed_under_a_binding(rt: HostRuntime) -> Result<(), Fail> {
     goes(rt.alloc(), &PLAN_CHANGED_UNDER_IT)
 }
 
-const UNBINDABLE: [Exchange; 2] = [
+pub(crate) const UNBINDABLE: [Exchange; 2] = [
     (PUT, SYNC, CREATED, "{}"),
     (BIND, TO_SYNC, BAD, NOT_BINDABLE),
 ];
 
-#[test]
-fn a_plan_that_is_not_bindable(rt: HostRuntime) -> Result<(), Fail> {
-    let settings = settings_with(
-        rt.alloc(),
+/// The built-in settings with a plan that can't be bound.
+pub(crate) fn without_bindings(alloc: Global) -> Result<Settings, Fail> {
+    settings_with(
+        alloc,
         "\"id\":\"p-sync\",",
         "\"id\":\"p-sync\",\"bindable\":false,",
-    )?;
+    )
+}
+
+#[test]
+fn a_plan_that_is_not_bindable(rt: HostRuntime) -> Result<(), Fail> {
+    let settings = without_bindings(rt.alloc())?;
     goes_over(rt.alloc(), &settings, &UNBINDABLE)
 }

@@ -218,7 +218,7 @@ const EMPTY: &str =
     r#"{"service_id":"svc","plan_id":"p-async","organization_guid":"o","space_guid":"s","context":{ }}"#;
 
 /// An empty context isn't shown, and any other is shown as its compact text.
-const SHOWN: [Exchange; 4] = [
+pub(crate) const SHOWN: [Exchange; 4] = [
     (
         "PUT /v2/service_instances/j?accepts_incomplete=true",
         EMPTY,
@@ -262,7 +262,7 @@ pub(crate) const AT_ONCE: [Exchange; 4] = [
 ];
 
 /// So does an update that is done at once, where the service allows it.
-const UPDATED_AT_ONCE: [Exchange; 5] = [
+pub(crate) const UPDATED_AT_ONCE: [Exchange; 5] = [
     (PUT, SYNC_WITH_X, CREATED, "{}"),
     (PATCH, TO_Y, OK, "{}"),
     (PATCH, TO_ASYNC, OK, "{}"),

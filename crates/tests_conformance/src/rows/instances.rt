@@ -1,5 +1,7 @@
 //! Conversations about an instance.
 
+use osb_catalog::Settings;
+use std::alloc::Global;
 use std::test::Fail;
 use tests_support::asks::*;
 use tests_support::catalogs::settings_with;
@@ -21,7 +23,10 @@ const KNOWN_WITH_PARAMETERS: Exchange = (
     "{}",
 );
 
-const PARAMETERS_CANONICAL: [Exchange; 2] = [CREATED_WITH_PARAMETERS, KNOWN_WITH_PARAMETERS];
+pub(crate) const PARAMETERS_CANONICAL: [Exchange; 2] = [
+    CREATED_WITH_PARAMETERS,
+    KNOWN_WITH_PARAMETERS,
+];
 
 #[test]
 fn parameters_canonical(rt: HostRuntime) -> Result<(), Fail> {
@@ -123,7 +128,7 @@ pub(crate) const UPDATE: Exchange = (PATCH_LATER, UPDATE_TO_1, ACCEPTED, UPDATE_
 
 const OTHER_UPDATE: Exchange = (PATCH_LATER, UPDATE_TO_2, UNPROCESSABLE, BUSY);
 
-const UPDATE_RUNNING: [Exchange; 7] = [
+pub(crate) const UPDATE_RUNNING: [Exchange; 7] = [
     CREATION,
     CREATION_ENDS,
     UPDATE,
@@ -328,7 +333,7 @@ fn made_again(rt: HostRuntime) -> Result<(), Fail> {
     goes(rt.alloc(), &MADE_AGAIN)
 }
 
-const DESCRIBED: [Exchange; 3] = [
+pub(crate) const DESCRIBED: [Exchange; 3] = [
     (PUT_LATER, ASYNC, ACCEPTED, CREATE_1),
     (
         REPORT_1,
@@ -349,20 +354,21 @@ fn a_description_is_quoted(rt: HostRuntime) -> Result<(), Fail> {
     goes(rt.alloc(), &DESCRIBED)
 }
 
-const ORDER_LIMIT: [Exchange; 4] = [
+pub(crate) const ORDER_LIMIT: [Exchange; 4] = [
     (PUT, SYNC, CREATED, "{}"),
     (PATCH, UPDATE_TO_1, UNPROCESSABLE, FULL),
     (PUT, SYNC, OK, "{}"),
     (DELETE, "", UNPROCESSABLE, FULL),
 ];
 
+/// The built-in settings with one order for an instance.
+pub(crate) fn with_one_order(alloc: Global) -> Result<Settings, Fail> {
+    settings_with(alloc, "\"modes\":", "\"orders_per_instance\":1,\"modes\":")
+}
+
 #[test]
 fn order_limit(rt: HostRuntime) -> Result<(), Fail> {
-    let settings = settings_with(
-        rt.alloc(),
-        "\"modes\":",
-        "\"orders_per_instance\":1,\"modes\":",
-    )?;
+    let settings = with_one_order(rt.alloc())?;
     goes_over(rt.alloc(), &settings, &ORDER_LIMIT)
 }
 
@@ -386,7 +392,7 @@ fn failed_deletion(rt: HostRuntime) -> Result<(), Fail> {
     goes(rt.alloc(), &FAILED_DELETION)
 }
 
-const FIXED_PLAN: [Exchange; 4] = [
+pub(crate) const FIXED_PLAN: [Exchange; 4] = [
     (PUT, SYNC, CREATED, "{}"),
     (PATCH, TO_ASYNC, UNPROCESSABLE, NO_PLAN_CHANGE),
     (PATCH, TO_SYNC, OK, "{}"),
@@ -394,13 +400,18 @@ const FIXED_PLAN: [Exchange; 4] = [
     (REPORT_2, SUCCEEDED, NOT_FOUND, "{}"),
 ];
 
-#[test]
-fn a_plan_that_cannot_be_changed(rt: HostRuntime) -> Result<(), Fail> {
-    let settings = settings_with(
-        rt.alloc(),
+/// The built-in settings with a plan that an instance keeps.
+pub(crate) fn with_fixed_plan(alloc: Global) -> Result<Settings, Fail> {
+    settings_with(
+        alloc,
         "\"id\":\"p-sync\",",
         "\"id\":\"p-sync\",\"plan_updateable\":false,",
-    )?;
+    )
+}
+
+#[test]
+fn a_plan_that_cannot_be_changed(rt: HostRuntime) -> Result<(), Fail> {
+    let settings = with_fixed_plan(rt.alloc())?;
     goes_over(rt.alloc(), &settings, &FIXED_PLAN)
 }
 

@@ -7,7 +7,7 @@ use tests_support::exchange::{Exchange, last_reply, request};
 use tests_support::replies::*;
 use tests_support::serving::{answers, goes};
 
-const IDS: [Exchange; 9] = [
+pub(crate) const IDS: [Exchange; 9] = [
     ("PUT /v2/service_instances/a", SYNC, CREATED, "{}"),
     ("PUT /v2/service_instances/%61", SYNC, OK, "{}"),
     ("PUT /v2/service_instances/a%2Fb", SYNC, CREATED, "{}"),
@@ -42,39 +42,55 @@ fn the_longest_id(rt: HostRuntime) -> Result<(), Fail> {
     put_gives(alloc, path.as_str(), SYNC, BAD, BAD_ID)
 }
 
-/// A number among the parameters of a new instance, and the status and the body of the reply.
-const NUMBERS: [(&str, &str, &str); 6] = [
-    ("1.5", BAD, BAD_BODY),
-    ("-0", BAD, BAD_BODY),
-    ("18446744073709551615", CREATED, "{}"),
-    ("18446744073709551616", BAD, BAD_BODY),
-    ("-9223372036854775808", CREATED, "{}"),
-    ("-9223372036854775809", BAD, BAD_BODY),
+/// New instances with a number among their parameters, each on an empty database.
+pub(crate) const NUMBERS: [Exchange; 6] = [
+    (
+        "PUT /v2/service_instances/i",
+        r#"{"service_id":"svc","plan_id":"p-sync","organization_guid":"o","space_guid":"s","parameters":{"x":1.5}}"#,
+        BAD,
+        BAD_BODY,
+    ),
+    (
+        "PUT /v2/service_instances/i",
+        r#"{"service_id":"svc","plan_id":"p-sync","organization_guid":"o","space_guid":"s","parameters":{"x":-0}}"#,
+        BAD,
+        BAD_BODY,
+    ),
+    (
+        "PUT /v2/service_instances/i",
+        r#"{"service_id":"svc","plan_id":"p-sync","organization_guid":"o","space_guid":"s","parameters":{"x":18446744073709551615}}"#,
+        CREATED,
+        "{}",
+    ),
+    (
+        "PUT /v2/service_instances/i",
+        r#"{"service_id":"svc","plan_id":"p-sync","organization_guid":"o","space_guid":"s","parameters":{"x":18446744073709551616}}"#,
+        BAD,
+        BAD_BODY,
+    ),
+    (
+        "PUT /v2/service_instances/i",
+        r#"{"service_id":"svc","plan_id":"p-sync","organization_guid":"o","space_guid":"s","parameters":{"x":-9223372036854775808}}"#,
+        CREATED,
+        "{}",
+    ),
+    (
+        "PUT /v2/service_instances/i",
+        r#"{"service_id":"svc","plan_id":"p-sync","organization_guid":"o","space_guid":"s","parameters":{"x":-9223372036854775809}}"#,
+        BAD,
+        BAD_BODY,
+    ),
 ];
-
-/// Fails where a new instance with that number isn't answered so.
-fn number_gives(alloc: Global, number: &str, status: &str, reply: &str) -> Result<(), Fail> {
-    let body = format!(in alloc;
-        "{{\"service_id\":\"svc\",\"plan_id\":\"p-sync\",\"organization_guid\":\"o\",\"space_guid\":\"s\",\"parameters\":{{\"x\":{number}}}}}"
-    )?;
-    put_gives(
-        alloc,
-        "/v2/service_instances/i",
-        body.as_str(),
-        status,
-        reply,
-    )
-}
 
 #[test]
 fn numbers(rt: HostRuntime) -> Result<(), Fail> {
-    for (number, status, reply) in NUMBERS {
-        number_gives(rt.alloc(), number, status, reply)?;
+    for exchange in &NUMBERS {
+        goes(rt.alloc(), &[*exchange])?;
     }
     Ok(())
 }
 
-const NOT_OFFERED: [Exchange; 2] = [
+pub(crate) const NOT_OFFERED: [Exchange; 2] = [
     (
         "PUT /v2/service_instances/i",
         r#"{"service_id":"nope","plan_id":"p-sync","organization_guid":"o","space_guid":"s"}"#,
@@ -94,7 +110,7 @@ fn not_in_the_catalog(rt: HostRuntime) -> Result<(), Fail> {
     goes(rt.alloc(), &NOT_OFFERED)
 }
 
-const FAULTS: [Exchange; 13] = [
+pub(crate) const FAULTS: [Exchange; 13] = [
     ("GET /v1/catalog", "", NOT_FOUND, "{}"),
     ("GET /", "", NOT_FOUND, "{}"),
     ("GET *", "", NOT_FOUND, "{}"),
