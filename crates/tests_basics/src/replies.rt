@@ -300,19 +300,19 @@ fn errors_of_instances(rt: HostRuntime) {
     check_errors(&rt, &OF_INSTANCES);
 }
 
+const ASYNC_REQUIRED: &[u8] =
+    b"HTTP/1.1 422 Unprocessable Entity\r\nContent-Type: application/json\r\nContent-Length: 81\r\nX-Broker-API-Request-Identity: r1\r\nConnection: close\r\n\r\n{\"description\":\"The plan needs asynchronous operations.\",\"error\":\"AsyncRequired\"}";
+
 /// A writer that takes seven bytes at a time, and goes wrong at any of its writes.
 #[test]
 fn broken_writers(rt: HostRuntime) {
     let reply = FixedError::AsyncRequired.reply(Some(b"r1"), true);
-    let (_, whole) = write_on(rt.alloc(), &reply, usize::MAX, Wrong::Never, 0);
-    let text = whole.bytes.as_slice();
     for wrong in [Wrong::Fails, Wrong::TakesNothing] {
-        for bad in 1..text.len().div_ceil(7) + 1 {
+        for bad in 1..ASYNC_REQUIRED.len().div_ceil(7) + 1 {
             let (result, paper) = write_on(rt.alloc(), &reply, 7, wrong, bad);
             let written = (bad - 1).saturating_mul(7);
             assert_eq!(rt; result, Err(WriteFault { written }), "write {bad}");
-            assert_eq!(rt; paper.bytes.len(), written);
-            assert!(rt; text.starts_with(paper.bytes.as_slice()));
+            assert_eq!(rt; Some(paper.bytes.as_slice()), ASYNC_REQUIRED.get(..written));
             assert_eq!(rt; paper.writes, bad);
         }
     }

@@ -11,17 +11,19 @@ use tests_support::catalogs::built_in;
 use tests_support::serving::{joined, new_broker, output_of};
 use tests_support::whole::{CREATED_LAST, GET_CATALOG, KNOWN_LAST, NO_HEAD, PUT_I};
 
-/// Gives so many bytes at a time, and fails at one of its reads.
+/// Gives so many bytes at a time, fails from one of its reads on, and counts how often.
 #[derive(Drop)]
 struct Reader<'a> {
     bytes: &'a [u8],
     piece: usize,
     reads_before_failure: usize,
+    failures: u32,
 }
 
 impl<'a> Read for Reader<'a> {
     fn read(&mut self, buf: &mut [u8]) -> io::Result<usize> {
         if self.reads_before_failure == 0 {
+            self.failures = self.failures.saturating_add(1);
             return Err(io::Error::from(io::ErrorKind::ConnectionReset));
         }
         self.reads_before_failure -= 1;
@@ -32,25 +34,27 @@ impl<'a> Read for Reader<'a> {
     }
 }
 
-/// What a writer does with its last write.
+/// What a writer does from its last write on.
 #[derive(Clone, Copy, PartialEq, Eq)]
 enum Last {
     Fails,
     TakesNothing,
 }
 
-/// Takes a few bytes at a time, up to one of its writes.
+/// Takes a few bytes at a time, up to one of its writes, and counts how many come from that one on.
 #[derive(Drop)]
 struct Writer {
     taken: Vec<u8>,
     piece: usize,
     writes_before_last: usize,
     last: Last,
+    failures: u32,
 }
 
 impl Write for Writer {
     fn write(&mut self, bytes: &[u8]) -> io::Result<usize> {
         if self.writes_before_last == 0 {
+            self.failures = self.failures.saturating_add(1);
             return match self.last {
                 Last::Fails => Err(io::Error::from(io::ErrorKind::BrokenPipe)),
                 Last::TakesNothing => Ok(0),
@@ -78,18 +82,43 @@ const CREATED: &[u8] =
 const NOT_FOUND: &[u8] =
     b"HTTP/1.1 404 Not Found\r\nContent-Type: application/json\r\nContent-Length: 2\r\n\r\n{}";
 
-/// Reads from one and writes to the other: what is taken, and how the connection ends.
+/// What a connection leaves: what is taken, how it ends, and how many reads and writes failed.
+struct Served {
+    taken: Vec<u8>,
+    end: Result<(), ServeFault>,
+    failures: (u32, u32),
+}
+
+/// Reads from one and writes to the other.
 fn serves(
     broker: &mut Broker<'_, MemStore>,
     buffer: &mut Buffer,
     reader: Reader<'_>,
     writer: Writer,
-) -> (Vec<u8>, Result<(), ServeFault>) {
+) -> Served {
     let mut source = Counted::new(reader);
     let mut sink = Counted::new(writer);
-    let result = broker.serve(buffer, &mut source, &mut sink);
-    let Writer { taken, .. } = sink.into_inner();
-    (taken, result)
+    let end = broker.serve(buffer, &mut source, &mut sink);
+    let reader = source.into_inner();
+    let Writer {
+        taken,
+        failures,
+        ..
+    } = sink.into_inner();
+    Served {
+        taken,
+        end,
+        failures: (reader.failures, failures),
+    }
+}
+
+/// How many reads and writes fail on a connection that ends so: none is tried again.
+fn failures_of(end: Result<(), ServeFault>) -> (u32, u32) {
+    match end {
+        Ok(()) => (0, 0),
+        Err(ServeFault::Read) => (1, 0),
+        Err(ServeFault::Write) => (0, 1),
+    }
 }
 
 /// Whether the connection ends so, and this text is what was written.
@@ -97,13 +126,17 @@ fn ends(
     alloc: Global,
     broker: &mut Broker<'_, MemStore>,
     ends: (Reader<'_>, Writer),
-    end: Result<(), ServeFault>,
+    expected: Result<(), ServeFault>,
     text: &[u8],
 ) -> Result<bool, Fail> {
     let mut buffer = Buffer::new(alloc, &Limits::STANDARD)?;
     let (reader, writer) = ends;
-    let (taken, result) = serves(broker, &mut buffer, reader, writer);
-    Ok(result == end && taken.as_slice() == text)
+    let Served {
+        taken,
+        end,
+        failures,
+    } = serves(broker, &mut buffer, reader, writer);
+    Ok(end == expected && taken.as_slice() == text && failures == failures_of(expected))
 }
 
 /// Whether an instance that is put again was there.
@@ -119,6 +152,7 @@ fn willing(alloc: Global) -> Writer {
         piece: usize::MAX,
         writes_before_last: usize::MAX,
         last: Last::Fails,
+        failures: 0,
     }
 }
 
@@ -158,6 +192,7 @@ fn answers_before_a_failure(
         bytes,
         piece: 1,
         reads_before_failure: bytes.len(),
+        failures: 0,
     };
     ends(alloc, &mut broker, (reader, willing(alloc)), Ok(()), text)
 }
@@ -193,6 +228,7 @@ fn leaves_whole_replies(
         bytes,
         piece: PIECE,
         reads_before_failure: reads,
+        failures: 0,
     };
     let first_is_whole = reads.saturating_mul(PIECE) >= PUT_I.len();
     let text = if first_is_whole {
@@ -238,6 +274,7 @@ fn leaves_a_prefix(
         bytes,
         piece: 100,
         reads_before_failure: usize::MAX,
+        failures: 0,
     };
     let fault = Err(ServeFault::Write);
     let is_cut = ends(alloc, &mut broker, (reader, writer), fault, text)?;
@@ -253,6 +290,7 @@ fn is_cut(alloc: Global, settings: &Settings, writes: usize, last: Last) -> Resu
         piece: PIECE,
         writes_before_last: writes,
         last,
+        failures: 0,
     };
     match text.as_slice().get(..writes.saturating_mul(PIECE)) {
         Some(prefix) => leaves_a_prefix(alloc, settings, bytes.as_slice(), writer, prefix),
@@ -292,6 +330,7 @@ fn goes_out_in_one_write(alloc: Global, settings: &Settings) -> Result<bool, Fai
         bytes: GET_CATALOG,
         piece: usize::MAX,
         reads_before_failure: usize::MAX,
+        failures: 0,
     };
     let writer = Writer {
         writes_before_last: 1,
@@ -319,10 +358,16 @@ fn output_within(
         bytes,
         piece: usize::MAX,
         reads_before_failure: usize::MAX,
+        failures: 0,
     };
-    match serves(broker, &mut buffer, reader, willing(alloc)) {
-        (taken, Ok(())) => Ok(taken),
-        _ => Err("a fault")?,
+    let Served {
+        taken,
+        end,
+        failures: _,
+    } = serves(broker, &mut buffer, reader, willing(alloc));
+    match end {
+        Ok(()) => Ok(taken),
+        Err(_) => Err("a fault")?,
     }
 }
 

@@ -1,6 +1,6 @@
 //! What the tables hold: the rows after a conversation, and what no row may be.
 
-use sqlite::{Connection, Error, MemStore, Row};
+use sqlite::{Connection, Constraint, Error, ErrorCode, MemStore, Row};
 use std::alloc::Global;
 use std::test::Fail;
 use tests_support::asks::{ASYNC, CREATE_1, SUCCEEDED, TO_ASYNC, UPDATE_TO_1};
@@ -259,13 +259,18 @@ fn has_rows(alloc: Global, conn: &mut Connection<MemStore>, table: &Table) -> Re
     Ok(())
 }
 
+/// Fails where a query of the tables has other rows.
+fn has_all_rows(alloc: Global, conn: &mut Connection<MemStore>) -> Result<(), Fail> {
+    for table in &TABLES {
+        has_rows(alloc, conn, table)?;
+    }
+    Ok(())
+}
+
 #[test]
 fn each_phase(rt: HostRuntime) -> Result<(), Fail> {
     let mut conn = database(rt.alloc())?;
-    for table in &TABLES {
-        has_rows(rt.alloc(), &mut conn, table)?;
-    }
-    Ok(())
+    has_all_rows(rt.alloc(), &mut conn)
 }
 
 const COLUMNS: [(&str, &str); 36] = [
@@ -307,26 +312,45 @@ const COLUMNS: [(&str, &str); 36] = [
     ("contexts", "context"),
 ];
 
-/// Statements that break a key or put a text where a number belongs.
-const REFUSED: [&str; 11] = [
-    "INSERT INTO orders SELECT * FROM orders WHERE instance_id = 'a'",
-    "INSERT INTO instances SELECT * FROM instances WHERE instance_id = 'a'",
-    "INSERT INTO bindings SELECT * FROM bindings WHERE binding_id = 'v'",
-    "INSERT INTO contexts SELECT * FROM contexts WHERE instance_id = 'a'",
-    "UPDATE format SET version = 'x'",
-    "UPDATE orders SET seq = 'x'",
-    "UPDATE orders SET kind = 'x'",
-    "UPDATE orders SET state = 'x'",
-    "UPDATE instances SET phase = 'x'",
-    "UPDATE bindings SET phase = 'x'",
-    "UPDATE contexts SET seq = 'x'",
+/// Statements that break a key or put a text where a number belongs, and what refuses them.
+const REFUSED: [(&str, Constraint); 11] = [
+    (
+        "INSERT INTO orders SELECT * FROM orders WHERE instance_id = 'a'",
+        Constraint::Unique,
+    ),
+    (
+        "INSERT INTO instances SELECT * FROM instances WHERE instance_id = 'a'",
+        Constraint::Unique,
+    ),
+    (
+        "INSERT INTO bindings SELECT * FROM bindings WHERE binding_id = 'v'",
+        Constraint::Unique,
+    ),
+    (
+        "INSERT INTO contexts SELECT * FROM contexts WHERE instance_id = 'a'",
+        Constraint::Unique,
+    ),
+    ("UPDATE format SET version = 'x'", Constraint::Datatype),
+    ("UPDATE orders SET seq = 'x'", Constraint::Datatype),
+    ("UPDATE orders SET kind = 'x'", Constraint::Datatype),
+    ("UPDATE orders SET state = 'x'", Constraint::Datatype),
+    ("UPDATE instances SET phase = 'x'", Constraint::Datatype),
+    ("UPDATE bindings SET phase = 'x'", Constraint::Datatype),
+    ("UPDATE contexts SET seq = 'x'", Constraint::Datatype),
 ];
 
-/// Fails where a statement is carried out.
-fn is_refused(conn: &mut Connection<MemStore>, statement: &str) -> Result<(), Fail> {
+/// Fails where a statement is carried out, or refused for another reason.
+fn is_refused(
+    conn: &mut Connection<MemStore>,
+    statement: &str,
+    broken: Constraint,
+) -> Result<(), Fail> {
     match conn.execute(statement, &[]) {
+        Err(error) if error == Error::SqliteFailure(ErrorCode::ConstraintViolation(broken)) => {
+            Ok(())
+        }
         Ok(_) => Err("a row that no table may have")?,
-        Err(_) => Ok(()),
+        Err(_) => Err("refused for another reason")?,
     }
 }
 
@@ -334,15 +358,15 @@ fn is_refused(conn: &mut Connection<MemStore>, statement: &str) -> Result<(), Fa
 fn refuses_nulls(alloc: Global, conn: &mut Connection<MemStore>) -> Result<(), Fail> {
     for (table, column) in COLUMNS {
         let statement = format!(in alloc; "UPDATE {table} SET {column} = NULL")?;
-        is_refused(conn, statement.as_str())?;
+        is_refused(conn, statement.as_str(), Constraint::NotNull)?;
     }
     Ok(())
 }
 
 /// Fails where one of the statements is carried out.
 fn refuses_each(conn: &mut Connection<MemStore>) -> Result<(), Fail> {
-    for statement in REFUSED {
-        is_refused(conn, statement)?;
+    for (statement, broken) in REFUSED {
+        is_refused(conn, statement, broken)?;
     }
     Ok(())
 }
@@ -351,7 +375,7 @@ fn refuses_each(conn: &mut Connection<MemStore>) -> Result<(), Fail> {
 fn keeps_to_its_rows(alloc: Global, conn: &mut Connection<MemStore>) -> Result<(), Fail> {
     refuses_nulls(alloc, conn)?;
     refuses_each(conn)?;
-    has_rows(alloc, conn, &TABLES[1])
+    has_all_rows(alloc, conn)
 }
 
 #[test]

@@ -68,10 +68,24 @@ fn lists(alloc: Global, output: &[u8], first: u32, end: u32) -> Result<bool, Fai
     Ok(output == listing(alloc, first, end)?.as_slice())
 }
 
-fn end_in_listings(alloc: Global, outputs: &[Vec<u8>]) -> Result<bool, Fail> {
+/// Whether each of them says that its instance is being created.
+fn are_accepted(alloc: Global, outputs: &[Vec<u8>]) -> Result<bool, Fail> {
+    let accepted = last_reply(alloc, ACCEPTED, CREATE_1)?;
+    for output in outputs {
+        if output.as_slice() != accepted.as_slice() {
+            return Ok(false);
+        }
+    }
+    Ok(outputs.len() == 101)
+}
+
+/// Whether the instances are created, and listed in two parts.
+fn are_created_and_listed(alloc: Global, outputs: &[Vec<u8>]) -> Result<bool, Fail> {
     match outputs {
-        [.., first, second] => Ok(
-            lists(alloc, first.as_slice(), 0, 100)? && lists(alloc, second.as_slice(), 100, 101)?,
+        [creations @ .., first, second] => Ok(
+            are_accepted(alloc, creations)?
+                && lists(alloc, first.as_slice(), 0, 100)?
+                && lists(alloc, second.as_slice(), 100, 101)?,
         ),
         _ => Ok(false),
     }
@@ -80,7 +94,7 @@ fn end_in_listings(alloc: Global, outputs: &[Vec<u8>]) -> Result<bool, Fail> {
 #[test]
 fn a_hundred_orders_and_one(rt: HostRuntime) -> Result<(), Fail> {
     let outputs = outputs(rt.alloc())?;
-    assert!(rt; end_in_listings(rt.alloc(), outputs.as_slice())?);
+    assert!(rt; are_created_and_listed(rt.alloc(), outputs.as_slice())?);
     Ok(())
 }
 

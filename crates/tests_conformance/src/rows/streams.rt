@@ -14,15 +14,17 @@ use std::test::Fail;
 use tests_support::catalogs::built_in;
 use tests_support::serving::{joined, new_broker};
 
-/// Gives its bytes one by one, and then fails.
+/// Gives its bytes one by one, and then fails, and counts how often.
 #[derive(Drop)]
 struct Failing<'a> {
     bytes: &'a [u8],
+    failures: u32,
 }
 
 impl<'a> Read for Failing<'a> {
     fn read(&mut self, buf: &mut [u8]) -> io::Result<usize> {
         if self.bytes.is_empty() {
+            self.failures = self.failures.saturating_add(1);
             return Err(io::Error::from(io::ErrorKind::ConnectionReset));
         }
         let n = buf.len().min(1);
@@ -32,16 +34,18 @@ impl<'a> Read for Failing<'a> {
     }
 }
 
-/// Takes so many bytes, and then fails.
+/// Takes so many bytes, and then fails, and counts how often.
 #[derive(Drop)]
 struct Short {
     taken: Vec<u8>,
     room: usize,
+    failures: u32,
 }
 
 impl Write for Short {
     fn write(&mut self, bytes: &[u8]) -> io::Result<usize> {
         if self.room == 0 {
+            self.failures = self.failures.saturating_add(1);
             return Err(io::Error::from(io::ErrorKind::BrokenPipe));
         }
         let n = bytes.len().min(self.room);
@@ -72,6 +76,15 @@ fn orders_of(alloc: Global, broker: Broker<'_, MemStore>) -> Result<usize, Fail>
     Ok(life.len())
 }
 
+/// How many reads and writes fail on a connection that ends so: none is tried again.
+fn failures_of(end: Result<(), ServeFault>) -> (u32, u32) {
+    match end {
+        Ok(()) => (0, 0),
+        Err(ServeFault::Read) => (1, 0),
+        Err(ServeFault::Write) => (0, 1),
+    }
+}
+
 /// Whether a connection of these bytes, whose writer takes so many, ends so.
 fn ends(
     alloc: Global,
@@ -81,11 +94,20 @@ fn ends(
     left: &Left,
 ) -> Result<bool, Fail> {
     let mut buffer = Buffer::new(alloc, &Limits::STANDARD)?;
-    let mut source = Counted::new(Failing { bytes });
-    let taken = Vec::new(alloc);
-    let mut sink = Counted::new(Short { taken, room });
+    let mut source = Counted::new(Failing { bytes, failures: 0 });
+    let mut sink = Counted::new(Short {
+        taken: Vec::new(alloc),
+        room,
+        failures: 0,
+    });
     let result = broker.serve(&mut buffer, &mut source, &mut sink);
-    Ok(result == left.result && sink.into_inner().taken.as_slice() == left.text)
+    let read = source.into_inner();
+    let written = sink.into_inner();
+    Ok(
+        result == left.result
+            && written.taken.as_slice() == left.text
+            && (read.failures, written.failures) == failures_of(left.result),
+    )
 }
 
 /// Fails where a connection of these bytes, whose writer takes so many, leaves something else.
