@@ -3,8 +3,7 @@
 #             database osb-broker.db in the working folder
 # make test   is the whole gate: every proof from nothing, edits that must be refused, and then the built
 #             program tried from outside
-# make edits  tries those edits alone, over the libraries that the gate or rt check left, and first that
-#             the functions that they name pass without them
+# make edits  tries those of tests/edits.py alone, over the libraries that the gate or rt check left
 
 RT ?= rt
 export RT
@@ -24,6 +23,7 @@ test:
 	@sh tests/needs.sh
 	python3 tests/needs.py
 	python3 tests/counts.py
+	python3 tests/judged.py
 	python3 tests/edits.py --beside $(RT) ci
 	cp crates/osb_program/out/osb_program osb-broker
 	python3 tests/program.py ./osb-broker
@@ -36,7 +36,6 @@ test:
 	python3 tests/readme.py ./osb-broker
 
 edits:
-	python3 tests/edits.py --unedited
 	python3 tests/edits.py
 
 clean:

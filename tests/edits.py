@@ -3,10 +3,12 @@ that the edit names.
 
     python3 tests/edits.py [CRATE ..]
     python3 tests/edits.py --beside rt ci
+    python3 tests/edits.py --keep
 
 The first tries the edits of these crates, or of all, over the libraries that `rt ci` or `rt check` left.
 The second runs a command that proves all crates, and tries each crate's edits beside it, behind its work,
-as soon as it tells that the libraries below that crate are proved.
+as soon as it reports that the libraries below that crate are proved. The third writes the list of all edits,
+tests/edits.txt: an edit that is in the list and has no file is a fault, and so is one that isn't in the list.
 
 An edit is a file crates/CRATE/edits/NAME.edit: the function that must be refused, and then texts of
 its files and what is put in their place.
@@ -19,13 +21,18 @@ its files and what is put in their place.
 `rt ci` has proved every function just before, so here each other function of the crate is taken at its
 word: its proof is a hole, and the edited function alone is checked against what the others promise. That
 takes seconds, where an edit under must-fail/ costs a check of the whole crate. Edits of several functions
-are tried in one check. An edit counts as refused where a goal of its own function is open.
+are tried in one check, after all functions that edits name have passed as they are, past the same holes.
 
-    python3 tests/edits.py --unedited [CRATE ..]
+An edit counts as refused where its own function has a goal that shows a wrong result: what the function
+ensures, what a function that it calls requires, an invariant, or a written answer that now proves another
+statement. The goal is printed. A refusal shows nothing, and is a fault of the edit, where each open goal is one
+of safety (an index, a sum), one at which the search met its limits, or an answer that names what the edit took
+away. That the search met its limits counts only in a function that passes as it is within half of them.
 
-checks the functions that edits name as they are, past the same holes: each has to pass.
+The edits under must-fail/ are tried by `rt ci` itself. One that can't be tried, or that it refused for a name or
+for a limit alone, is a fault here.
 
-Some toolkits keep what they proved. Where the command tells that a crate is kept, and its edits were refused
+Some toolkits keep what they proved. Where the command reports that a crate is kept, and its edits were refused
 before over the same toolkit, script, edits, crate and libraries, they aren't tried again. What was refused is
 kept in osb-broker/edits below $XDG_CACHE_HOME, or below ~/.cache."""
 
@@ -47,16 +54,21 @@ sys.path.append(str(TOOLS))
 from crates import LIBRARIES, RT, below, free_memory, lanes, sum_of
 
 KIT = pathlib.Path(subprocess.run([RT, "doc"], stdout=subprocess.PIPE, text=True, check=True).stdout.strip()).parent
+# Halves what the search of a check may take, where the toolkit can.
+HELP = subprocess.run([str(KIT / "bin" / "rattle"), "check", "--help"], stdout=subprocess.PIPE, text=True).stdout
+HALVED = ["--margin"] if "--margin" in HELP else []
 # What the largest check of a crate takes of memory, and the largest check of edits.
 BYTES_OF_CRATE = 6_000_000_000
 BYTES_OF_EDITS = 2_500_000_000
+# All edits, those under must-fail/ too.
+LIST = ROOT / "tests" / "edits.txt"
 
 
 def rlib(crate):
     return ROOT / "crates" / crate / "out" / "rlib" / f"{crate}.rlib"
 
 
-def command(crate, functions, kept):
+def command(crate, functions, kept, more=()):
     """The check of these functions of a crate, past holes."""
     words = ["nice", "-n", "19", str(KIT / "bin" / "rattle"), "check", "--crate-name", crate, "src/lib.rt"]
     for name in ["std", *LIBRARIES[crate]]:
@@ -65,7 +77,7 @@ def command(crate, functions, kept):
         words += ["-L", f"dependency={folder}"]
     words += ["--antt-project", str(KIT / "rattle" / "logic" / "antt-project.json")]
     words += ["--logic-built", str(KIT / "logic_built"), "--links", f"{crate}=", "--jobs", "1"]
-    words += ["--incremental", kept, "--allow-holes"]
+    words += ["--incremental", kept, "--allow-holes", *more]
     for function in functions:
         words += ["--only", function]
     return words
@@ -142,8 +154,8 @@ class Edit:
     """A wrong text, and the function that must be refused with it."""
 
     def __init__(self, path):
-        self.crate, self.name = path.parent.parent.name, path.stem
-        self.refused, self.pairs = "", []
+        self.crate, self.folder, self.name = path.parent.parent.name, path.parent.name, path.stem
+        self.refused, self.pairs, self.strange = "", [], []
         for line in path.read_text().splitlines():
             key, _, said = line.partition(":")
             said = said.removeprefix(" ")
@@ -156,16 +168,34 @@ class Edit:
             elif key == "new":
                 self.pairs.append((file, old, said))
             elif line:
-                raise SystemExit(f"{self.crate}/{self.name}: a line that is none of an edit: {line}")
+                self.strange.append(line)
+
+    def __str__(self):
+        return f"{self.crate}/{self.folder}/{self.name}"
+
+    def texts(self, folder):
+        """The files with the new texts in the place of the old ones, and what keeps them from being put there."""
+        found, wrong = {}, []
+        for name, old, new in self.pairs:
+            text = found.get(name) or (folder / name).read_text()
+            if text.count(old) != 1:
+                wrong.append(f"{self}: {name} has the old text {text.count(old)} times: {old}")
+            found[name] = text.replace(old, new)
+        return found, wrong
+
+    def faults(self):
+        """What is wrong with its own text."""
+        texts, wrong = self.texts(ROOT / "crates" / self.crate)
+        wrong += [f"{self}: a line that is none of an edit: {line}" for line in self.strange]
+        if all((ROOT / "crates" / self.crate / name).read_text() == text for name, text in texts.items()):
+            wrong.append(f"{self}: it changes nothing")
+        if bool(self.refused) != (self.folder == "edits"):
+            wrong.append(f"{self}: an edit under edits/ names the function that is refused, one under must-fail/ none")
+        return wrong
 
     def apply(self, folder):
-        """Puts the new texts in the place of the old ones."""
-        for name, old, new in self.pairs:
-            file = folder / name
-            text = file.read_text()
-            if text.count(old) != 1:
-                raise SystemExit(f"{self.crate}/{self.name}: {name} has the old text {text.count(old)} times: {old}")
-            file.write_text(text.replace(old, new))
+        for name, text in self.texts(folder)[0].items():
+            (folder / name).write_text(text)
 
 
 def clash(edit, other):
@@ -188,8 +218,9 @@ def batches(edits):
     return made
 
 
-def check(crate, names, edits, kept):
-    """What the check of these functions says of each function, and all that it printed."""
+def check(crate, names, edits, kept, more=()):
+    """The judgement on the functions that these edits name, or on all of these names where there is no edit. Every
+    function of these names keeps its body, and each other one is taken at its word."""
     with tempfile.TemporaryDirectory() as room:
         folder = pathlib.Path(room)
         for part in ("src", "specs", "proofs"):
@@ -198,49 +229,89 @@ def check(crate, names, edits, kept):
         for edit in edits:
             edit.apply(folder)
         keep_alone(folder, crate, names)
-        words = command(crate, sorted(names), kept)
-        ran = subprocess.run(words, cwd=room, stdin=subprocess.DEVNULL, stdout=subprocess.PIPE, stderr=subprocess.STDOUT, text=True)
-    found = re.findall(rf"^fn {crate}::(\S+): (.*)$", ran.stdout, re.M)
-    return dict(found), ran.stdout
+        words = command(crate, sorted({edit.refused for edit in edits} or names), kept, more)
+        how = {"stdin": subprocess.DEVNULL, "stdout": subprocess.PIPE, "stderr": subprocess.STDOUT, "text": True}
+        return Judgement(crate, subprocess.run(words, cwd=room, **how).stdout)
 
 
-def passes(told):
-    """Whether a function meets its contract, as far as its own text goes."""
-    return told.startswith(("no holes", "depends on a hole"))
+NOTE = re.compile(r"note: src/\S+: (.*) \(`([^`]+)`\)(.*)")
+ERROR = re.compile(r"\./proofs/(\S+)/(?:Answers|Proof|Invariants)\.antt:\d+:\d+: error: (?:`([^`]+)`: )?(.*)")
+# What a note says of a goal that shows a wrong result, and how the names of such goals begin where it says nothing.
+SHOWS = re.compile(r"what the function ensures|invariant|requires|`search` found no proof")
+NAMED = ("returns", "loop", "invariant_of")
+WRITTEN = "a written answer: "
+GAVE_UP = "`search` gave up at one of its limits"
+# What is said of an answer that names what is gone, or that wasn't decided.
+GONE = re.compile(r"has no field|is not in scope|has no `|was not admitted|ran out of|is no name")
 
 
-def is_refused(crate, function, told):
-    """Whether a goal of the function itself is open: one that search didn't prove, or an answer of its own that
-    is refused. What it calls plays no part in either."""
-    own = f"Rattle.{crate}.proofs.{function.replace('::', '.')}."
-    is_open = told.startswith("no proof") and "did not prove" in told
-    return is_open or told.startswith("not proved; it stands on") and own in told.partition(";")[2]
+class Judgement:
+    """What a check printed, function by function."""
+
+    def __init__(self, crate, text):
+        self.crate, self.text = crate, text
+        self.said, self.goals, self.answers, goals = {}, {}, {}, {}
+        for line in text.splitlines():
+            if found := NOTE.match(line):
+                goals[found.group(2)] = (found.group(1), found.group(3))
+            elif found := ERROR.match(line):
+                self.answers.setdefault(found.group(1).replace("/", "::"), []).append((found.group(2), found.group(3)))
+            elif found := re.match(rf"fn {crate}::(\S+): (.*)", line):
+                self.said[found.group(1)], self.goals[found.group(1)], goals = found.group(2), goals, {}
+
+    def told(self, function):
+        return self.said.get(function, "nothing is said of it")
+
+    def passes(self, function):
+        """Whether a function meets its contract, as far as its own text goes."""
+        return self.told(function).startswith(("no holes", "depends on a hole"))
+
+    def open_goals(self, function):
+        """Each goal of the function itself that is open, with what is said of it: one that search didn't prove, or an
+        answer of its own that is refused. What it calls plays no part in either."""
+        told = self.told(function)
+        if told.startswith("no proof"):
+            proved = re.search(r"`search` did not prove (`[^;]*)", told)
+            for goal in re.findall(r"`([^`]+)`", proved.group(1)) if proved else []:
+                yield goal, *self.goals[function].get(goal, ("", ""))
+        own = f"Rattle.{self.crate}.proofs.{function.replace('::', '.')}."
+        if told.startswith("not proved; it stands on") and own in told.partition(";")[2]:
+            for goal, error in self.answers.get(function, []):
+                yield goal, WRITTEN, error
+
+    def shows(self, function, gave_up_counts):
+        """The open goals that show that the function's result is wrong, a line each."""
+        for goal, kind, more in self.open_goals(function):
+            is_one = SHOWS.search(kind) or kind == WRITTEN or not kind and (goal or "").startswith(NAMED)
+            if is_one and (gave_up_counts or GAVE_UP not in more) and not GONE.search(more):
+                yield f"{goal}: {kind or 'no proof'}{more}"[:160]
 
 
-def try_batch(crate, batch, kept):
-    """The edits of a batch that weren't refused, with what was said of their functions."""
-    names = {edit.refused for edit in batch}
-    said, text = check(crate, names, batch, kept)
-    errors = [line for line in text.splitlines() if ": error" in line][:3]
+def try_batch(crate, names, batch, kept):
+    """The edits of a batch that weren't refused, with what was said of their functions. `names` has each function
+    that keeps its body, and whether it passes within half of the search's limits."""
+    judged = check(crate, names, batch, kept)
     wrong, again = [], []
     for edit in batch:
-        told = said.get(edit.refused, "nothing is said of it")
-        if is_refused(crate, edit.refused, told):
-            continue
-        if any(f"`{crate}::{other}`" in told for other in names - {edit.refused}):
+        shown, told = list(judged.shows(edit.refused, names[edit.refused])), judged.told(edit.refused)
+        if shown:
+            print(f"{edit}: refused in {edit.refused}: {shown[0]}", flush=True)
+        elif any(f"`{crate}::{other.refused}`" in told for other in batch if other is not edit):
             again.append(edit)
         else:
-            wrong.append("\n".join([f"{crate}/{edit.name}: {edit.refused}: {told[:300]}", *errors]))
+            goals = [f"    {goal}: {kind}{more}"[:200] for goal, kind, more in judged.open_goals(edit.refused)]
+            wrong.append("\n".join([f"{edit}: {edit.refused}: {told[:300]}", *goals]))
     parts = [again] if len(again) < len(batch) else [[edit] for edit in again]
-    return wrong + [line for part in parts if part for line in try_batch(crate, part, kept)]
+    return wrong + [line for part in parts if part for line in try_batch(crate, names, part, kept)]
 
 
 class Told:
-    """What a command that proves all crates has told so far: which are proved, and which the toolkit kept."""
+    """What a command that proves all crates has told so far: which are proved, which the toolkit kept, and which edits
+    under must-fail/ show nothing."""
 
     def __init__(self):
         self.crates = {name: threading.Event() for name in LIBRARIES}
-        self.kept, self.ended, self.failed = set(), threading.Event(), False
+        self.kept, self.wrong, self.ended, self.failed = set(), [], threading.Event(), False
 
     def read(self, line):
         found = re.fullmatch(r"rt: (\w+) (proved|is kept\b.*)\n", line)
@@ -248,6 +319,8 @@ class Told:
             if found.group(2) != "proved":
                 self.kept.add(found.group(1))
             self.crates[found.group(1)].set()
+        if re.search(r"\bmust-fail \S+: (?!refused)|\bmust-fail \S+: refused, as it must be \(only ", line):
+            self.wrong.append(line.strip())
 
     def end(self, failed):
         self.failed = failed
@@ -293,7 +366,8 @@ def try_crate(crate, edits, told):
         return []
     build_missing(crate, told)
     with tempfile.TemporaryDirectory() as kept:
-        wrong = [line for batch in batches(edits) for line in try_batch(crate, batch, kept)]
+        names, wrong = pass_unedited(crate, {edit.refused for edit in edits}, kept)
+        wrong += [line for batch in batches(edits) for line in try_batch(crate, names, batch, kept)]
     if not wrong:
         passed(crate).parent.mkdir(parents=True, exist_ok=True)
         passed(crate).touch()
@@ -301,13 +375,13 @@ def try_crate(crate, edits, told):
     return wrong
 
 
-def passes_unedited(crate, edits):
-    """The functions that a crate's edits name and that don't pass without them."""
-    names = {edit.refused for edit in edits}
-    with tempfile.TemporaryDirectory() as kept:
-        said, _ = check(crate, names, [], kept)
-    told = {name: said.get(name, "nothing is said of it") for name in sorted(names)}
-    return [f"{crate}: {name} without an edit: {it[:300]}" for name, it in told.items() if not passes(it)]
+def pass_unedited(crate, names, kept):
+    """Each function that a crate's edits name, with whether it passes without them within half of the search's limits;
+    and those that don't pass."""
+    halved = check(crate, names, [], kept, HALVED)
+    within = {it: bool(HALVED) and halved.passes(it) for it in sorted(names)}
+    judged = halved if all(within.values()) else check(crate, names, [], kept)
+    return within, [f"{crate}: {it} without an edit: {judged.told(it)[:300]}" for it in within if not judged.passes(it)]
 
 
 def beside(words, told, jobs):
@@ -320,10 +394,26 @@ def beside(words, told, jobs):
     return command.returncode
 
 
-def edits_of(crates):
-    """The edits of each of these crates that has any."""
-    found = {crate: [Edit(it) for it in sorted((ROOT / "crates" / crate / "edits").glob("*.edit"))] for crate in crates}
-    return {crate: edits for crate, edits in found.items() if edits}
+def edits_in(crate):
+    """The edits of a crate, those under must-fail/ too."""
+    folders = [ROOT / "crates" / crate / name for name in ("edits", "must-fail")]
+    return [Edit(it) for folder in folders for it in sorted(folder.glob("*.edit"))]
+
+
+def has_public_functions(crate):
+    folder = ROOT / "crates" / crate
+    return any(re.search(r"^ *pub (const )?fn ", text, re.M) for _, text in modules(folder))
+
+
+def faults_of_files(every):
+    """What is wrong with the files of the edits: nothing is proved to find it."""
+    found = {str(edit) for edits in every.values() for edit in edits}
+    listed = set(LIST.read_text().split()) if LIST.is_file() else set()
+    wrong = [f"{it}: it is in tests/edits.txt, and there is no such file" for it in sorted(listed - found)]
+    wrong += [f"{it}: it isn't in tests/edits.txt" for it in sorted(found - listed)]
+    wrong += [line for edits in every.values() for edit in edits for line in edit.faults()]
+    bare = [it for it in every if not every[it] and not it.startswith("tests_") and has_public_functions(it)]
+    return wrong + [f"{crate}: it has public functions, and no edit" for crate in bare]
 
 
 def try_all(edits, words):
@@ -336,23 +426,25 @@ def try_all(edits, words):
         if words:
             status = beside(words, told, jobs)
         told.end(failed=status != 0)
-    return [line for result in results for line in result.result()], status
+    return [line for result in results for line in result.result()] + told.wrong, status
 
 
 def main():
-    first, rest = sys.argv[1:2], sys.argv[2:]
-    words = rest if first == ["--beside"] else []
-    crates = rest if first == ["--unedited"] else [] if words else sys.argv[1:]
-    edits = edits_of(crates or LIBRARIES)
-    if first == ["--unedited"]:
-        wrong, status = [line for crate, found in edits.items() for line in passes_unedited(crate, found)], 0
-    else:
-        wrong, status = try_all(edits, words)
+    words = sys.argv[2:] if sys.argv[1:2] == ["--beside"] else []
+    every = {crate: edits_in(crate) for crate in LIBRARIES}
+    if sys.argv[1:] == ["--keep"]:
+        LIST.write_text("".join(f"{edit}\n" for edits in every.values() for edit in edits))
+        return 0
+    wrong, status = faults_of_files(every), 0
+    crates = every if words else sys.argv[1:] or every
+    edits = {crate: [it for it in every[crate] if it.folder == "edits"] for crate in crates}
+    if not wrong:
+        wrong, status = try_all({crate: found for crate, found in edits.items() if found}, words)
     if status:
         return status
     print(*wrong, sep="\n")
-    print(f"edits: {sum(len(found) for found in edits.values())} tried, {len(wrong)} faults")
-    return 1 if wrong or not edits else 0
+    print(f"edits: {sum(len(found) for found in edits.values())} to be tried, {len(wrong)} faults")
+    return 1 if wrong else 0
 
 
 if __name__ == "__main__":

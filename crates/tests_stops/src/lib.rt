@@ -5,6 +5,8 @@
 #[cfg(test)]
 mod migrations;
 #[cfg(test)]
+mod orders;
+#[cfg(test)]
 mod restarts;
 #[cfg(test)]
 mod sockets;

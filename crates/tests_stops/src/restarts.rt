@@ -1,5 +1,6 @@
 //! Each call once, over files in memory. A stop at each call of a disk stands in `stops`.
 
+use crate::orders::{CREATING, are_orders};
 use crate::stops::{OPTIONS, empty_files, opened};
 use osb_catalog::Settings;
 use osb_frames::{Limits, Step, next};
@@ -7,12 +8,15 @@ use osb_orders::Change;
 use osb_records::Records;
 use osb_replies::Status;
 use osb_restart::{committed_and_restarted, handled_and_restarted, restarted};
-use sqlite::FileStore;
+use sqlite::{Alter, FileStore};
 use sqlite_disk::{Crash, Memory};
 use std::alloc::Global;
 use std::test::Fail;
+use tests_support::asks::{ASYNC, CREATE_1, IN_PROGRESS, POLL, PUT_LATER};
 use tests_support::catalogs::built_in;
-use tests_support::serving::broker_over;
+use tests_support::exchange::Exchange;
+use tests_support::replies::{ACCEPTED, OK};
+use tests_support::serving::{after_all, broker_over};
 use tests_support::whole::PUT_I;
 
 /// The records of a new database.
@@ -59,6 +63,44 @@ fn orders_in<D: Crash + Drop>(
 ) -> Result<usize, Fail> {
     let life = records.life(alloc, "i")?;
     Ok(life.len())
+}
+
+const BEGUN: [Exchange; 1] = [(PUT_LATER, ASYNC, ACCEPTED, CREATE_1)];
+
+const GOES_ON: [Exchange; 2] = [
+    (POLL, "", OK, IN_PROGRESS),
+    (PUT_LATER, ASYNC, ACCEPTED, CREATE_1),
+];
+
+/// The records of these files once they are opened again.
+fn opened_again<D: Crash + Drop>(
+    alloc: Global,
+    records: Records<FileStore<D>>,
+) -> Option<Records<FileStore<D>>> {
+    let files = records.into_connection().into_store().close();
+    opened(alloc, files, OPTIONS).ok()
+}
+
+/// The records after these exchanges over these records.
+fn after_these<S: Alter + Drop>(
+    alloc: Global,
+    records: Records<S>,
+    exchanges: &[Exchange],
+) -> Result<Records<S>, Fail> {
+    let settings = built_in(alloc)?;
+    after_all(alloc, &settings, records, exchanges)
+}
+
+#[test]
+fn file_reopened(rt: HostRuntime) -> Result<(), Fail> {
+    let alloc = rt.alloc();
+    let records = new_records(alloc).ok_or("not opened")?;
+    let records = after_these(alloc, records, &BEGUN)?;
+    let again = opened_again(alloc, records).ok_or("not opened again")?;
+    let mut again = after_these(alloc, again, &GOES_ON)?;
+    let life = again.life(alloc, "i")?;
+    assert!(rt; are_orders(life.as_slice(), &[CREATING]));
+    Ok(())
 }
 
 #[test]

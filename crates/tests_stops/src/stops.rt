@@ -1,54 +1,47 @@
-//! A conversation over two disks, one of which stops at some call: each call in turn. What is left
-//! is opened again, and the conversation goes on.
+//! A conversation over two disks, one of which stops at some call: each call in turn, until a run meets
+//! no stop. What is left is opened again, and the conversation goes on.
 
+use crate::orders::{
+    BINDING, BOUND, CREATED, CREATING, DELETING, Rows, UNBINDING, UNBOUND, are_orders,
+};
 use osb_broker::Broker;
 use osb_catalog::Settings;
-use osb_orders::OrderKind::{Bind, Create, Delete, Unbind};
-use osb_orders::OrderState::{Running, Succeeded};
 use osb_records::Records;
-use osb_restart::restarted;
 use sqlite::{Alter, Connection, FileStore, Files, Options};
-use sqlite_disk::{Crash, Fuse, Memory};
+use sqlite_disk::{Crash, Disk, Fuse, Memory};
 use std::alloc::Global;
 use std::test::Fail;
 use tests_support::catalogs::built_in;
 use tests_support::conversations::ASYNC_BINDING;
 use tests_support::exchange::Exchange;
-use tests_support::lives::{Life, Step, is_life};
-use tests_support::serving::{after_all, are_replies, broker_over, outputs_to};
+use tests_support::serving::{after_all, are_replies, outputs_to};
 use tests_support::whole::REFUSED;
 
-const CREATED: Step = (Create, Succeeded);
+const BEING_BOUND: Rows = &[CREATED, BINDING];
 
-const BOUND: Step = (Bind, Succeeded);
+const WITH_BINDING: Rows = &[CREATED, BOUND];
 
-const UNBOUND: Step = (Unbind, Succeeded);
+const BEING_UNBOUND: Rows = &[CREATED, BOUND, UNBINDING];
 
-const BINDING: Life = &[CREATED, (Bind, Running)];
+const WITHOUT_BINDING: Rows = &[CREATED, BOUND, UNBOUND];
 
-const WITH_BINDING: Life = &[CREATED, BOUND];
-
-const UNBINDING: Life = &[CREATED, BOUND, (Unbind, Running)];
-
-const WITHOUT_BINDING: Life = &[CREATED, BOUND, UNBOUND];
-
-const LAST: Life = &[CREATED, BOUND, UNBOUND, (Delete, Running)];
+const LAST: Rows = &[CREATED, BOUND, UNBOUND, DELETING];
 
 const REQUESTS: &[Exchange] = &ASYNC_BINDING;
 
 /// The life of `i` before the first of the requests, and after each of them.
-const LIVES: &[Life] = &[
+const LIVES: &[Rows] = &[
     &[],
-    &[(Create, Running)],
+    &[CREATING],
     &[CREATED],
-    BINDING,
-    BINDING,
+    BEING_BOUND,
+    BEING_BOUND,
     WITH_BINDING,
     WITH_BINDING,
     WITH_BINDING,
-    UNBINDING,
-    UNBINDING,
-    UNBINDING,
+    BEING_UNBOUND,
+    BEING_UNBOUND,
+    BEING_UNBOUND,
     WITHOUT_BINDING,
     WITHOUT_BINDING,
     WITHOUT_BINDING,
@@ -151,26 +144,30 @@ fn count_answered<S: Alter>(alloc: Global, broker: &mut Broker<'_, S>) -> Result
     Ok(REQUESTS.len())
 }
 
-/// The same over these records, and the records.
+/// The same over these records, and the records. Where there is no broker over them, none is answered.
 fn served<S: Alter + Drop>(
     alloc: Global,
     settings: &Settings,
     records: Records<S>,
 ) -> Result<(usize, Records<S>), Fail> {
-    let mut broker = broker_over(alloc, settings, records, 1)?;
-    let answered = count_answered(alloc, &mut broker)?;
-    Ok((answered, broker.into_records()))
+    match Broker::new(alloc, settings, records, 1) {
+        Ok(mut broker) => {
+            let answered = count_answered(alloc, &mut broker)?;
+            Ok((answered, broker.into_records()))
+        }
+        Err((_, records)) => Ok((0, records)),
+    }
 }
 
 /// Fails where the life of `i` is neither of the first two of these.
 fn has_either<S: Alter>(
     alloc: Global,
     records: &mut Records<S>,
-    lives: &[Life],
+    lives: &[Rows],
 ) -> Result<(), Fail> {
     let orders = records.life(alloc, "i")?;
     for life in lives.iter().take(2) {
-        if is_life(orders.as_slice(), life) {
+        if are_orders(orders.as_slice(), life) {
             return Ok(());
         }
     }
@@ -216,16 +213,25 @@ fn goes_on_with<S: Alter + Drop>(
     }
 }
 
-/// Has the conversation up to a stop, and goes on after it. Whether a request was refused.
+/// Whether a disk has stopped, or stops at its next call.
+fn has_stopped<D: Disk>(files: &mut Files<D>) -> bool {
+    !files.may_be_used() || files.log.len().is_err() || files.db.len().is_err()
+}
+
+/// Has the conversation up to a stop, and goes on after it. Whether a disk has stopped.
 fn stops_serving<D: Crash + Drop>(
     alloc: Global,
     settings: &Settings,
     records: Records<FileStore<D>>,
 ) -> Result<bool, Fail> {
     let (answered, records) = served(alloc, settings, records)?;
-    let again = restarted(alloc, records, OPTIONS);
-    goes_on_with(alloc, settings, again, answered)?;
-    Ok(answered < REQUESTS.len())
+    let mut files = records.into_connection().into_store().close();
+    let stopped = has_stopped(&mut files);
+    if answered < REQUESTS.len() && !stopped {
+        return Err("refused without a stop")?;
+    }
+    goes_on_with(alloc, settings, reopened(alloc, files), answered)?;
+    Ok(stopped)
 }
 
 /// Whether a disk of these files stops in the conversation or before it.
