@@ -1,6 +1,12 @@
 //! What the words ask for, done.
 
-ghost use Rattle.std.specs.Prelude.{◌≤◌};
+ghost use Rattle.std.specs.Prelude.{◌≡◌, ◌≤◌, None, IfSome, IfErr, OnOk, OnErr};
+ghost use Rattle.sqlite.specs.Tree.{Trees};
+ghost use Rattle.sqlite_wal.specs.Files.{image_at};
+ghost use Rattle.sqlite.specs.Files.{file_state, HoldsDatabase};
+ghost use Rattle.osb_records.specs.Steps.{stored};
+ghost use Rattle.osb_broker.specs.Kept.{Works};
+ghost use Rattle.osb_cli.specs.Serve.{IsPlan, IsServed, NamesInUse, NamesSome};
 
 use crate::check::check;
 use crate::fault::{Fault, Unserved};
@@ -10,7 +16,9 @@ use crate::settings::settings_or_built_in;
 use crate::words::{Order, Replay, read};
 use clap::Error;
 use clap::error::ErrorKind;
+use osb_file::Opened;
 use osb_frames::{Sink, Source, send_all};
+use sqlite::Start;
 use std::alloc::Global;
 
 /// The text of clap's answer to words that aren't those of a command: an error, or the help or the
@@ -72,22 +80,38 @@ fn other_command(alloc: Global, line: &str) -> Result<(), Fault<'static>> {
     Err(Fault::Words(text))
 }
 
-fn perform_serve<'a, W: Sink, E: Sink>(
+/// What was done without a database file.
+fn without_file<'a, S: Start>(done: Result<(), Fault<'a>>) -> (Result<(), Unserved<'a>>, Opened<S>)
+    ensures { result.1 ≡ None }
+{
+    match done {
+        Ok(()) => (Ok(()), None),
+        Err(fault) => (Err(Unserved::from(fault)), None),
+    }
+}
+
+fn perform_serve<'a, S: Start, W: Sink, E: Sink>(
     rt: &HostRuntime,
     words: &'a [String],
+    start: S,
     output: &mut W,
     errors: &mut E,
-) -> Result<(), Unserved<'a>> {
+) -> (Result<(), Unserved<'a>>, Opened<S>)
+    ensures served { OnOk result.0 (IfSome result.1 (λ conn. Works (file_state conn) →
+        (db : Trees) → HoldsDatabase (image_at S.Start) db →
+        IsServed db (stored (file_state conn)) (E.taken errors.old) (E.taken errors.new))) }
+    ensures lacks { IfErr result.0 (λ fault. IfSome result.1 (λ conn. Works (file_state conn) →
+        (db : Trees) → HoldsDatabase (image_at S.Start) db → NamesInUse db fault)) }
+{
     let order = match read(rt.alloc(), words) {
         Ok(order) => order,
-        Err(error) => return Ok(answer_words(rt.alloc(), &error, output)?),
+        Err(error) => return without_file(answer_words(rt.alloc(), &error, output)),
     };
     match order {
-        Order::Serve(asked) => listen(rt, &asked, output, errors),
-        Order::Check { .. } | Order::Replay(_) => Ok(other_command(
-            rt.alloc(),
-            "the command is not serve\n",
-        )?),
+        Order::Serve(asked) => listen(rt, &asked, start, output, errors),
+        Order::Check { .. } | Order::Replay(_) => {
+            without_file(other_command(rt.alloc(), "the command is not serve\n"))
+        }
     }
 }
 
@@ -106,7 +130,11 @@ fn status_of<E: Sink>(done: Result<(), Fault<'_>>, errors: &mut E) -> u8
 
 /// The same of `serve`.
 fn serve_status_of<E: Sink>(done: Result<(), Unserved<'_>>, errors: &mut E) -> u8
-    ensures { result ≤ 4 }
+    ensures most { result ≤ 4 }
+    ensures zero { OnOk done.entry (result ≡ 0) }
+    ensures fails { OnErr done.entry (1 ≤ result) }
+    ensures quiet { OnOk done.entry (E.taken errors.new ≡ E.taken errors.old) }
+    ensures plan { result ≡ 4 → IfErr done.entry IsPlan }
 {
     let Err(fault) = done else {
         return 0;
@@ -139,14 +167,23 @@ pub fn run<R: Source, W: Sink, E: Sink>(
 /// The status is that of [`run`]: also 1 where the database can't be used or its file is taken away,
 /// the address can't be listened at or a connection can't be taken, 2 where the words name another
 /// command, and 4 where the catalog lacks a plan that the database has in use.
-pub fn serve_command<W: Sink, E: Sink>(
+///
+/// `start` stands for what the file of the database holds. What is said of lives is said of each
+/// database that it may hold, of the connection to it, which comes back where it was opened.
+pub fn serve_command<S: Start, W: Sink, E: Sink>(
     rt: &HostRuntime,
     words: &[String],
+    start: S,
     output: &mut W,
     errors: &mut E,
-) -> u8
-    ensures { result ≤ 4 }
+) -> (u8, Opened<S>)
+    ensures most { result.0 ≤ 4 }
+    ensures served { result.0 ≡ 0 → IfSome result.1 (λ conn. Works (file_state conn) →
+        (db : Trees) → HoldsDatabase (image_at S.Start) db →
+        IsServed db (stored (file_state conn)) (E.taken errors.old) (E.taken errors.new)) }
+    ensures lacks { result.0 ≡ 4 → IfSome result.1 (λ conn. Works (file_state conn) →
+        (db : Trees) → HoldsDatabase (image_at S.Start) db → NamesSome db) }
 {
-    let done = perform_serve(rt, words, output, errors);
-    serve_status_of(done, errors)
+    let (done, conn) = perform_serve(rt, words, start, output, errors);
+    (serve_status_of(done, errors), conn)
 }

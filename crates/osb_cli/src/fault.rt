@@ -1,6 +1,6 @@
 //! Why a command ends with another status than 0.
 
-ghost use Rattle.std.specs.Prelude.{◌≤◌};
+ghost use Rattle.std.specs.Prelude.{◌≡◌, ◌≤◌};
 
 use itoa::Buffer;
 use osb_catalog::SettingsFault;
@@ -110,7 +110,8 @@ fn tell_database<E: Sink>(fault: StoreFault, errors: &mut E) {
 impl Fault<'_> {
     /// The status that the process ends with.
     pub(crate) fn status(&self) -> u8
-        ensures { result ≤ 3 }
+        ensures some { 1 ≤ result }
+        ensures most { result ≤ 3 }
     {
         match self {
             Fault::CannotRead(_)
@@ -145,9 +146,13 @@ impl Fault<'_> {
 }
 
 impl Unserved<'_> {
+    ghost use Rattle.osb_cli.specs.Serve.{IsPlan};
+
     /// The status that the process ends with.
     pub(crate) fn status(&self) -> u8
-        ensures { result ≤ 4 }
+        ensures some { 1 ≤ result }
+        ensures most { result ≤ 4 }
+        ensures plan { result ≡ 4 → IsPlan self.now }
     {
         match self {
             Unserved::Fault(fault) => fault.status(),

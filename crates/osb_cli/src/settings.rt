@@ -1,12 +1,18 @@
 //! The settings that a command is given.
 
+ghost use Rattle.std.specs.Prelude.{◌≡◌, Ok, IfOk};
+ghost use Rattle.osb_catalog.specs.Faults.{settings_of};
+ghost use Rattle.osb_cli.specs.Serve.{AreAccepted};
+
 use crate::fault::Fault;
 use crate::input::read_file;
 use osb_catalog::{BUILT_IN, Settings, SettingsFault};
 use std::alloc::Global;
 
 /// Reads settings from their text.
-fn settings_of(alloc: Global, text: &[u8]) -> Result<Settings, Fault<'static>> {
+fn settings_of(alloc: Global, text: &[u8]) -> Result<Settings, Fault<'static>>
+    ensures { IfOk result (λ settings. settings_of text.now ≡ Ok settings) }
+{
     match Settings::read(alloc, text) {
         Ok(settings) => Ok(settings),
         Err(SettingsFault::Memory) => Err(Fault::OutOfMemory),
@@ -15,7 +21,9 @@ fn settings_of(alloc: Global, text: &[u8]) -> Result<Settings, Fault<'static>> {
 }
 
 /// Reads the settings of a file.
-pub(crate) fn read_settings<'a>(rt: &HostRuntime, file: &'a str) -> Result<Settings, Fault<'a>> {
+pub(crate) fn read_settings<'a>(rt: &HostRuntime, file: &'a str) -> Result<Settings, Fault<'a>>
+    ensures { IfOk result AreAccepted }
+{
     let text = read_file(rt, file)?;
     settings_of(rt.alloc(), text.as_slice())
 }
@@ -24,7 +32,9 @@ pub(crate) fn read_settings<'a>(rt: &HostRuntime, file: &'a str) -> Result<Setti
 pub(crate) fn settings_or_built_in<'a>(
     rt: &HostRuntime,
     file: Option<&'a str>,
-) -> Result<Settings, Fault<'a>> {
+) -> Result<Settings, Fault<'a>>
+    ensures { IfOk result AreAccepted }
+{
     match file {
         Some(file) => read_settings(rt, file),
         None => settings_of(rt.alloc(), BUILT_IN.as_bytes()),

@@ -6,4 +6,4 @@ mod file;
 mod first_page;
 
 pub use database_file::DatabaseFile;
-pub use file::open_file;
+pub use file::{HeldFile, Opened, open_file};

@@ -1,3 +1,4 @@
 mod PartLemmas
 mod AfterLemmas
 mod FaultLemmas
+mod HeldLemmas

@@ -1,21 +1,26 @@
 //! The broker over a database file.
 
-ghost use Rattle.std.specs.Prelude.{◌≡◌, ◌≤◌, ◌<◌, ◌++◌, IfOk, IfErr, OnOk, IsOkUnless};
-ghost use Rattle.sqlite.specs.Files.{over_files};
+ghost use Rattle.std.specs.Prelude.{◌≡◌, ◌≤◌, ◌<◌, ◌++◌, Err, IfOk, IfErr, IfSome, IfNone, OnOk, IsOkUnless};
+ghost use Rattle.sqlite_trees.specs.Tree.{Trees};
+ghost use Rattle.sqlite_wal.specs.Files.{image_at};
+ghost use Rattle.sqlite.specs.Files.{file_state, over_files, HoldsDatabase};
 ghost use Rattle.osb_catalog.specs.Rules as catalog;
+ghost use Rattle.osb_file.specs.File.{AreLivesOf};
 ghost use Rattle.osb_broker.specs.Kept.{Works, lives_of, most_of, rules_of, store_of};
 ghost use Rattle.osb_broker.specs.Plans.{OffersInUse};
+ghost use Rattle.osb_records.specs.Steps.{stored};
 ghost use Rattle.osb_records.specs.declared.fault.StoreFault.TheVariants.{Refused};
 ghost use Rattle.osb_listen.specs.declared.fault.ListenFault.TheVariants.{CannotWrite, Database};
+ghost use Rattle.osb_listen.specs.Held.{ServesFrom, NoBroker, LeavesOf};
 ghost use Rattle.osb_listen.specs.Listen.{listening_line, IsAddress, IsOfDatabase, IsOfServing, NamesLacking, Told};
 
 use crate::fault::ListenFault;
 use crate::listen::{Place, serve_at};
 use osb_broker::Broker;
 use osb_catalog::Settings;
-use osb_file::{DatabaseFile, open_file};
+use osb_file::{DatabaseFile, HeldFile, Opened, open_file};
 use osb_frames::Sink;
-use sqlite::{FileFrom, FileStore, Unknown};
+use sqlite::Start;
 
 /// The database file of that path.
 fn file_at<'a>(rt: &HostRuntime, path: &'a str) -> Result<DatabaseFile<'a>, ListenFault>
@@ -27,55 +32,90 @@ fn file_at<'a>(rt: &HostRuntime, path: &'a str) -> Result<DatabaseFile<'a>, List
     }
 }
 
-/// The broker over the database of a file.
-fn broker_over<'s>(
+/// The broker over the database of a file, from the lives that stand there. A fault comes with the
+/// connection, where the file was opened.
+fn broker_over<'s, S: Start>(
     rt: &HostRuntime,
     settings: &'s Settings,
     file: &DatabaseFile<'_>,
     per_connection: u32,
-) -> Result<Broker<'s, FileStore<FileFrom<Unknown>>>, ListenFault>
+    start: S,
+) -> Result<Broker<'s, HeldFile<S>>, (ListenFault, Opened<S>)>
     requires some { 1 ≤ per_connection }
     requires few { per_connection ≤ 1000 }
     ensures most { IfOk result (λ broker. most_of broker ≡ per_connection) }
     ensures rules { IfOk result (λ broker. rules_of broker ≡ catalog.rules_of settings.now) }
-    ensures offered { IfOk result (λ broker. Works (store_of over_files broker) → OffersInUse (catalog.rules_of settings.now) (lives_of over_files broker)) }
-    ensures fault { IfErr result (IsOfDatabase (catalog.rules_of settings.now)) }
+    ensures offered { IfOk result (λ broker. Works (store_of over_files broker) →
+        OffersInUse (catalog.rules_of settings.now) (lives_of over_files broker)) }
+    ensures found { IfOk result (λ broker. Works (store_of over_files broker) →
+        (db : Trees) → HoldsDatabase (image_at S.Start) db →
+        AreLivesOf db (lives_of over_files broker)) }
+    ensures why { IfErr result (λ fault. IfSome fault.1 (λ conn. Works (file_state conn) →
+        (db : Trees) → HoldsDatabase (image_at S.Start) db →
+        NoBroker (catalog.rules_of settings.now) db fault.0)) }
+    ensures opened { IfErr result (λ fault. IfNone fault.1 (fault.0 ≡ Database Refused)) }
+    ensures fault { IfErr result (λ fault. IsOfDatabase (catalog.rules_of settings.now) fault.0) }
 {
-    let records = match open_file(rt, file, Unknown) {
+    let records = match open_file(rt, file, start) {
         Ok(records) => records,
-        Err(fault) => return Err(ListenFault::Database(fault)),
+        Err((fault, conn)) => return Err((ListenFault::Database(fault), conn)),
     };
     match Broker::new(rt.alloc(), settings, records, per_connection) {
         Ok(broker) => Ok(broker),
-        Err((fault, _)) => Err(ListenFault::from(fault)),
+        Err((fault, records)) => Err((ListenFault::from(fault), Some(records.into_connection()))),
     }
 }
 
 /// Serves connections at an address from a broker over these settings and a database file, up to
-/// `per_connection` requests of each, and tells on `output` that they are taken.
+/// `per_connection` requests of each, and tells on `output` that they are taken. The connection to
+/// the file comes back, where it was opened.
 ///
 /// The database is opened, and its plans are looked for in the catalog, before the address is
 /// listened at. A connection that isn't done within the time limit ends as one whose read or write
 /// failed. Before each one is answered, it is looked whether the database file is there still; where
 /// it was taken away, the fault is `FileTaken`.
-pub fn serve_file<W: Sink, E: Sink>(
+///
+/// `start` stands for what the file holds: what is said of lives is said of each database that it may
+/// hold.
+pub fn serve_file<S: Start, W: Sink, E: Sink>(
     rt: &HostRuntime,
     settings: &Settings,
     place: &Place<'_>,
     per_connection: u32,
+    start: S,
     output: &mut W,
     errors: &mut E,
-) -> Result<(), ListenFault>
+) -> (Result<(), ListenFault>, Opened<S>)
     requires some { 1 ≤ per_connection }
     requires few { per_connection ≤ 1000 }
-    ensures address { OnOk result (IsAddress place.now.address.now) }
-    ensures lacks { IfErr result (NamesLacking (catalog.rules_of settings.now)) }
-    ensures told { OnOk result (W.taken output.new ≡ W.taken output.old ++ listening_line place.now.address.now) }
-    ensures told_before { IfErr result (λ fault. Told fault (listening_line place.now.address.now) (W.taken output.old) (W.taken output.new)) }
-    ensures cause { IfErr result (λ fault. fault ≡ CannotWrite → W.fruitless output.old < W.fruitless output.new) }
-    ensures quiet { IfErr result (λ fault. ¬ IsOfServing fault → E.taken errors.new ≡ E.taken errors.old) }
+    ensures served { OnOk result.0 (IfSome result.1 (λ conn. Works (file_state conn) →
+        (db : Trees) → HoldsDatabase (image_at S.Start) db →
+        ServesFrom (catalog.rules_of settings.now) per_connection place.now.connections db
+        (stored (file_state conn)) (E.taken errors.old) (E.taken errors.new))) }
+    ensures leaves { IfErr result.0 (λ fault. IfSome result.1 (λ conn. Works (file_state conn) →
+        (db : Trees) → HoldsDatabase (image_at S.Start) db →
+        LeavesOf (catalog.rules_of settings.now) per_connection place.now.connections db
+        (stored (file_state conn)) (E.taken errors.old) (E.taken errors.new) fault)) }
+    ensures opened { IfNone result.1 (result.0 ≡ Err (Database Refused)) }
+    ensures address { OnOk result.0 (IsAddress place.now.address.now) }
+    ensures lacks { IfErr result.0 (NamesLacking (catalog.rules_of settings.now)) }
+    ensures told { OnOk result.0
+        (W.taken output.new ≡ W.taken output.old ++ listening_line place.now.address.now) }
+    ensures told_before { IfErr result.0 (λ fault. Told fault
+        (listening_line place.now.address.now) (W.taken output.old) (W.taken output.new)) }
+    ensures cause { IfErr result.0 (λ fault. fault ≡ CannotWrite →
+        W.fruitless output.old < W.fruitless output.new) }
+    ensures quiet { IfErr result.0 (λ fault. ¬ IsOfServing fault →
+        E.taken errors.new ≡ E.taken errors.old) }
 {
-    let file = file_at(rt, place.database)?;
-    let mut broker = broker_over(rt, settings, &file, per_connection)?;
-    serve_at(rt, &mut broker, &file, place, output, errors)
+    let file = match file_at(rt, place.database) {
+        Ok(file) => file,
+        Err(fault) => return (Err(fault), None),
+    };
+    let mut broker = match broker_over(rt, settings, &file, per_connection, start) {
+        Ok(broker) => broker,
+        Err((fault, conn)) => return (Err(fault), conn),
+    };
+    let result = serve_at(rt, &mut broker, &file, place, output, errors);
+    (result, Some(broker.into_records().into_connection()))
 }

@@ -3,6 +3,7 @@
 
 use osb_cli::{run, serve_command, words_unread};
 use osb_frames::Counted;
+use sqlite::Unknown;
 use std::io;
 use std::process::ExitCode;
 
@@ -20,7 +21,9 @@ fn main(rt: HostRuntime) -> ExitCode {
     };
     let serves = words.first().is_some_and(|word| word.as_str() == "serve");
     let status = if serves {
-        serve_command(&rt, words.as_slice(), &mut output, &mut errors)
+        // What the file holds isn't known: what `serve_command` says holds of each database that it may hold.
+        let (status, _) = serve_command(&rt, words.as_slice(), Unknown, &mut output, &mut errors);
+        status
     } else {
         let mut input = Counted::new(rt.stdin());
         run(&rt, words.as_slice(), &mut input, &mut output, &mut errors)

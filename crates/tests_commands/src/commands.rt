@@ -3,6 +3,7 @@
 use osb_catalog::BUILT_IN;
 use osb_cli::{run, serve_command};
 use osb_frames::Counted;
+use sqlite::Unknown;
 use std::io::{self, Read, Write};
 use std::test::Fail;
 use std::{env, fs};
@@ -82,7 +83,7 @@ fn serve_on(rt: &HostRuntime, words: &[&str]) -> Result<Left, Fail> {
     }
     let mut output = Counted::new(Vec::new(alloc));
     let mut errors = Counted::new(Vec::new(alloc));
-    let status = serve_command(rt, owned.as_slice(), &mut output, &mut errors);
+    let (status, _) = serve_command(rt, owned.as_slice(), Unknown, &mut output, &mut errors);
     Ok(Left {
         status,
         output: output.into_inner(),

@@ -24,7 +24,10 @@ fn count_and_run<S: Alter + Drop>(
 /// The same over a file.
 fn open_and_run(rt: &HostRuntime, path: &str, statements: &[&str]) -> Result<usize, StoreFault> {
     let file = DatabaseFile::at(rt, path)?;
-    count_and_run(rt.alloc(), open_file(rt, &file, Unknown)?, statements)
+    match open_file(rt, &file, Unknown) {
+        Ok(records) => count_and_run(rt.alloc(), records, statements),
+        Err((fault, _)) => Err(fault),
+    }
 }
 
 /// The path of a file in the folder for such, where none stands.
