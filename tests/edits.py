@@ -377,11 +377,12 @@ def try_crate(crate, edits, told):
 
 def pass_unedited(crate, names, kept):
     """Each function that a crate's edits name, with whether it passes without them within half of the search's limits;
-    and those that don't pass."""
-    halved = check(crate, names, [], kept, HALVED)
-    within = {it: bool(HALVED) and halved.passes(it) for it in sorted(names)}
-    judged = halved if all(within.values()) else check(crate, names, [], kept)
-    return within, [f"{crate}: {it} without an edit: {judged.told(it)[:300]}" for it in within if not judged.passes(it)]
+    and those that don't pass. What doesn't within half of them is checked again within all."""
+    first = check(crate, names, [], kept, HALVED)
+    left = {it for it in names if not first.passes(it)}
+    judged = check(crate, left, [], kept) if left and HALVED else first
+    within = {it: bool(HALVED) and it not in left for it in sorted(names)}
+    return within, [f"{crate}: {it} without an edit: {judged.told(it)[:300]}" for it in sorted(left) if not judged.passes(it)]
 
 
 def beside(words, told, jobs):
