@@ -1,5 +1,6 @@
 -- What `serve` leaves of a database file.
 use Rattle.std.proofs.Common.{◌≡◌, ◌≤◌, ℕ, List, sym, subst, arith, Option, Some, None, IfSome, Result, Ok, Err, OnOk, OnErr, IfErr}
+use Rattle.std.proofs.lemmas.Option.{IfSome_then}
 use Rattle.sqlite.specs.Tree.{Trees}
 use Rattle.osb_catalog.specs.Rules.{rules_of}
 use Rattle.osb_catalog.specs.SettingsData.{SettingsData}
@@ -10,10 +11,6 @@ use Rattle.osb_listen.specs.Held.{ServesFrom, IsInUse, LeavesOf}
 use Rattle.osb_cli.specs.declared.fault.Unserved.{Unserved}
 use Rattle.osb_cli.specs.declared.fault.Unserved.TheVariants.{Fault, PlanInUse}
 use Rattle.osb_cli.specs.Serve.{AreAccepted, IsPlan, IsServed, LacksPlan, NameOne, NamesInUse, NamesSome}
-
-pub if_some_weaker : {A : Type 0} (o : Option A) (P Q : A → Type 0) → ((a : A) → P a → Q a) → IfSome o P → IfSome o Q
-if_some_weaker None P Q f known = tt
-if_some_weaker (Some a) P Q f known = f a known
 
 module _ (settings : SettingsData) (accepted : AreAccepted settings) (k count : ℕ) (db : Trees) (new : Lives) (told_old told_new : List ℕ) where
   pub is_served : ServesFrom (rules_of settings) k count db new told_old told_new → IsServed db new told_old told_new
@@ -52,4 +49,4 @@ pub fault_if_4 : {A C : Type 0} (done : Result A Unserved) (status : ℕ) (conn 
     → OnOk done (status ≡ 0) → status ≡ 4 → IfErr done IsPlan → IfErr done (λ fault. IfSome conn (P fault))
     → ((fault : Unserved) → IsPlan fault → (c : C) → P fault c → Q c) → IfSome conn Q
 fault_if_4 (Ok x) status conn P Q zero is plan known f = absurd (omega (arith, is, zero))
-fault_if_4 (Err fault) status conn P Q zero is plan known f = if_some_weaker conn (P fault) Q (f fault plan) known
+fault_if_4 (Err fault) status conn P Q zero is plan known f = IfSome_then conn known (f fault plan)

@@ -90,10 +90,6 @@ module _ (given rules : Rules) (most k all : ℕ) (db : Trees) (old left new : L
   left_at CannotAccept is fewer same = fewer_served (fewer tt)
   left_at FileTaken is fewer same = fewer_served (fewer tt)
 
-pub if_some_weaker : {A : Type 0} (o : Option A) (P Q : A → Type 0) → ((a : A) → P a → Q a) → IfSome o P → IfSome o Q
-if_some_weaker None P Q f known = tt
-if_some_weaker (Some a) P Q f known = f a known
-
 pub on_ok_under : {A E : Type 0} (r : Result A E) (P Q W : Type 0) → (W → OnOk r P) → ((W → P) → Q) → OnOk r Q
 on_ok_under (Ok x) P Q W known f = f known
 on_ok_under (Err e) P Q W known f = tt

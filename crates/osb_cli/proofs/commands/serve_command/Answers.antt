@@ -1,8 +1,9 @@
 use Rattle.std.proofs.Common.{sym, subst}
+use Rattle.std.proofs.lemmas.Option.{IfSome_then}
 use Rattle.sqlite.specs.Files.{file_state}
 use Rattle.osb_records.specs.Steps.{stored}
 use Rattle.osb_cli.specs.Serve.{IsServed}
-use Rattle.osb_cli.proofs.ServeLemmas.{fault_if_4, if_some_weaker, names_some, well_if_0}
+use Rattle.osb_cli.proofs.ServeLemmas.{fault_if_4, names_some, well_if_0}
 use Rattle.osb_cli.proofs.commands.serve_command.Goals as goal
 
 pub returns-clause-served : goal.returns-clause-served
@@ -10,9 +11,8 @@ returns-clause-served g c zero =
     let status = c.serve_status_of in
     let done = c.perform_serve-done in
     let quiet = well_if_0 done.result.0 status.result _ status.ensures.fails zero status.ensures.quiet in
-    if_some_weaker done.result.1 _ _
+    IfSome_then done.result.1 (well_if_0 done.result.0 status.result _ status.ensures.fails zero done.ensures.served)
     (λ conn served works db holds. subst (λ told. IsServed db (stored (file_state conn)) (g.E.Sink.taken c.args.errors.now) told) (sym quiet) (served works db holds))
-    (well_if_0 done.result.0 status.result _ status.ensures.fails zero done.ensures.served)
 
 pub returns-clause-lacks : goal.returns-clause-lacks
 returns-clause-lacks g c four =

@@ -1,14 +1,13 @@
-use Rattle.osb_cli.proofs.ServeLemmas.{if_some_weaker, is_served, names_in_use}
+use Rattle.std.proofs.lemmas.Option.{IfSome_then}
+use Rattle.osb_cli.proofs.ServeLemmas.{is_served, names_in_use}
 use Rattle.osb_cli.proofs.listen.listen.Goals as goal
 
 pub returns-in-Ok-done-clause-served : goal.returns-in-Ok-done-clause-served
 returns-in-Ok-done-clause-served g c =
-    if_some_weaker c.serve_file-done.result.1 _ _
+    IfSome_then c.serve_file-done.result.1 (rw c.in-Ok-done.is at c.serve_file-done.ensures.served)
     (λ conn served works db holds. is_served c.in-Ok.settings c.in-Ok.ensures _ _ db _ _ _ (served works db holds))
-    (rw c.in-Ok-done.is at c.serve_file-done.ensures.served)
 
 pub returns-clause-lacks : goal.returns-clause-lacks
 returns-clause-lacks g c =
-    if_some_weaker c.serve_file-done.result.1 _ _
+    IfSome_then c.serve_file-done.result.1 (rw c.in-Err-done.is at c.serve_file-done.ensures.leaves)
     (λ conn leaves works db holds. names_in_use c.in-Ok.settings c.in-Ok.ensures _ _ db _ _ _ c.in-Err-done.fault c.unserved.result c.unserved.ensures (leaves works db holds))
-    (rw c.in-Err-done.is at c.serve_file-done.ensures.leaves)

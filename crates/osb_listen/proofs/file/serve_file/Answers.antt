@@ -1,19 +1,19 @@
 use Rattle.std.proofs.Common.{◌≡◌, ◌∙◌, sym, ap, subst}
+use Rattle.std.proofs.lemmas.Option.{IfSome_then}
 use Rattle.std.proofs.lemmas.Result.{IfErr-weaker}
 use Rattle.sqlite.specs.Files.{file_state, over_files}
 use Rattle.osb_catalog.specs.Rules as catalog
 use Rattle.osb_records.specs.Steps.{stored}
 use Rattle.osb_broker.specs.Kept.{Works, lives_of, most_of, rules_of}
-use Rattle.osb_listen.proofs.HeldLemmas.{all_served, if_err_under, if_some_weaker, left_at, names_none, on_ok_under, without_broker}
+use Rattle.osb_listen.proofs.HeldLemmas.{all_served, if_err_under, left_at, names_none, on_ok_under, without_broker}
 use Rattle.osb_listen.proofs.file.serve_file.Goals as goal
 
 pub returns-in-Err-broker_over-clause-leaves : goal.returns-in-Err-broker_over-clause-leaves
 returns-in-Err-broker_over-clause-leaves g c =
     let taken = g.E.Sink.taken c.args.errors.now in
-    if_some_weaker c.in-Err-broker_over.conn _ _
+    IfSome_then c.in-Err-broker_over.conn c.in-Err-broker_over.ensures.why
     (λ conn why works db holds. without_broker (catalog.rules_of c.args.settings.now) c.args.per_connection c.args.place.now.connections db
     (stored (file_state conn)) taken taken c.in-Err-broker_over.fault (why works db holds))
-    c.in-Err-broker_over.ensures.why
 
 pub returns-clause-served : goal.returns-clause-served
 returns-clause-served g c =
