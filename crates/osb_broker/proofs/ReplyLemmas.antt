@@ -1,5 +1,5 @@
 -- A request is replied to once its change is made, and handled.
-use Rattle.std.proofs.Common.{◌≡◌, ◌∙◌, Bool, true, false, ◌||◌, Result, Ok, Err, sym, refl, ap, arith}
+use Rattle.std.proofs.Common.{◌≡◌, ◌∙◌, inl, inr, Bool, true, false, ◌||◌, Result, Ok, Err, sym, refl, ap, arith}
 use Rattle.std.specs.Result.{IsErr}
 use Rattle.sqlite.specs.Held.{Held, state}
 use Rattle.sqlite.specs.State.{HasCleanDisk}
@@ -32,6 +32,7 @@ not_prepared {g = g} {old = old} {new = new} (Err f) is gives = record {
   err = gives.stays.same;
   closes = tt;
   was_open = λ clean needs. tt;
+  told = λ before clean. tt;
   plain = λ plain. tt;
   untouched = gives.untouched;
   works = gives.stays.works;
@@ -48,6 +49,7 @@ module _ {S E F : Type 0} {g : Ghosts S} {rules : Rules} {q : Message} {last : B
     err = λ works. settles.err works ∙ gives.stays.same (settles.works works);
     closes = tt;
     was_open = λ clean needs. tt;
+    told = λ before clean. tt;
     plain = λ plain. tt;
     untouched = λ plain. settles.untouched (gives.silent plain) ∙ gives.untouched plain;
     works = λ works. gives.stays.works (settles.works works);
@@ -68,6 +70,7 @@ module _ {S E F : Type 0} {g : Ghosts S} {rules : Rules} {q : Message} {last : B
         err = λ works. tt;
         closes = λ closes. ap (λ (r : ReplyParts). r.close) is ∙ ap (λ b. b || last) closes;
         was_open = λ clean needs. gives.was_open (clean_between clean) needs;
+        told = λ before clean. is ∙ ap (reply_of q last) (gives.ok before (clean_between clean)).answer;
         plain = λ plain lives.
             let step = gives.plain plain lives in
             (is ∙ ap (reply_of q last) step.answer, ap (λ pending. settled pending lives) (sym (gives.silent plain)) ∙ step.lives_are);
@@ -87,6 +90,7 @@ module _ {S : Type 0} {g : Ghosts S} (m : Machine Lives) (rules : Rules) (q : Me
   pub handles_reply : {E : Type 0} {reply : Reply} → NeverFails m → GivesReply {E = E} g rules q last old new (Ok reply) → Handles g m rules q last old new (parts reply)
   handles_reply {reply = reply} never gives = record {
     handled = λ works. (false, stepped m rules q last steps _ _ _ (gives.ok works));
+    told = λ before clean. inr (gives.told before clean ∙ ap (λ (step : Answer × Lives). reply_of q last step.0) (sym (steps _)));
     stays = λ works is. failures_stay m never q last _ (parts reply) _ (false, stepped m rules q last steps _ _ _ (gives.ok works)) is;
     plain = λ plain lives. (false, stepped m rules q last steps lives lives _ (gives.plain plain lives));
     untouched = gives.untouched;
@@ -99,6 +103,7 @@ module _ {S : Type 0} {g : Ghosts S} (m : Machine Lives) (rules : Rules) (q : Me
   pub handles_refusal : {E : Type 0} {e : E} → m.takes_memory q ≡ true → GivesReply g rules q last old new (Err e) → Handles g m rules q last old new refused
   handles_refusal takes gives = record {
     handled = λ works. (true, (takes, refl, gives.err works));
+    told = λ before clean. inl refl;
     stays = λ works is. gives.err works;
     plain = λ plain lives. (true, (takes, refl, refl));
     untouched = gives.untouched;

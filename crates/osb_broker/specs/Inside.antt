@@ -20,7 +20,7 @@ use Rattle.osb_broker.specs.declared.setup.Setup.{Setup}
 use Rattle.osb_broker.specs.declared.prepared.Pending.{Pending}
 use Rattle.osb_broker.specs.declared.prepared.Prepared.{Prepared}
 use Rattle.osb_broker.specs.Kept.{IsShut, Works}
-use Rattle.osb_broker.specs.Machine.{Answered, Handled, Machine}
+use Rattle.osb_broker.specs.Machine.{Answered, Handled, Machine, MayReply, reply_of}
 use Rattle.osb_broker.specs.Prepared.{settled, LastsSettled, Prepares}
 use Rattle.osb_broker.specs.Steps.{lives_after, machine, needs_lives, step_for}
 
@@ -72,6 +72,7 @@ pub record GivesReply {S E : Type 0} (g : Ghosts S) (rules : catalog.Rules) (q :
   pub err : Works (state g new) → OnErr result (stored (state g new) ≡ stored (state g old))
   pub closes : IfOk result (λ reply. closes q ≡ true → (parts reply).close ≡ true)
   pub was_open : HasCleanDisk (state g new) → needs_lives (ask_of rules q) ≡ true → OnOk result (IsTrue (state g old).is_open)
+  pub told : Works (state g old) → HasCleanDisk (state g new) → IfOk result (λ reply. parts reply ≡ reply_of q last ((machine rules).step (stored (state g old)) q).0)
   pub plain : needs_lives (ask_of rules q) ≡ false → IfOk result (λ reply. (lives : Lives) → Answered (machine rules) q last false lives (parts reply) lives)
   pub untouched : needs_lives (ask_of rules q) ≡ false → new ≡ old
   pub works : Works (state g new) → Works (state g old)
@@ -81,6 +82,7 @@ pub record GivesReply {S E : Type 0} (g : Ghosts S) (rules : catalog.Rules) (q :
 -- A request was handled by a machine of these rules: it took the machine's step, or met a refusal and left the lives.
 pub record Handles {S : Type 0} (g : Ghosts S) (machine : Machine Lives) (rules : catalog.Rules) (q : Message) (last : Bool) (old new : Held S) (reply : ReplyParts) : Type 0 where
   pub handled : Works (state g new) → Handled machine q last (stored (state g old)) reply (stored (state g new))
+  pub told : Works (state g old) → HasCleanDisk (state g new) → MayReply machine q last (stored (state g old)) reply
   pub stays : Works (state g new) → is_500 reply.status ≡ true → stored (state g new) ≡ stored (state g old)
   pub plain : needs_lives (ask_of rules q) ≡ false → (lives : Lives) → Handled machine q last lives reply lives
   pub untouched : needs_lives (ask_of rules q) ≡ false → new ≡ old

@@ -1,5 +1,5 @@
 -- The machine that answers requests, one step for each, and the replies that it gives.
-use Rattle.std.specs.Prelude.{◌≡◌, ℕ, Bool, true, false, ◌||◌, List, Option, None, codes}
+use Rattle.std.specs.Prelude.{◌≡◌, ◌⊎◌, ℕ, Bool, true, false, ◌||◌, List, Option, None, codes}
 use Rattle.osb_frames.specs.declared.step.StopKind.{StopKind}
 use Rattle.osb_frames.specs.declared.step.StopKind.TheVariants.{NoHead, Host, Coding, Length, TooLarge, Cut}
 use Rattle.osb_frames.specs.Fields.{values_of, first_value}
@@ -58,3 +58,7 @@ Answered machine q last false s reply t =
 -- the same, marked or not
 abbrev pub Handled : {S : Type 0} → Machine S → Message → Bool → S → ReplyParts → S → Type 0
 Handled machine q last s reply t = (mark : Bool) × Answered machine q last mark s reply t
+
+-- from the state s this may be the reply: that of the machine's step, or the fixed one of a refusal
+abbrev pub MayReply : {S : Type 0} → Machine S → Message → Bool → S → ReplyParts → Type 0
+MayReply machine q last s reply = (reply ≡ refused) ⊎ (reply ≡ reply_of q last (machine.step s q).0)

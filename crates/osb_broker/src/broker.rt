@@ -17,7 +17,7 @@ ghost use Rattle.osb_records.specs.Commit.{Commits};
 ghost use Rattle.osb_records.specs.Kept.{KeepsLives};
 ghost use Rattle.osb_records.specs.Steps.{LeavesOnly, stored};
 ghost use Rattle.osb_laws.specs.Failures.{is_500};
-ghost use Rattle.osb_broker.specs.Machine.{Handled};
+ghost use Rattle.osb_broker.specs.Machine.{Handled, MayReply};
 ghost use Rattle.osb_broker.specs.Plans.{first_lacking, NamesLacking, OffersInUse, Tells};
 ghost use Rattle.osb_broker.specs.Steps.{lives_after, machine, crowded, needs_lives};
 
@@ -126,6 +126,9 @@ impl<'s, S: Alter> Broker<'s, S> {
         ensures handled { Works (store_of S.Store self.new) →
             Handled (machine (rules_of self.old)) (message request.now) last
             (lives_of S.Store self.old) (parts result) (lives_of S.Store self.new) }
+        ensures told { Works (store_of S.Store self.old) →
+            HasCleanDisk (store_of S.Store self.new) → MayReply (machine (rules_of self.old))
+            (message request.now) last (lives_of S.Store self.old) (parts result) }
         ensures stays { Works (store_of S.Store self.new) → is_500 (parts result).status ≡ true →
             lives_of S.Store self.new ≡ lives_of S.Store self.old }
         ensures closes { closes (message request.now) ≡ true → (parts result).close ≡ true }

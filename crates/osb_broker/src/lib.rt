@@ -16,7 +16,7 @@ pub mod memory;
 mod per_connection;
 mod plans;
 mod prepared;
-mod refuse;
+pub mod refuse;
 mod rooms;
 mod runs;
 mod serve;
