@@ -1,9 +1,9 @@
 -- Which lives the next run finds.
-use Rattle.std.proofs.Common.{◌≡◌, ◌⊎◌, inl, inr, IsTrue, Result, Ok, Err, OnOk, is_ok, sym, ap, ◌∙◌}
+use Rattle.std.proofs.Common.{◌≡◌, ◌⊎◌, inl, inr, IsTrue, Result, Ok, Err, OnOk, is_ok, sym, ap, subst, ◌∙◌}
 use Rattle.std.proofs.lemmas.Bool.{false≢true}
 use Rattle.std.proofs.Math.Logic.{∥∥₁_elim, ∥∥₁_map}
 use Rattle.sqlite.specs.Tree.{Trees}
-use Rattle.sqlite.specs.State.{State, HasCleanDisk, Survives}
+use Rattle.sqlite.specs.State.{State, HasCleanDisk, IsLive, Opens, Survives}
 use Rattle.sqlite_catalog.proofs.ReadLemmas.{lists_once}
 use Rattle.osb_tables.specs.Tables.{no_schema, second_schema}
 use Rattle.osb_tables.specs.declared.schema.Indexes.TheVariants.{Both}
@@ -11,9 +11,10 @@ use Rattle.osb_tables.proofs.SchemaLemmas.{versions_apart, second_is_something}
 use Rattle.osb_orders.specs.Lives.{Lives}
 use Rattle.osb_records.specs.Stored.{lives_stored}
 use Rattle.osb_records.specs.Kept.{KeepsLives}
-use Rattle.osb_records.specs.Opened.{StandIn}
+use Rattle.osb_records.specs.Opened.{HoldsSame, StandIn}
 use Rattle.osb_records.specs.Steps.{HoldsLives}
 use Rattle.osb_file.specs.File.{AreLivesOf}
+use Rattle.osb_file.proofs.FileLemmas.{opened_stand}
 use Rattle.osb_restart.specs.Restart.{MayFind}
 use Rattle.osb_restart.proofs.LivesLemmas.{Lives-set}
 
@@ -31,6 +32,14 @@ stored_are_found db lives found holds stand = go stand.2
 
 pub held_are_found : (db : Trees) (lives found : Lives) → HoldsLives lives db → AreLivesOf db found → found ≡ lives
 held_are_found db lives found holds stand = stored_are_found db lives found holds stand ∙ holds.lives_are
+
+-- a crash of a run that took over what it opened leaves the lives of what it opened
+pub holds_same : (conn : State) (db : Trees) → Opens conn → IsLive conn → ((left : Trees) → conn.may_leave left → left ≡ conn.committed.trees)
+    → conn.may_leave db ⊎ HoldsSame conn.now db → (lives : Lives) → HoldsLives lives conn.committed.trees → HoldsLives lives db
+holds_same conn db opens live only (inl left) lives holds = subst (HoldsLives lives) (sym (only db left)) holds
+holds_same conn db opens live only (inr (same, stand, again)) lives holds =
+    let is : same ≡ lives = held_are_found conn.committed.trees lives same holds (opened_stand conn same opens live stand) in
+    subst (λ (l : Lives). HoldsLives l db) is again
 
 pub where_ok : {A E : Type 0} (result : Result A E) (P : Type 0) → IsTrue (is_ok result) → OnOk result P → P
 where_ok (Ok value) P told holds = holds
