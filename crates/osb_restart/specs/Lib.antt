@@ -1,1 +1,3 @@
 pub mod Restart
+pub mod Lived
+pub mod Inside
