@@ -1,2 +1,4 @@
-mod InputLemmas
+mod DoneLemmas
 mod ServeLemmas
+mod StatusLemmas
+mod WordLemmas

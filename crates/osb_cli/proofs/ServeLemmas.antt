@@ -10,11 +10,14 @@ use Rattle.osb_listen.specs.declared.fault.ListenFault.TheVariants as listen
 use Rattle.osb_listen.specs.Held.{ServesFrom, IsInUse, LeavesOf}
 use Rattle.osb_cli.specs.declared.fault.Unserved.{Unserved}
 use Rattle.osb_cli.specs.declared.fault.Unserved.TheVariants.{Fault, PlanInUse}
-use Rattle.osb_cli.specs.Serve.{AreAccepted, IsPlan, IsServed, LacksPlan, NameOne, NamesInUse, NamesSome}
+use Rattle.osb_cli.specs.Settings.{AreAccepted}
+use Rattle.osb_cli.specs.Words.{AsksServe, Found}
+use Rattle.osb_cli.specs.declared.words.Listen.{Listen}
+use Rattle.osb_cli.specs.Serve.{IsPlan, IsServed, IsServedAs, LacksPlan, NameOne, NamesInUse, NamesSome}
 
 module _ (settings : SettingsData) (accepted : AreAccepted settings) (k count : ℕ) (db : Trees) (new : Lives) (told_old told_new : List ℕ) where
-  pub is_served : ServesFrom (rules_of settings) k count db new told_old told_new → IsServed db new told_old told_new
-  is_served served = record { settings = settings; accepted = accepted; per_connection = k; connections = count; served = served }
+  pub is_served : ServesFrom (rules_of settings) k count db new told_old told_new → IsServed k count db new told_old told_new
+  is_served served = record { settings = settings; accepted = accepted; served = served }
 
   lacking : (service plan found named : List ℕ) → found ≡ service → named ≡ plan → IsInUse (rules_of settings) db service plan → LacksPlan db found named
   lacking service plan found named is_service is_plan lacks = record {
@@ -34,15 +37,21 @@ module _ (settings : SettingsData) (accepted : AreAccepted settings) (k count : 
   names_in_use listen.CannotAccept (PlanInUse found named) one leaves = absurd one
   names_in_use listen.FileTaken (PlanInUse found named) one leaves = absurd one
 
+-- as many connections as the words say
+pub served_as : (found : Found) (asked : Listen) (db : Trees) (new : Lives) (told_old told_new : List ℕ) → AsksServe found asked
+    → IsServed asked.per_connection.number asked.place.connections db new told_old told_new → IsServedAs found db new told_old told_new
+served_as found asked db new told_old told_new asks served = record {
+  per_connection = asked.per_connection.number;
+  of_each = asks.per_connection;
+  connections = asked.place.connections;
+  of_all = asks.connections;
+  served = served;
+}
+
 -- a fault that names a plan names one that is lacking
 pub names_some : (db : Trees) (fault : Unserved) → IsPlan fault → NamesInUse db fault → NamesSome db
 names_some db (PlanInUse service plan) is lacks = (service, plan, lacks)
 names_some db (Fault fault) is lacks = absurd is
-
--- what was done well has the status 0
-pub well_if_0 : {A E : Type 0} (done : Result A E) (status : ℕ) (P : Type 0) → OnErr done (1 ≤ status) → status ≡ 0 → OnOk done P → P
-well_if_0 (Ok x) status P fails is known = known
-well_if_0 (Err fault) status P fails is known = absurd (omega (arith, is, fails))
 
 -- a fault of status 4 says what it says of the connection
 pub fault_if_4 : {A C : Type 0} (done : Result A Unserved) (status : ℕ) (conn : Option C) (P : Unserved → C → Type 0) (Q : C → Type 0)

@@ -1,7 +1,6 @@
 -- What `serve` leaves of a database file, of which is supposed what it held.
-use Rattle.std.specs.Prelude.{◌≡◌, ℕ, List, Ok, ⊤}
+use Rattle.std.specs.Prelude.{◌≡◌, ℕ, List, ⊤}
 use Rattle.sqlite.specs.Tree.{Trees}
-use Rattle.osb_catalog.specs.Faults.{settings_of}
 use Rattle.osb_catalog.specs.Rules.{rules_of}
 use Rattle.osb_catalog.specs.SettingsData.{SettingsData}
 use Rattle.osb_orders.specs.Lives.{Lives}
@@ -10,18 +9,22 @@ use Rattle.osb_listen.specs.declared.fault.ListenFault.TheVariants as listen
 use Rattle.osb_listen.specs.Held.{ServesFrom, IsInUse}
 use Rattle.osb_cli.specs.declared.fault.Unserved.{Unserved}
 use Rattle.osb_cli.specs.declared.fault.Unserved.TheVariants.{Fault, PlanInUse}
+use Rattle.osb_cli.specs.Settings.{AreAccepted}
+use Rattle.osb_cli.specs.Words.{Found, HasConnections, HasPerConnection}
 
--- some file has these settings
-abbrev pub AreAccepted : SettingsData → Type 0
-AreAccepted settings = (file : List ℕ) × (settings_of file ≡ Ok settings)
-
--- connections were served, by accepted settings, from the lives that stand in these trees
-pub record IsServed (db : Trees) (new : Lives) (told_old told_new : List ℕ) : Type 0 where
+-- so many connections were served, by accepted settings, from the lives that stand in these trees
+pub record IsServed (per_connection connections : ℕ) (db : Trees) (new : Lives) (told_old told_new : List ℕ) : Type 0 where
   pub settings : SettingsData
   pub accepted : AreAccepted settings
-  pub per_connection : ℕ
-  pub connections : ℕ
   pub served : ServesFrom (rules_of settings) per_connection connections db new told_old told_new
+
+-- as many as the words say
+pub record IsServedAs (found : Found) (db : Trees) (new : Lives) (told_old told_new : List ℕ) : Type 0 where
+  pub per_connection : ℕ
+  pub of_each : HasPerConnection found per_connection
+  pub connections : ℕ
+  pub of_all : HasConnections found connections
+  pub served : IsServed per_connection connections db new told_old told_new
 
 -- accepted settings lack this plan, which the lives in these trees have in use
 pub record LacksPlan (db : Trees) (service plan : List ℕ) : Type 0 where

@@ -1,33 +1,36 @@
 //! What the words ask for, done.
 
-ghost use Rattle.std.specs.Prelude.{◌≡◌, ◌≤◌, None, IfSome, IfErr, OnOk, OnErr};
+ghost use Rattle.std.specs.Prelude.{◌≡◌, ◌≤◌, [], map, string_bytes, None, IfSome};
+ghost use Rattle.std.specs.Prelude.{IsErr, IfErr, OnOk, OnErr};
+ghost use Rattle.clap.specs.Words.{kind_of};
 ghost use Rattle.sqlite.specs.Tree.{Trees};
 ghost use Rattle.sqlite_wal.specs.Files.{image_at};
 ghost use Rattle.sqlite.specs.Files.{file_state, HoldsDatabase};
 ghost use Rattle.osb_records.specs.Steps.{stored};
 ghost use Rattle.osb_broker.specs.Kept.{Works};
-ghost use Rattle.osb_cli.specs.Serve.{IsPlan, IsServed, NamesInUse, NamesSome};
+ghost use Rattle.osb_cli.specs.Done.{IsDone, IsReplayedBy, IsReplayedFor};
+ghost use Rattle.osb_cli.specs.Serve.{IsPlan, IsServedAs, NamesInUse, NamesSome};
+ghost use Rattle.osb_cli.specs.Words.{AreTaken, found_by};
 
 use crate::check::check;
 use crate::fault::{Fault, Unserved};
 use crate::listen::listen;
+use crate::output::write;
 use crate::replay::{replay_files, replay_input};
 use crate::settings::settings_or_built_in;
 use crate::words::{Order, Replay, read};
 use clap::Error;
 use clap::error::ErrorKind;
 use osb_file::Opened;
-use osb_frames::{Sink, Source, send_all};
+use osb_frames::{Sink, Source};
 use sqlite::Start;
 use std::alloc::Global;
 
 /// The text of clap's answer to words that aren't those of a command: an error, or the help or the
 /// version that was asked for.
-fn answer_words<W: Sink>(
-    alloc: Global,
-    error: &Error,
-    output: &mut W,
-) -> Result<(), Fault<'static>> {
+fn answer_words<W: Sink>(alloc: Global, error: &Error, output: &mut W) -> Result<(), Fault<'static>>
+    ensures { kind_of error.now ≡ ErrorKind.OutOfMemory → IsErr result }
+{
     if error.kind() == ErrorKind::OutOfMemory {
         return Err(Fault::OutOfMemory);
     }
@@ -35,10 +38,7 @@ fn answer_words<W: Sink>(
     if error.use_stderr() {
         return Err(Fault::Words(text));
     }
-    match send_all(output, text.as_bytes()) {
-        Ok(()) => Ok(()),
-        Err(_) => Err(Fault::CannotWrite),
-    }
+    write(output, text.as_bytes())
 }
 
 /// Serves the connections that the words name, or standard input.
@@ -47,7 +47,10 @@ fn replay<'a, R: Source, W: Sink>(
     asked: &Replay<'a>,
     input: &mut R,
     output: &mut W,
-) -> Result<(), Fault<'a>> {
+) -> Result<(), Fault<'a>>
+    ensures { OnOk result (IsReplayedFor asked.now (R.rest input.old)
+        (W.taken output.old) (W.taken output.new)) }
+{
     let settings = settings_or_built_in(rt, asked.settings)?;
     let names = asked.connections.as_slice();
     if names.is_empty() {
@@ -62,7 +65,11 @@ fn perform<'a, R: Source, W: Sink>(
     words: &'a [String],
     input: &mut R,
     output: &mut W,
-) -> Result<(), Fault<'a>> {
+) -> Result<(), Fault<'a>>
+    ensures { AreTaken (map string_bytes words.now) →
+        OnOk result (IsDone (found_by (map string_bytes words.now)) (R.rest input.old)
+        (W.taken output.old) (W.taken output.new)) }
+{
     let order = match read(rt.alloc(), words) {
         Ok(order) => order,
         Err(error) => return answer_words(rt.alloc(), &error, output),
@@ -75,7 +82,9 @@ fn perform<'a, R: Source, W: Sink>(
 }
 
 /// The fault of words that name a command which is done elsewhere.
-fn other_command(alloc: Global, line: &str) -> Result<(), Fault<'static>> {
+fn other_command(alloc: Global, line: &str) -> Result<(), Fault<'static>>
+    ensures { IsErr result }
+{
     let text = String::from_str(alloc, line)?;
     Err(Fault::Words(text))
 }
@@ -99,7 +108,8 @@ fn perform_serve<'a, S: Start, W: Sink, E: Sink>(
 ) -> (Result<(), Unserved<'a>>, Opened<S>)
     ensures served { OnOk result.0 (IfSome result.1 (λ conn. Works (file_state conn) →
         (db : Trees) → HoldsDatabase (image_at S.Start) db →
-        IsServed db (stored (file_state conn)) (E.taken errors.old) (E.taken errors.new))) }
+        IsServedAs (found_by (map string_bytes words.now)) db (stored (file_state conn))
+        (E.taken errors.old) (E.taken errors.new))) }
     ensures lacks { IfErr result.0 (λ fault. IfSome result.1 (λ conn. Works (file_state conn) →
         (db : Trees) → HoldsDatabase (image_at S.Start) db → NamesInUse db fault)) }
 {
@@ -117,7 +127,8 @@ fn perform_serve<'a, S: Start, W: Sink, E: Sink>(
 
 /// The status of what was done. A fault has a line on `errors`.
 fn status_of<E: Sink>(done: Result<(), Fault<'_>>, errors: &mut E) -> u8
-    ensures { result ≤ 3 }
+    ensures most { result ≤ 3 }
+    ensures fails { OnErr done.entry (1 ≤ result) }
 {
     match done {
         Ok(()) => 0,
@@ -147,6 +158,10 @@ fn serve_status_of<E: Sink>(done: Result<(), Unserved<'_>>, errors: &mut E) -> u
 /// ends with: 0 where all went well or help or the version was asked for, 1 where a file, memory or standard
 /// output failed, 2 where the words aren't those of `check` or `replay`, 3 where settings aren't
 /// accepted. A status other than 0 has a line on `errors`; a failed write there is passed over.
+///
+/// Where the words are those of a command, so no help was asked for, what was written with status 0 is
+/// the line of `check`, or exactly the replies of `replay`; of files nothing is said but that each is a
+/// connection. Without any words it replays the whole input with the built-in settings, one request.
 pub fn run<R: Source, W: Sink, E: Sink>(
     rt: &HostRuntime,
     words: &[String],
@@ -154,7 +169,12 @@ pub fn run<R: Source, W: Sink, E: Sink>(
     output: &mut W,
     errors: &mut E,
 ) -> u8
-    ensures { result ≤ 3 }
+    ensures most { result ≤ 3 }
+    ensures done { AreTaken (map string_bytes words.now) → result ≡ 0 →
+        IsDone (found_by (map string_bytes words.now)) (R.rest input.old)
+        (W.taken output.old) (W.taken output.new) }
+    ensures plain { words.now ≡ [] → result ≡ 0 →
+        IsReplayedBy None 1 [] (R.rest input.old) (W.taken output.old) (W.taken output.new) }
 {
     let done = perform(rt, words, input, output);
     status_of(done, errors)
@@ -180,7 +200,8 @@ pub fn serve_command<S: Start, W: Sink, E: Sink>(
     ensures most { result.0 ≤ 4 }
     ensures served { result.0 ≡ 0 → IfSome result.1 (λ conn. Works (file_state conn) →
         (db : Trees) → HoldsDatabase (image_at S.Start) db →
-        IsServed db (stored (file_state conn)) (E.taken errors.old) (E.taken errors.new)) }
+        IsServedAs (found_by (map string_bytes words.now)) db (stored (file_state conn))
+        (E.taken errors.old) (E.taken errors.new)) }
     ensures lacks { result.0 ≡ 4 → IfSome result.1 (λ conn. Works (file_state conn) →
         (db : Trees) → HoldsDatabase (image_at S.Start) db → NamesSome db) }
 {

@@ -96,10 +96,9 @@ pub(crate) fn read_file<'a>(rt: &HostRuntime, name: &'a str) -> Result<Vec<u8>, 
 }
 
 /// Reads files, in the order of their names.
-pub(crate) fn read_files<'a>(
-    rt: &HostRuntime,
-    names: &[&'a str],
-) -> Result<Vec<Vec<u8>>, Fault<'a>> {
+pub(crate) fn read_files<'a>(rt: &HostRuntime, names: &[&'a str]) -> Result<Vec<Vec<u8>>, Fault<'a>>
+    ensures { IfOk result (λ files. length files.items ≡ length names.now) }
+{
     let mut files = Vec::with_capacity(rt.alloc(), names.len())?;
     for name in names {
         let bytes = read_file(rt, name)?;

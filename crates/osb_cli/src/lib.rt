@@ -5,8 +5,10 @@
 mod check;
 mod commands;
 mod fault;
+mod grammar;
 mod input;
 mod listen;
+mod output;
 mod per_connection;
 mod replay;
 mod settings;

@@ -43,7 +43,8 @@ pub(crate) fn listen<'a, S: Start, W: Sink, E: Sink>(
 ) -> (Result<(), Unserved<'a>>, Opened<S>)
     ensures served { OnOk result.0 (IfSome result.1 (λ conn. Works (file_state conn) →
         (db : Trees) → HoldsDatabase (image_at S.Start) db →
-        IsServed db (stored (file_state conn)) (E.taken errors.old) (E.taken errors.new))) }
+        IsServed asked.now.per_connection.number asked.now.place.connections db (stored (file_state conn))
+        (E.taken errors.old) (E.taken errors.new))) }
     ensures lacks { IfErr result.0 (λ fault. IfSome result.1 (λ conn. Works (file_state conn) →
         (db : Trees) → HoldsDatabase (image_at S.Start) db → NamesInUse db fault)) }
 {

@@ -1,27 +1,27 @@
 //! `replay`: the bytes of connections, and the replies to them.
 
-ghost use Rattle.std.specs.Prelude.{◌≡◌, ◌∷◌, [], ◌++◌, map, vec_items, IfSome, OnOk};
+ghost use Rattle.std.specs.Prelude.{◌≡◌, ◌∷◌, [], ◌++◌, ℕ, List, length, map, vec_items, IfSome, OnOk};
 ghost use Rattle.std.specs.List.{concat};
 ghost use Rattle.osb_catalog.specs.Rules.{rules_of};
 ghost use Rattle.osb_cli.specs.Replay.{IsReplayed};
 
 use crate::fault::Fault;
 use crate::input::{read_files, read_input};
+use crate::output::write;
 use crate::per_connection::PerConnection;
 use osb_broker::memory;
 use osb_catalog::Settings;
-use osb_frames::{Sink, Source, send_all};
+use osb_frames::{Sink, Source};
 use osb_records::{StoreFault, open_memory};
 use std::alloc::Global;
 
 /// Writes the outputs one after the other, with nothing between.
 fn write_outputs<W: Sink>(outputs: &[Vec<u8>], output: &mut W) -> Result<(), Fault<'static>>
-    ensures { OnOk result (W.taken output.new ≡ W.taken output.old ++ concat (map vec_items outputs.now)) }
+    ensures { OnOk result (W.taken output.new
+        ≡ W.taken output.old ++ concat (map vec_items outputs.now)) }
 {
     for bytes in outputs {
-        if send_all(output, bytes.as_slice()).is_err() {
-            return Err(Fault::CannotWrite);
-        }
+        write(output, bytes.as_slice())?;
     }
     Ok(())
 }
@@ -34,7 +34,8 @@ fn serve_connections<W: Sink>(
     connections: &[Vec<u8>],
     output: &mut W,
 ) -> Result<(), Fault<'static>>
-    ensures { OnOk result (IsReplayed (rules_of settings.now) per_connection.number (map vec_items connections.now) (W.taken output.old) (W.taken output.new)) }
+    ensures { OnOk result (IsReplayed (rules_of settings.now) per_connection.number
+        (map vec_items connections.now) (W.taken output.old) (W.taken output.new)) }
 {
     let records = open_memory(alloc)?;
     let Ok(mut broker) = memory::new(alloc, settings, records, per_connection.number()) else {
@@ -53,8 +54,9 @@ pub(crate) fn replay_input<R: Source, W: Sink>(
     input: &mut R,
     output: &mut W,
 ) -> Result<(), Fault<'static>>
-    ensures { OnOk result (IfSome (R.rest input.old) (λ all.
-        IsReplayed (rules_of settings.now) per_connection.number (all ∷ []) (W.taken output.old) (W.taken output.new))) }
+    ensures { OnOk result ((bytes : List ℕ) × IfSome (R.rest input.old) (λ all. all ≡ bytes)
+        × IsReplayed (rules_of settings.now) per_connection.number (bytes ∷ [])
+        (W.taken output.old) (W.taken output.new)) }
 {
     let bytes = read_input(alloc, input)?;
     serve_connections(alloc, settings, per_connection, &[bytes], output)
@@ -67,7 +69,11 @@ pub(crate) fn replay_files<'a, W: Sink>(
     per_connection: PerConnection,
     names: &[&'a str],
     output: &mut W,
-) -> Result<(), Fault<'a>> {
+) -> Result<(), Fault<'a>>
+    ensures { OnOk result ((files : List (List ℕ)) × (length files ≡ length names.now)
+        × IsReplayed (rules_of settings.now) per_connection.number files
+        (W.taken output.old) (W.taken output.new)) }
+{
     let connections = read_files(rt, names)?;
     serve_connections(
         rt.alloc(),

@@ -1,8 +1,8 @@
 //! The settings that a command is given.
 
-ghost use Rattle.std.specs.Prelude.{◌≡◌, Ok, IfOk};
+ghost use Rattle.std.specs.Prelude.{◌≡◌, Ok, IfOk, option_map};
 ghost use Rattle.osb_catalog.specs.Faults.{settings_of};
-ghost use Rattle.osb_cli.specs.Serve.{AreAccepted};
+ghost use Rattle.osb_cli.specs.Settings.{AreAccepted, AreSettingsOf, built_in};
 
 use crate::fault::Fault;
 use crate::input::read_file;
@@ -28,15 +28,22 @@ pub(crate) fn read_settings<'a>(rt: &HostRuntime, file: &'a str) -> Result<Setti
     settings_of(rt.alloc(), text.as_slice())
 }
 
+/// The text of the built-in settings.
+fn built_in() -> &'static str
+    ensures { result.now ≡ built_in }
+{
+    BUILT_IN
+}
+
 /// Reads the settings of a file, or the built-in ones where none is named.
 pub(crate) fn settings_or_built_in<'a>(
     rt: &HostRuntime,
     file: Option<&'a str>,
 ) -> Result<Settings, Fault<'a>>
-    ensures { IfOk result AreAccepted }
+    ensures { IfOk result (AreSettingsOf (option_map (λ it. it.now) file.entry)) }
 {
     match file {
         Some(file) => read_settings(rt, file),
-        None => settings_of(rt.alloc(), BUILT_IN.as_bytes()),
+        None => settings_of(rt.alloc(), built_in().as_bytes()),
     }
 }

@@ -1,0 +1,20 @@
+use Rattle.std.proofs.Common.{rules, ◌∙◌, refl, codes}
+use Rattle.clap.specs.Words.{found_of}
+use Rattle.clap.proofs.WalkLemmas.{first_value-rows}
+use Rattle.osb_cli.proofs.WordLemmas.{text_or}
+use Rattle.osb_cli.proofs.words.serve_order.Goals as goal
+
+pub returns : goal.returns
+returns c =
+    let found = found_of c.args.found.now in
+    record {
+      named = refl;
+      settings = text_or _ _ _ _ c.unwrap_or.ensures (c.get_str.ensures ∙ first_value-rows found (codes "settings"));
+      database = text_or _ _ _ _ c.unwrap_or-2.ensures (c.get_str-2.ensures ∙ first_value-rows found (codes "database"));
+      address = text_or _ _ _ _ c.unwrap_or-3.ensures (c.get_str-3.ensures ∙ first_value-rows found (codes "listen"));
+      connections = c.connections_of.ensures;
+      per_connection = c.per_connection_of.ensures;
+      seconds = c.time_limit_of.result;
+      time_limit = search rules;
+      limit = c.time_limit_of.ensures;
+    }

@@ -1,0 +1,44 @@
+-- What a command that ends with status 0 has written.
+use Rattle.std.specs.Prelude.{◌≡◌, ℕ, List, [], ◌∷◌, ◌++◌, length, codes, decimal, map, Option, option_map, IfSome}
+use Rattle.osb_catalog.specs.Rules.{rules_of}
+use Rattle.osb_catalog.specs.SettingsData.{SettingsData}
+use Rattle.osb_cli.specs.Replay.{IsReplayed}
+use Rattle.osb_cli.specs.Settings.{AreAccepted, AreSettingsOf}
+use Rattle.osb_cli.specs.declared.words.Replay.{Replay}
+use Rattle.osb_cli.specs.Words.{Found, HasPerConnection, Names, text_in, texts_in}
+
+abbrev pub counts_line : ℕ → ℕ → List ℕ
+counts_line services plans =
+    codes "services " ++ (decimal services ++ (codes ", plans " ++ (decimal plans ++ codes "\n")))
+
+-- the line of accepted settings was written
+pub record IsChecked (old new : List ℕ) : Type 0 where
+  pub settings : SettingsData
+  pub accepted : AreAccepted settings
+  pub written : new ≡ old ++ counts_line (length settings.services) (length settings.plans)
+
+-- a connection for each of these files; without any, all of the input is one, as far as it is known
+abbrev pub AreConnections : List (List ℕ) → Option (List ℕ) → List (List ℕ) → Type 0
+AreConnections [] input connections =
+    (bytes : List ℕ) × (connections ≡ bytes ∷ []) × IfSome input (λ all. all ≡ bytes)
+AreConnections (name ∷ names) input connections = length connections ≡ length (name ∷ names)
+
+-- the replies to the connections of these files, or of the input, were written, from a broker with the settings of
+-- this file, or the built-in ones
+pub record IsReplayedBy (file : Option (List ℕ)) (most : ℕ) (names : List (List ℕ)) (input : Option (List ℕ)) (old new : List ℕ) : Type 0 where
+  pub settings : SettingsData
+  pub are : AreSettingsOf file settings
+  pub connections : List (List ℕ)
+  pub given : AreConnections names input connections
+  pub replayed : IsReplayed (rules_of settings) most connections old new
+
+-- as a replay was asked for
+abbrev pub IsReplayedFor : Replay → Option (List ℕ) → List ℕ → List ℕ → Type 0
+IsReplayedFor asked = IsReplayedBy (option_map (λ it. it.now) asked.settings) asked.per_connection.number
+    (map (λ it. it.now) asked.connections.items)
+
+-- what `check` has written, and what any other command
+pub record IsDone (found : Found) (input : Option (List ℕ)) (old new : List ℕ) : Type 0 where
+  pub check : Names (codes "check") found → IsChecked old new
+  pub replay : ¬ Names (codes "check") found → (most : ℕ) × HasPerConnection found most
+      × IsReplayedBy (text_in (codes "settings") found) most (texts_in (codes "connections") found) input old new

@@ -1,0 +1,198 @@
+//! The commands, the words that each takes, and the texts of their help.
+
+ghost use Rattle.std.specs.Prelude.{◌≡◌, false, IfOk, IfErr, codes};
+ghost use Rattle.clap.specs.Words.{app_of, new_app, rule_of, kind_of};
+ghost use Rattle.osb_cli.specs.Grammar.{check_command, files_word, number_option, osb_broker, replay_command, required_option, serve_command, text_option};
+
+use clap::error::ErrorKind;
+use clap::{Arg, ArgAction, Command, Error, value_parser};
+use std::alloc::Global;
+
+/// The version that `--version` prints.
+const VERSION: &str = "0.1.0";
+
+const ABOUT: &str = "The broker end of the Open Service Broker API 2.17";
+
+const STATUS: &str = "With no command it does `replay`.
+
+Status:
+  0  all went well, or help or the version was asked for
+  1  a file can't be read or is too large, the database is refused or isn't
+     one of this broker, its file is taken away, memory is refused, standard
+     output doesn't take what is written, or connections can't be taken
+  2  the words are not those of a command
+  3  the settings are not accepted
+  4  the settings lack a plan that the database has in use
+With any status but 0 a line on standard error says why.";
+
+const CHECK: &str = "Check a settings file";
+
+const CHECK_MORE: &str = "Prints the number of services and of plans in the catalog, as
+`services 1, plans 2`; or on standard error the first fault of the settings,
+as `settings: 2 Missing id`. docs/SETTINGS.md lists the fields and the faults.";
+
+const REPLAY: &str = "Answer the requests in files or on standard input";
+
+const REPLAY_MORE: &str = "Each file is one connection; without any, standard input is one. They are
+all read to their ends, at most 16777216 bytes each, before the first request.
+Then they are served one after the other, and the replies are written to
+standard output with nothing between. The broker keeps what it is told for as
+long as it runs.";
+
+const SERVE: &str = "Serve connections at an address";
+
+const SERVE_MORE: &str =
+    "Prints `listening on ADDR`, and then takes one connection after the other. A
+connection that fails, or isn't done in time, is a line on standard error,
+`connection: read` or `connection: write`, and the next one is taken. The
+broker keeps its orders in the database: a change is there before its request
+is answered, and stays there however the program ends. A file that isn't there
+is made, for its owner alone. What has not been copied into it yet stands in a
+second file, its name with `-wal` behind. Once the file is taken away, no
+connection is answered, and the program ends.";
+
+const SERVE_USAGE: &str =
+    "osb-broker serve --settings FILE --database FILE --listen ADDR [--per-connection N] [--connections N] [--time-limit SECONDS]";
+
+/// `--ID VALUE`, which may be left out.
+fn text_option<'a>(alloc: Global, id: &'a str, value: &'a str, help: &'a str) -> Arg<'a>
+    ensures rule { rule_of result ≡ text_option id.now }
+    ensures local { result.global ≡ false }
+{
+    Arg::new(alloc, id).long(id).value_name(value).help(help)
+}
+
+/// `--ID VALUE`, which has to be there.
+fn required_option<'a>(alloc: Global, id: &'a str, value: &'a str, help: &'a str) -> Arg<'a>
+    ensures rule { rule_of result ≡ required_option id.now }
+    ensures local { result.global ≡ false }
+{
+    text_option(alloc, id, value, help).required(true)
+}
+
+/// `--per-connection` and its number.
+fn per_connection_option<'a>(alloc: Global) -> Arg<'a>
+    ensures rule { rule_of result ≡ number_option (codes "per-connection") 1000 }
+    ensures local { result.global ≡ false }
+{
+    Arg::new(alloc, "per-connection")
+        .long("per-connection")
+        .value_name("N")
+        .help("How many requests of a connection are answered, 1 to 1000; without it 1")
+        .value_parser(value_parser!(u32).range(1..=1000))
+}
+
+/// `--connections` and its number.
+fn connections_option<'a>(alloc: Global) -> Arg<'a>
+    ensures rule { rule_of result ≡ number_option (codes "connections") 1000000 }
+    ensures local { result.global ≡ false }
+{
+    Arg::new(alloc, "connections")
+        .long("connections")
+        .value_name("N")
+        .help("How many connections are served, 1 to 1000000; without it 1000000")
+        .value_parser(value_parser!(u32).range(1..=1_000_000))
+}
+
+/// `--time-limit` and its number.
+fn time_limit_option<'a>(alloc: Global) -> Arg<'a>
+    ensures rule { rule_of result ≡ number_option (codes "time-limit") 86400 }
+    ensures local { result.global ≡ false }
+{
+    Arg::new(alloc, "time-limit")
+        .long("time-limit")
+        .value_name("SECONDS")
+        .help("How long a connection may take, 1 to 86400 seconds; without it 10")
+        .value_parser(value_parser!(u32).range(1..=86_400))
+}
+
+/// The files of `replay`.
+fn files_word<'a>(alloc: Global) -> Arg<'a>
+    ensures rule { rule_of result ≡ files_word }
+    ensures local { result.global ≡ false }
+{
+    Arg::new(alloc, "connections")
+        .value_name("CONNECTION")
+        .help("A file with the bytes of one connection")
+        .num_args(0..)
+        .action(ArgAction::Append)
+}
+
+/// A command with its texts, and no words yet.
+fn begun<'a>(
+    alloc: Global,
+    name: &'a str,
+    about: &'a str,
+    more: &'a str,
+    usage: &'a str,
+) -> Command<'a>
+    ensures { app_of result ≡ new_app name.now }
+{
+    Command::new(alloc, name)
+        .about(about)
+        .after_help(more)
+        .override_usage(usage)
+}
+
+/// `check` and its words.
+fn check_command<'a>(alloc: Global) -> Result<Command<'a>, Error>
+    ensures app { IfOk result (λ command. app_of command ≡ check_command) }
+    ensures err { IfErr result (λ error. kind_of error ≡ ErrorKind.OutOfMemory) }
+{
+    let settings = Arg::new(alloc, "settings")
+        .value_name("FILE")
+        .help("A JSON object of at most 16777216 bytes")
+        .required(true);
+    Ok(begun(alloc, "check", CHECK, CHECK_MORE, "osb-broker check <FILE>").arg(settings)?)
+}
+
+/// `replay` and its words.
+fn replay_command<'a>(alloc: Global) -> Result<Command<'a>, Error>
+    ensures app { IfOk result (λ command. app_of command ≡ replay_command) }
+    ensures err { IfErr result (λ error. kind_of error ≡ ErrorKind.OutOfMemory) }
+{
+    let usage = "osb-broker replay [--settings FILE] [--per-connection N] [CONNECTION..]";
+    let help = "The settings file; without it the built-in settings serve";
+    Ok(
+        begun(alloc, "replay", REPLAY, REPLAY_MORE, usage)
+            .arg(text_option(alloc, "settings", "FILE", help))?
+            .arg(per_connection_option(alloc))?
+            .arg(files_word(alloc))?,
+    )
+}
+
+/// `serve` and its words.
+fn serve_command<'a>(alloc: Global) -> Result<Command<'a>, Error>
+    ensures app { IfOk result (λ command. app_of command ≡ serve_command) }
+    ensures err { IfErr result (λ error. kind_of error ≡ ErrorKind.OutOfMemory) }
+{
+    let made = "The database file; it is made where there is none";
+    let address = "An IP address and a port, as 127.0.0.1:8080";
+    Ok(
+        begun(alloc, "serve", SERVE, SERVE_MORE, SERVE_USAGE)
+            .arg(required_option(alloc, "settings", "FILE", "The settings file"))?
+            .arg(required_option(alloc, "database", "FILE", made))?
+            .arg(required_option(alloc, "listen", "ADDR", address))?
+            .arg(per_connection_option(alloc))?
+            .arg(connections_option(alloc))?
+            .arg(time_limit_option(alloc))?,
+    )
+}
+
+/// All commands and their words.
+pub(crate) fn osb_broker<'a>(alloc: Global) -> Result<Command<'a>, Error>
+    ensures app { IfOk result (λ command. app_of command ≡ osb_broker) }
+    ensures err { IfErr result (λ error. kind_of error ≡ ErrorKind.OutOfMemory) }
+{
+    Ok(
+        Command::new(alloc, "osb-broker")
+            .version(VERSION)
+            .about(ABOUT)
+            .after_help(STATUS)
+            .disable_help_subcommand(true)
+            .no_binary_name(true)
+            .subcommand(check_command(alloc)?)?
+            .subcommand(replay_command(alloc)?)?
+            .subcommand(serve_command(alloc)?)?,
+    )
+}
