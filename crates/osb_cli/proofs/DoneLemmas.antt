@@ -1,5 +1,5 @@
 -- What a command has done.
-use Rattle.std.proofs.Common.{◌≡◌, ◌≢◌, ◌∙◌, refl, sym, subst, Bor, true, ℕ, List, [], ◌∷◌, map, length, codes, Option, None, Some, option_map, IfSome}
+use Rattle.std.proofs.Common.{◌≡◌, ◌≢◌, ◌∙◌, refl, sym, subst, Bor, true, ℕ, List, [], ◌∷◌, map, length, codes, Option, None}
 use Rattle.std.proofs.lemmas.List.{length-map}
 use Rattle.clap.specs.Words.{subcommand_of, takes}
 use Rattle.clap.proofs.OnLiterals.{clap_on_literals}

@@ -1,5 +1,5 @@
 -- What `serve` leaves of a database file.
-use Rattle.std.proofs.Common.{◌≡◌, ◌≤◌, ℕ, List, sym, subst, arith, Option, Some, None, IfSome, Result, Ok, Err, OnOk, OnErr, IfErr}
+use Rattle.std.proofs.Common.{◌≡◌, ℕ, List, sym, subst, arith, Option, IfSome, Result, Ok, Err, OnOk, IfErr}
 use Rattle.std.proofs.lemmas.Option.{IfSome_then}
 use Rattle.sqlite.specs.Tree.{Trees}
 use Rattle.osb_catalog.specs.Rules.{rules_of}

@@ -1,5 +1,5 @@
 -- What clap finds in the words.
-use Rattle.std.proofs.Common.{◌≡◌, ◌∙◌, ◌≤◌, ◌<◌, ◌^◌, refl, sym, ap, ap₂, subst, arith, ℕ, Bool, true, false, not, ◌&&◌, List, [], ◌∷◌, map, Bor, Option, Some, None, option_map, unwrap_or, Result, Ok, Err}
+use Rattle.std.proofs.Common.{◌≡◌, ◌∙◌, ◌≤◌, ◌<◌, ◌^◌, refl, sym, ap, ap₂, arith, ℕ, Bool, true, false, not, ◌&&◌, List, [], Bor, Option, Some, None, option_map, unwrap_or, Result, Ok, Err}
 use Rattle.std.specs.Str.Parse.{IsNumeral, ParsesUnsigned, digits_value, without_leading_plus}
 use Rattle.clap.specs.Words.{App, HasMatchesOf, ReadsOne, Row, Text, is_simple, subcommand_name_of, subcommand_of, subcommand_rows_of}
 use Rattle.clap.specs.declared.parser.matches.ArgMatches.{ArgMatches}

@@ -1,4 +1,4 @@
-use Rattle.std.proofs.Common.{rules, ◌≢◌, ◌∙◌, map, ap, length, []}
+use Rattle.std.proofs.Common.{rules, ◌≢◌, ◌∙◌, ap, length, []}
 use Rattle.std.proofs.lemmas.Result.{on_ok_weaker}
 use Rattle.osb_cli.proofs.DoneLemmas.{of_files}
 use Rattle.osb_cli.proofs.commands.replay.Goals as goal

@@ -11,8 +11,8 @@ returns-in-Ok-done-clause-served g c =
     let errors = g.E.Sink.taken c.serve_file-done.new.errors in
     IfSome_then c.serve_file-done.result.1 (rw c.in-Ok-done.is at c.serve_file-done.ensures.served)
     (λ conn served works db holds.
-        subst (λ k. IsServed k c.args.asked.now.place.connections db (stored (file_state conn)) (g.E.Sink.taken c.args.errors.now) errors) c.number-per_connection.ensures.is
-        (is_served c.in-Ok.settings c.in-Ok.ensures _ _ db _ _ _ (served works db holds)))
+    subst (λ k. IsServed k c.args.asked.now.place.connections db (stored (file_state conn)) (g.E.Sink.taken c.args.errors.now) errors) c.number-per_connection.ensures.is
+    (is_served c.in-Ok.settings c.in-Ok.ensures _ _ db _ _ _ (served works db holds)))
 
 pub returns-clause-lacks : goal.returns-clause-lacks
 returns-clause-lacks g c =

@@ -1,5 +1,5 @@
 use Rattle.std.proofs.Common.{rules, refl, ◌≡◌, ◌≢◌, ◌∙◌, sym, ap, subst, map, string_bytes, Some, option_map, [], codes, unwrap_or}
-use Rattle.clap.specs.Words.{app_of, found_of, rows_of, subcommand_of, takes}
+use Rattle.clap.specs.Words.{found_of, rows_of, subcommand_of, takes}
 use Rattle.clap.proofs.WalkLemmas.{first_value-rows}
 use Rattle.osb_cli.specs.Grammar.{osb_broker}
 use Rattle.osb_cli.specs.Words.{Asks, text_in}
