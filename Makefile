@@ -8,7 +8,7 @@
 RT ?= rt
 export RT
 
-.PHONY: all run test edits clean FORCE
+.PHONY: all run test tried edits clean FORCE
 
 all: osb-broker
 
@@ -18,22 +18,19 @@ osb-broker: FORCE
 run: osb-broker
 	./osb-broker serve --settings examples/settings.json --database osb-broker.db --listen 127.0.0.1:8080
 
-# The edits run beside rt ci and behind it. What is tried from outside is the program that it linked.
+# The edits run beside what else there is to do, and behind it.
 test:
 	@sh tests/needs.sh
 	python3 tests/needs.py
 	python3 tests/counts.py
 	python3 tests/judged.py
-	python3 tests/edits.py --beside $(RT) ci
+	python3 tests/edits.py --beside $(MAKE) --no-print-directory tried
+
+# Every proof from nothing; and the program that rt ci linked, tried from outside.
+tried:
+	$(RT) ci
 	cp crates/osb_program/out/osb_program osb-broker
-	python3 tests/program.py ./osb-broker
-	python3 tests/served.py ./osb-broker
-	python3 tests/clients.py ./osb-broker
-	python3 tests/database.py ./osb-broker
-	python3 tests/killed.py ./osb-broker
-	python3 tests/power.py ./osb-broker
-	python3 tests/refused.py ./osb-broker
-	python3 tests/readme.py ./osb-broker
+	python3 tests/outside.py ./osb-broker
 
 edits:
 	python3 tests/edits.py

@@ -2,7 +2,7 @@
 that the edit names.
 
     python3 tests/edits.py [CRATE ..]
-    python3 tests/edits.py --beside rt ci
+    python3 tests/edits.py --beside make tried
     python3 tests/edits.py --keep
 
 The first tries the edits of these crates, or of all, over the libraries that `rt ci` or `rt check` left.
@@ -441,11 +441,9 @@ def main():
     edits = {crate: [it for it in every[crate] if it.folder == "edits"] for crate in crates}
     if not wrong:
         wrong, status = try_all({crate: found for crate, found in edits.items() if found}, words)
-    if status:
-        return status
     print(*wrong, sep="\n")
     print(f"edits: {sum(len(found) for found in edits.values())} to be tried, {len(wrong)} faults")
-    return 1 if wrong else 0
+    return status or (1 if wrong else 0)
 
 
 if __name__ == "__main__":

@@ -10,7 +10,7 @@ and the rest of the conversation, goes as it should. The same over a program tha
 request behind each one: behind a 500 that isn't answered and does nothing. What takes no memory takes none.
 
 Then each growth of `replay` is refused, from its start on: a request that is sent again acts once, and one
-that is only answered 500 doesn't act.
+that is only answered 500 doesn't act. The trials run side by side, one for each processor.
 """
 
 import contextlib
@@ -23,6 +23,7 @@ import struct
 import subprocess
 import sys
 import tempfile
+from concurrent.futures import ThreadPoolExecutor
 from functools import partial
 
 from conversations import ASYNC, BUSY, CATALOG_REPLY, CLOSE, CONVERSATIONS, FETCHED_LARGE, GET_CATALOG, I, LARGE
@@ -425,21 +426,24 @@ def trials():
     yield "seven requests beside another instance", once_beside_another
 
 
+def tried(program, name, trial):
+    """Whether a trial goes as it should, over a machine of its own."""
+    with tempfile.TemporaryDirectory() as folder:
+        try:
+            said, right = trial(Machine(program, folder)), True
+        except Wrong as wrong:
+            said, right = str(wrong), False
+    print(f"refused: {name}: {said}", flush=True)
+    return right
+
+
 def main():
     program = os.path.abspath(sys.argv[1])
-    passed = failed = 0
-    with tempfile.TemporaryDirectory() as folder:
-        machine = Machine(program, folder)
-        for name, trial in trials():
-            try:
-                said = trial(machine)
-                passed += 1
-            except Wrong as wrong:
-                said = str(wrong)
-                failed += 1
-            print(f"refused: {name}: {said}")
-    print(f"refused: {passed} passed, {failed} failed")
-    return 1 if failed or not passed else 0
+    with ThreadPoolExecutor(len(os.sched_getaffinity(0))) as pool:
+        results = [pool.submit(tried, program, *trial) for trial in trials()]
+        found = [result.result() for result in results]
+    print(f"refused: {sum(found)} passed, {len(found) - sum(found)} failed")
+    return 0 if found and all(found) else 1
 
 
 if __name__ == "__main__":
