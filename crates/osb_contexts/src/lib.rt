@@ -9,8 +9,6 @@ mod indexes;
 mod migration;
 mod orders;
 mod sql;
-#[cfg(test)]
-mod tests;
 
 pub use contexts::{insert_context, read_context, read_contexts, update_context};
 pub use format::set_version;

@@ -1,4 +1,4 @@
-//! Migrations and single statements over connections in memory.
+//! The table of contexts: migrations, and single statements over connections in memory.
 
 ghost use Rattle.std.specs.Prelude.{◌≡◌, false, IfOk};
 ghost use Rattle.sqlite.specs.Held.{state};
@@ -8,7 +8,7 @@ ghost use Rattle.osb_contexts.specs.Inside.{ShowsSchema};
 ghost use Rattle.osb_contexts.specs.Steps.{HasContexts};
 ghost use Rattle.osb_contexts.specs.Reads.{behind, Does};
 
-use crate::{
+use osb_contexts::{
     complete, insert_context, insert_contexts, migrate, read_context, read_contexts, reshape,
     set_version, update_context,
 };
