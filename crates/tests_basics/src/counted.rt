@@ -5,6 +5,7 @@ ghost use Rattle.std.specs.Prelude.{◌≡◌, ◌≤◌, ◌<◌, ◌+◌, ◌+
 use osb_frames::{Counted, Kept, Sink, Source, send_all};
 use std::io::{self, Read, Write};
 use std::mem::size_of;
+use std::process::Abort;
 use std::test::Fail;
 
 /// Gives or takes at most `most` bytes in one call, and fails at the call with the number `bad`.
@@ -130,37 +131,56 @@ fn hands_a_failed_write_on(rt: HostRuntime) {
     }
 }
 
+/// How many bytes go over in three calls, in pieces of up to four.
+fn pass_on_thrice<S: Source, W: Sink>(source: &mut S, sink: &mut W) -> io::Result<[usize; 3]> {
+    let mut buf = [0; 4];
+    let first = pass_on(source, sink, &mut buf)?;
+    let second = pass_on(source, sink, &mut buf)?;
+    Ok([first, second, pass_on(source, sink, &mut buf)?])
+}
+
 #[test]
 fn passes_bytes_on(rt: HostRuntime) -> Result<(), Fail> {
     let mut source = Counted::new(b"catalog".as_slice());
     let mut sink = Counted::new(Vec::new(rt.alloc()));
-    let mut buf = [0; 4];
-    for want in [4, 3, 0] {
-        assert_eq!(rt; pass_on(&mut source, &mut sink, &mut buf)?, want);
-    }
-    assert_eq!(rt; sink.into_inner().as_slice(), b"catalog".as_slice());
+    let passed = pass_on_thrice(&mut source, &mut sink);
+    let taken = sink.into_inner();
+    assert_eq!(rt; passed?, [4, 3, 0]);
+    assert_eq!(rt; taken.as_slice(), b"catalog".as_slice());
     assert!(rt; source.into_inner().is_empty());
     Ok(())
 }
 
-#[test]
-fn sends_all(rt: HostRuntime) {
-    for (most, bad, want) in [
-        (3, 0, Ok(())),
-        (7, 0, Ok(())),
-        (3, 1, Err(0)),
-        (3, 2, Err(3)),
-        (3, 3, Err(6)),
-        (0, 0, Err(0)),
-    ] {
-        let mut sink = in_pieces(b"", most, bad);
-        assert_eq!(rt;
-            send_all(&mut sink, b"catalog"),
-            want,
+/// How many bytes go over in a call, which call fails, and how the sending of `catalog` ends.
+type Sending = (usize, u64, Result<(), usize>);
+
+const SENDINGS: [Sending; 6] = [
+    (3, 0, Ok(())),
+    (7, 0, Ok(())),
+    (3, 1, Err(0)),
+    (3, 2, Err(3)),
+    (3, 3, Err(6)),
+    (0, 0, Err(0)),
+];
+
+fn sent(bytes: &[u8], most: usize, bad: u64) -> Result<(), usize> {
+    let mut sink = in_pieces(b"", most, bad);
+    send_all(&mut sink, bytes)
+}
+
+fn sends_each(rt: &impl Abort, cases: &[Sending]) {
+    for (most, bad, want) in cases {
+        assert!(rt;
+            sent(b"catalog", *most, *bad) == *want,
             "{most} at a time, bad {bad}"
         );
     }
-    assert_eq!(rt; send_all(&mut in_pieces(b"", 0, 1), b""), Ok(()));
+}
+
+#[test]
+fn sends_all(rt: HostRuntime) {
+    sends_each(&rt, &SENDINGS);
+    assert_eq!(rt; sent(b"", 0, 1), Ok(()));
 }
 
 /// What has room is written whole.

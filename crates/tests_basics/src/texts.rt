@@ -6,6 +6,7 @@ use osb_text::{
 };
 use std::alloc::{AllocError, Global};
 use std::cmp::Ordering;
+use std::process::Abort;
 use std::test::Fail;
 
 fn compacted(alloc: Global, text: &str) -> Result<String, TextFault> {
@@ -13,83 +14,98 @@ fn compacted(alloc: Global, text: &str) -> Result<String, TextFault> {
     object.compact(alloc)
 }
 
-#[test]
-fn compacts_what_it_reads(rt: HostRuntime) -> Result<(), Fail> {
-    let alloc = rt.alloc();
-    for (text, compact) in [
-        ("{}", "{}"),
-        (" {\n} ", "{}"),
-        ("{\"b\":2, \"a\":1}", "{\"a\":1,\"b\":2}"),
-        (
-            "{\"a\":1,\"B\":2,\"\":3,\"aa\":4}",
-            "{\"\":3,\"B\":2,\"a\":1,\"aa\":4}",
-        ),
-        ("{\"x\":1.5,\"x\":1}", "{\"x\":1}"),
-        ("{\"x\":1,\"y\":2,\"x\":null}", "{\"x\":null,\"y\":2}"),
-        (
-            "{\"x\":18446744073709551615}",
-            "{\"x\":18446744073709551615}",
-        ),
-        (
-            "{\"x\":-9223372036854775808}",
-            "{\"x\":-9223372036854775808}",
-        ),
-        (
-            "{\"x\":[0, -1, true, false, null]}",
-            "{\"x\":[0,-1,true,false,null]}",
-        ),
-        (
-            "{\"x\":\"\\u0041\\/\\u00e9\\u0001\\u001F\"}",
-            "{\"x\":\"A/é\\u0001\\u001f\"}",
-        ),
-        (
-            "{\"x\":\"\\ud83d\\ude00\\n\\t\\\"\\\\\"}",
-            "{\"x\":\"😀\\n\\t\\\"\\\\\"}",
-        ),
-        (
-            "{ \"z\" : [ { \"é\" : {}, \"b\\n\" : [], \"a\" : \"1.5\" }, 7 ], \"y\" : { \"d\" : 1, \"c\" : 2 } }",
-            "{\"y\":{\"c\":2,\"d\":1},\"z\":[{\"a\":\"1.5\",\"b\\n\":[],\"é\":{}},7]}",
-        ),
-    ] {
-        assert_eq!(rt; compacted(alloc, text)?.as_str(), compact, "at {text}");
+/// Texts of objects, and how they are compact.
+const COMPACTED: [(&str, &str); 12] = [
+    ("{}", "{}"),
+    (" {\n} ", "{}"),
+    ("{\"b\":2, \"a\":1}", "{\"a\":1,\"b\":2}"),
+    (
+        "{\"a\":1,\"B\":2,\"\":3,\"aa\":4}",
+        "{\"\":3,\"B\":2,\"a\":1,\"aa\":4}",
+    ),
+    ("{\"x\":1.5,\"x\":1}", "{\"x\":1}"),
+    ("{\"x\":1,\"y\":2,\"x\":null}", "{\"x\":null,\"y\":2}"),
+    (
+        "{\"x\":18446744073709551615}",
+        "{\"x\":18446744073709551615}",
+    ),
+    (
+        "{\"x\":-9223372036854775808}",
+        "{\"x\":-9223372036854775808}",
+    ),
+    (
+        "{\"x\":[0, -1, true, false, null]}",
+        "{\"x\":[0,-1,true,false,null]}",
+    ),
+    (
+        "{\"x\":\"\\u0041\\/\\u00e9\\u0001\\u001F\"}",
+        "{\"x\":\"A/é\\u0001\\u001f\"}",
+    ),
+    (
+        "{\"x\":\"\\ud83d\\ude00\\n\\t\\\"\\\\\"}",
+        "{\"x\":\"😀\\n\\t\\\"\\\\\"}",
+    ),
+    (
+        "{ \"z\" : [ { \"é\" : {}, \"b\\n\" : [], \"a\" : \"1.5\" }, 7 ], \"y\" : { \"d\" : 1, \"c\" : 2 } }",
+        "{\"y\":{\"c\":2,\"d\":1},\"z\":[{\"a\":\"1.5\",\"b\\n\":[],\"é\":{}},7]}",
+    ),
+];
+
+fn compacts(rt: &(impl Abort + AllocGlobal), cases: &[(&str, &str)]) -> Result<(), Fail> {
+    for (text, compact) in cases {
+        assert!(rt;
+            compacted(rt.alloc(), *text)?.as_str() == *compact,
+            "at {text}"
+        );
     }
     Ok(())
 }
 
 #[test]
-fn tells_the_first_fault(rt: HostRuntime) {
-    let alloc = rt.alloc();
-    for (text, fault) in [
-        ("", TextFault::NotJson),
-        ("{\"x\":1", TextFault::NotJson),
-        ("{\"x\":1}}", TextFault::NotJson),
-        ("{'x':1}", TextFault::NotJson),
-        ("{\"x\":1,}", TextFault::NotJson),
-        ("{\"x\":01}", TextFault::NotJson),
-        ("[1.5", TextFault::NotJson),
-        ("{\"x\":1e999}", TextFault::NotJson),
-        ("{\"x\":\"\\ud800\"}", TextFault::NotJson),
-        ("{\"x\":\"\\ud800\\u0041\"}", TextFault::NotJson),
-        ("[1.5]", TextFault::NotObject),
-        ("[]", TextFault::NotObject),
-        ("null", TextFault::NotObject),
-        ("\"{}\"", TextFault::NotObject),
-        ("-0", TextFault::NotObject),
-        ("{\"x\":-0}", TextFault::Number),
-        ("{\"x\":1.0}", TextFault::Number),
-        ("{\"x\":1e2}", TextFault::Number),
-        ("{\"x\":18446744073709551616}", TextFault::Number),
-        ("{\"x\":-9223372036854775809}", TextFault::Number),
-        ("{\"x\":1,\"x\":1.5}", TextFault::Number),
-        ("{\"x\":[0,{\"y\":{\"z\":[0.5]}}]}", TextFault::Number),
-    ] {
-        let found = read_object(alloc, text.as_bytes()).err();
-        assert_eq!(rt; found, Some(fault), "at {text}");
+fn compacts_what_it_reads(rt: HostRuntime) -> Result<(), Fail> {
+    compacts(&rt, &COMPACTED)
+}
+
+/// Texts, and the first fault of each.
+const FAULTS: [(&str, TextFault); 22] = [
+    ("", TextFault::NotJson),
+    ("{\"x\":1", TextFault::NotJson),
+    ("{\"x\":1}}", TextFault::NotJson),
+    ("{'x':1}", TextFault::NotJson),
+    ("{\"x\":1,}", TextFault::NotJson),
+    ("{\"x\":01}", TextFault::NotJson),
+    ("[1.5", TextFault::NotJson),
+    ("{\"x\":1e999}", TextFault::NotJson),
+    ("{\"x\":\"\\ud800\"}", TextFault::NotJson),
+    ("{\"x\":\"\\ud800\\u0041\"}", TextFault::NotJson),
+    ("[1.5]", TextFault::NotObject),
+    ("[]", TextFault::NotObject),
+    ("null", TextFault::NotObject),
+    ("\"{}\"", TextFault::NotObject),
+    ("-0", TextFault::NotObject),
+    ("{\"x\":-0}", TextFault::Number),
+    ("{\"x\":1.0}", TextFault::Number),
+    ("{\"x\":1e2}", TextFault::Number),
+    ("{\"x\":18446744073709551616}", TextFault::Number),
+    ("{\"x\":-9223372036854775809}", TextFault::Number),
+    ("{\"x\":1,\"x\":1.5}", TextFault::Number),
+    ("{\"x\":[0,{\"y\":{\"z\":[0.5]}}]}", TextFault::Number),
+];
+
+fn is_fault(alloc: Global, bytes: &[u8], fault: TextFault) -> bool {
+    read_object(alloc, bytes).err() == Some(fault)
+}
+
+fn tells_faults(rt: &(impl Abort + AllocGlobal), cases: &[(&str, TextFault)]) {
+    for (text, fault) in cases {
+        assert!(rt; is_fault(rt.alloc(), text.as_bytes(), *fault), "at {text}");
     }
-    assert_eq!(rt;
-        read_object(alloc, b"{\"x\":\"\xff\"}").err(),
-        Some(TextFault::NotJson)
-    );
+}
+
+#[test]
+fn tells_the_first_fault(rt: HostRuntime) {
+    tells_faults(&rt, &FAULTS);
+    assert!(rt; is_fault(rt.alloc(), b"{\"x\":\"\xff\"}", TextFault::NotJson));
 }
 
 #[test]
