@@ -129,25 +129,43 @@ fn tells_id(
     Ok(())
 }
 
-fn tells_ids(rt: &(impl Abort + AllocGlobal), case: &Case) -> Result<(), Fail> {
+fn tells_usable(
+    rt: &(impl Abort + AllocGlobal),
+    case: &Case,
+    usable: &[(&str, &str)],
+) -> Result<(), Fail> {
     let (line, body, told) = *case;
-    for (segment, id) in USABLE {
-        let expected = with_id(rt.alloc(), told, id)?;
-        tells_id(rt, segment, body, line, expected.as_str())?;
+    for (segment, id) in usable {
+        let expected = with_id(rt.alloc(), told, *id)?;
+        tells_id(rt, *segment, body, line, expected.as_str())?;
     }
-    for segment in UNUSABLE {
-        tells_id(rt, segment, body, line, "Id")?;
+    Ok(())
+}
+
+fn tells_unusable(
+    rt: &(impl Abort + AllocGlobal),
+    case: &Case,
+    unusable: &[&str],
+) -> Result<(), Fail> {
+    for segment in unusable {
+        tells_id(rt, *segment, case.1, case.0, "Id")?;
     }
-    // An empty segment is no id, so no route has it.
-    tells_id(rt, "", body, line, "NoRoute")
+    Ok(())
+}
+
+fn tells_ids(rt: &(impl Abort + AllocGlobal), cases: &[Case]) -> Result<(), Fail> {
+    for case in cases {
+        tells_usable(rt, case, &USABLE)?;
+        tells_unusable(rt, case, &UNUSABLE)?;
+        // An empty segment is no id, so no route has it.
+        tells_id(rt, "", case.1, case.0, "NoRoute")?;
+    }
+    Ok(())
 }
 
 #[test]
 fn ids_of_all_routes(rt: HostRuntime) -> Result<(), Fail> {
-    for case in ROUTES_WITH_IDS {
-        tells_ids(&rt, &case)?;
-    }
-    Ok(())
+    tells_ids(&rt, &ROUTES_WITH_IDS)
 }
 
 const NUMBERS: [Case; 16] = [

@@ -23,16 +23,48 @@ fn is_kept_object(alloc: Global, text: &str) -> Result<bool, AllocError> {
     Ok(copy == object && Text::from(copy).as_str() == text)
 }
 
+/// Texts, and whether each is an id.
+const IDS: [(&str, bool); 4] = [
+    ("a/b", true),
+    ("", false),
+    ("a\u{1}", false),
+    ("\u{9F}", false),
+];
+
+/// Texts, and whether each is that of an object.
+const OBJECTS: [(&str, bool); 7] = [
+    ("{}", true),
+    (r#"{"a":1,"b":{}}"#, true),
+    ("", false),
+    ("[]", false),
+    (r#"{"b":1,"a":1}"#, false),
+    (r#"{"a": 1}"#, false),
+    (r#"{"a":1.5}"#, false),
+];
+
+fn tells_ids(rt: &(impl Abort + AllocGlobal), cases: &[(&str, bool)]) -> Result<(), Fail> {
+    for (text, is_id) in cases {
+        assert!(rt; is_kept_id(rt.alloc(), *text)? == *is_id, "{text}");
+    }
+    Ok(())
+}
+
+fn tells_objects(rt: &(impl Abort + AllocGlobal), cases: &[(&str, bool)]) -> Result<(), Fail> {
+    for (text, is_object) in cases {
+        assert!(rt; is_kept_object(rt.alloc(), *text)? == *is_object, "{text}");
+    }
+    Ok(())
+}
+
+fn is_empty_object(alloc: Global) -> Result<bool, AllocError> {
+    Ok(ObjectText::empty(alloc)?.as_str() == "{}")
+}
+
 #[test]
 fn ids_and_objects(rt: HostRuntime) -> Result<(), Fail> {
-    let alloc = rt.alloc();
-    assert!(rt; is_kept_id(alloc, "a/b")? && !is_kept_id(alloc, "")?);
-    assert!(rt; !is_kept_id(alloc, "a\u{1}")? && !is_kept_id(alloc, "\u{9F}")?);
-    assert!(rt; is_kept_object(alloc, "{}")? && is_kept_object(alloc, r#"{"a":1,"b":{}}"#)?);
-    assert!(rt; !is_kept_object(alloc, "")? && !is_kept_object(alloc, "[]")?);
-    assert!(rt; !is_kept_object(alloc, r#"{"b":1,"a":1}"#)?);
-    assert!(rt; !is_kept_object(alloc, r#"{"a": 1}"#)? && !is_kept_object(alloc, r#"{"a":1.5}"#)?);
-    assert!(rt; ObjectText::empty(alloc)?.as_str() == "{}");
+    tells_ids(&rt, &IDS)?;
+    tells_objects(&rt, &OBJECTS)?;
+    assert!(rt; is_empty_object(rt.alloc())?);
     assert!(rt; AskFault::from(AllocError) == AskFault::Memory);
     Ok(())
 }
