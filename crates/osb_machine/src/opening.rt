@@ -37,9 +37,11 @@ pub(crate) fn open<'a>(
     ensures { IfOk result (λ step. reaction step ≡ opened (rules_of settings.now) (facts view.now) (opening_of opening.entry)) }
 {
     if opening.asynchronous && !opening.accepts_incomplete {
+        drop(opening);
         return Ok(Step::refuses(FixedError::AsyncRequired));
     }
     if settings.order_limit() <= view.count {
+        drop(opening);
         return Ok(Step::refuses(FixedError::Full));
     }
     open_numbered(alloc, view.count + 1, opening)
@@ -66,21 +68,45 @@ fn open_numbered<'a>(
 fn begin<'a>(alloc: Global, number: u32, opening: Opening<'_>) -> Result<Step<'a>, AllocError>
     ensures { IfOk result (λ step. reaction step ≡ begins (numbered number (opening_of opening.entry) running)) }
 {
-    let order = Order {
+    match running(alloc) {
+        Ok(outcome) => begun(alloc, numbered(number, opening, outcome)),
+        Err(error) => {
+            drop(opening);
+            Err(error)
+        }
+    }
+}
+
+/// The order of that number.
+fn numbered(number: u32, opening: Opening<'_>, outcome: Outcome) -> Order
+    ensures { result ≡ numbered number (opening_of opening.entry) outcome }
+{
+    Order {
         number,
         kind: opening.kind,
         binding: opening.binding,
         attributes: opening.attributes,
-        outcome: running(alloc)?,
-    };
-    let text = texts::operation(alloc, &order)?;
-    Ok(Step {
-        answer: Answer {
-            status: Status::Accepted,
-            body: Body::from(text),
-        },
-        change: Change::Append(order),
-    })
+        outcome,
+    }
+}
+
+/// Says of an order that it begins.
+fn begun<'a>(alloc: Global, order: Order) -> Result<Step<'a>, AllocError>
+    ensures { IfOk result (λ step. reaction step ≡ begins order) }
+{
+    match texts::operation(alloc, &order) {
+        Ok(text) => Ok(Step {
+            answer: Answer {
+                status: Status::Accepted,
+                body: Body::from(text),
+            },
+            change: Change::Append(order),
+        }),
+        Err(error) => {
+            drop(order);
+            Err(error)
+        }
+    }
 }
 
 /// Says what the opening does, of its order, which is carried out at once.

@@ -113,12 +113,15 @@ fn update_ready<'a>(
     ensures { IfOk result (λ step. reaction step ≡ update_ready (rules_of settings.now) (facts view.now) instance.now ask.now target) }
 {
     if are_same(&target, instance) {
+        drop(target);
         return Ok(Step::of_status(Status::Ok));
     }
     if is_busy(view) {
+        drop(target);
         return Ok(Step::refuses(FixedError::ConcurrencyError));
     }
     if forbids_change(settings, instance, &target) {
+        drop(target);
         return Ok(Step::refuses(FixedError::NoPlanChange));
     }
     change(alloc, settings, view, instance, ask, target)
