@@ -1,6 +1,6 @@
 -- Lives and their contexts, which the orders alone don't tell.
 use Rattle.std.proofs.Common.{◌≡◌, inl, ℕ, ◌+◌, ◌<◌, ◌==◌, Bool, true, false, IsTrue, List, [], ◌∷◌, ◌++◌, map, filter, take, get_or, length, Option, None, Some, option_map, refl, sym, ap, subst, ◌∙◌, arith}
-use Rattle.std.specs.Prelude.{IfSome, option_and_then}
+use Rattle.std.specs.Prelude.{option_and_then}
 use Rattle.std.specs.List.{AllByRecursion}
 use Rattle.std.specs.FinMap.{get}
 use Rattle.sqlite.specs.Tree.{Trees}
@@ -302,11 +302,6 @@ module _ (db : Database) (has : HasLives db) where
         bound = joins.bound ∙ is.bound ∙ ap (λ l. has_rows (bindings_of l)) same ∙ ap has_rows (bindings_of-bare life);
         listed = joins.listed ∙ is.listed;
       }
-
--- an order that was joined has its context
-pub knows_context : (entries : List ContextEntry) (id : List ℕ) (read joined : Option Order) → joined ≡ option_map (joined_order entries id) read → IfSome joined (λ (order : Order). order.attributes.context ≡ context_at entries id order.number)
-knows_context entries id None joined is = subst (λ (found : Option Order). IfSome found (λ (order : Order). order.attributes.context ≡ context_at entries id order.number)) (sym is) tt
-knows_context entries id (Some order) joined is = subst (λ (found : Option Order). IfSome found (λ (order : Order). order.attributes.context ≡ context_at entries id order.number)) (sym is) refl
 
 -- ---- loops over orders, each of which gets its context
 

@@ -1,6 +1,6 @@
 //! Orders and what stands of instances with their contexts, read inside a transaction.
 
-ghost use Rattle.std.specs.Prelude.{◌≡◌, map, IfSome, option_map, option_copied};
+ghost use Rattle.std.specs.Prelude.{◌≡◌, map, IfOk, IfSome, option_map, option_copied};
 ghost use Rattle.osb_orders.specs.declared.order.Order.{Order};
 ghost use Rattle.osb_joined.specs.Joined as spec;
 ghost use Rattle.osb_contexts.specs.Steps.{contexts, ShowsContexts};
@@ -88,8 +88,13 @@ fn joined_beside<S: Alter>(
     let Some(order) = found else {
         return Ok(None);
     };
-    let context = context_beside(tx, instance, order.number, last)?;
-    Ok(Some(order_with(context, order)))
+    match context_beside(tx, instance, order.number, last) {
+        Ok(context) => Ok(Some(order_with(context, order))),
+        Err(fault) => {
+            drop(order);
+            Err(fault)
+        }
+    }
 }
 
 /// What stands of the instance, with its context.
@@ -164,9 +169,20 @@ fn joined_current<S: Alter>(
         × (joined.1 ≡ option_map (spec.joined_order (contexts s) instance.now) last)) }
     ensures reads { MayRead S.Store tx.old tx.new result }
 {
-    let row = joined_row(tx, instance, row)?;
-    let last = joined_last(tx, instance, last)?;
-    Ok((row, last))
+    let row = match joined_row(tx, instance, row) {
+        Ok(row) => row,
+        Err(fault) => {
+            drop(last);
+            return Err(fault);
+        }
+    };
+    match joined_last(tx, instance, last) {
+        Ok(last) => Ok((row, last)),
+        Err(fault) => {
+            drop(row);
+            Err(fault)
+        }
+    }
 }
 
 /// The order that was named and the last of those that a poll is about, with their contexts.
@@ -185,9 +201,82 @@ fn joined_polled<S: Alter>(
         × (joined.1 ≡ option_map (spec.joined_order (contexts s) instance.now) subject_last)) }
     ensures reads { MayRead S.Store tx.old tx.new result }
 {
-    let named = joined_beside(tx, instance, named, last)?;
-    let subject_last = joined_beside(tx, instance, subject_last, last)?;
-    Ok((named, subject_last))
+    let named = match joined_beside(tx, instance, named, last) {
+        Ok(named) => named,
+        Err(fault) => {
+            drop(subject_last);
+            return Err(fault);
+        }
+    };
+    match joined_beside(tx, instance, subject_last, last) {
+        Ok(subject_last) => Ok((named, subject_last)),
+        Err(fault) => {
+            drop(named);
+            Err(fault)
+        }
+    }
+}
+
+/// What a poll is about with its contexts, beside the row of the instance and its last order, which have theirs.
+fn joined_after<S: Alter>(
+    tx: &mut Transaction<'_, S>,
+    instance: &str,
+    current: (Option<InstanceRow>, Option<Order>),
+    polled: (Option<Order>, Option<Order>),
+) -> Result<
+    (
+        (Option<InstanceRow>, Option<Order>),
+        (Option<Order>, Option<Order>),
+    ),
+    StoreFault,
+>
+    requires { ShowsContexts (behind S.Store tx.old) }
+    ensures same { IfOk result (λ joined. joined.0 ≡ current) }
+    ensures ok { MayFind S.Store tx.old tx.new result (λ s joined.
+        IfSome current.1 (λ (order : Order).
+        order.attributes.context ≡ spec.context_at (contexts s) instance.now order.number) →
+        (joined.1.0 ≡ option_map (spec.joined_order (contexts s) instance.now) polled.0)
+        × (joined.1.1 ≡ option_map (spec.joined_order (contexts s) instance.now) polled.1)) }
+    ensures reads { MayRead S.Store tx.old tx.new result }
+{
+    match joined_polled(tx, instance, polled.0, polled.1, current.1.as_ref()) {
+        Ok(polled) => Ok((current, polled)),
+        Err(fault) => {
+            drop(current);
+            Err(fault)
+        }
+    }
+}
+
+/// The row of the instance and its last order, and what a poll is about, with their contexts.
+fn joined_parts<S: Alter>(
+    tx: &mut Transaction<'_, S>,
+    instance: &str,
+    row: Option<InstanceRow>,
+    last: Option<Order>,
+    polled: (Option<Order>, Option<Order>),
+) -> Result<
+    (
+        (Option<InstanceRow>, Option<Order>),
+        (Option<Order>, Option<Order>),
+    ),
+    StoreFault,
+>
+    requires { ShowsContexts (behind S.Store tx.old) }
+    ensures ok { MayFind S.Store tx.old tx.new result (λ s joined.
+        ((joined.0.0 ≡ option_map (spec.joined_row (contexts s) instance.now) row)
+        × (joined.0.1 ≡ option_map (spec.joined_order (contexts s) instance.now) last))
+        × ((joined.1.0 ≡ option_map (spec.joined_order (contexts s) instance.now) polled.0)
+        × (joined.1.1 ≡ option_map (spec.joined_order (contexts s) instance.now) polled.1))) }
+    ensures reads { MayRead S.Store tx.old tx.new result }
+{
+    match joined_current(tx, instance, row, last) {
+        Ok(current) => joined_after(tx, instance, current, polled),
+        Err(fault) => {
+            drop(polled);
+            Err(fault)
+        }
+    }
 }
 
 /// What was read of an instance, with the contexts.
@@ -201,20 +290,20 @@ pub(crate) fn join_read<S: Alter>(
         IsJoinedRead (contexts s) instance.now read joined) }
     ensures reads { MayRead S.Store tx.old tx.new result }
 {
-    let (row, last) = joined_current(tx, instance, read.row, read.last)?;
-    let (named, subject_last) = joined_polled(
-        tx,
-        instance,
-        read.named,
-        read.subject_last,
-        last.as_ref(),
-    )?;
+    let polled = (read.named, read.subject_last);
+    let (current, polled) = match joined_parts(tx, instance, read.row, read.last, polled) {
+        Ok(joined) => joined,
+        Err(fault) => {
+            drop(read.binding);
+            return Err(fault);
+        }
+    };
     Ok(Read {
-        row,
-        last,
+        row: current.0,
+        last: current.1,
         binding: read.binding,
-        named,
-        subject_last,
+        named: polled.0,
+        subject_last: polled.1,
         bound: read.bound,
         listing: read.listing,
     })
@@ -249,9 +338,10 @@ fn joined_entry<S: Alter>(
         joined ≡ spec.joined_entry (contexts s) entry.now) }
     ensures reads { Reads S.Store tx.old tx.new result }
 {
+    let id = entry.0.clone()?;
     let order = entry.1.clone()?;
     let joined = joined_order(tx, entry.0.as_str(), order)?;
-    Ok((entry.0.clone()?, joined))
+    Ok((id, joined))
 }
 
 /// Orders of instances with their contexts.

@@ -46,8 +46,13 @@ fn later_of_kind<S: Alter>(
         (life_of (told s) instance.now)))) }
     ensures reads { Reads S.Store tx.old tx.new result }
 {
-    let other = last_of_kind(tx, alloc, instance, binding, kind)?;
-    Ok(later(order, other))
+    match last_of_kind(tx, alloc, instance, binding, kind) {
+        Ok(other) => Ok(later(order, other)),
+        Err(fault) => {
+            drop(order);
+            Err(fault)
+        }
+    }
 }
 
 /// The last creation of the instance.
