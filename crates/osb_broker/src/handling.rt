@@ -46,7 +46,9 @@ fn decide_by<'s>(
     ensures { IfOk result (λ step. (lives : Lives) → facts view ≡ view_of lives ask.now →
         reaction step ≡ answer_to (catalog.rules_of settings.now) lives ask.now) }
 {
-    decide(alloc, settings, &view, ask)
+    let step = decide(alloc, settings, &view, ask);
+    drop(view);
+    step
 }
 
 impl<'s> Setup<'s> {
@@ -144,7 +146,11 @@ impl<'s> Setup<'s> {
     {
         records.are_whole();
         match read_ask(self.alloc, request, self.settings) {
-            Ok(ask) => self.asked(records, &ask),
+            Ok(ask) => {
+                let prepared = self.asked(records, &ask);
+                drop(ask);
+                prepared
+            }
             Err(AskFault::Memory) => Err(AllocError),
             Err(fault) => Ok(Prepared::quiet(fault_answer(fault))),
         }
@@ -166,8 +172,17 @@ impl<'s> Setup<'s> {
     {
         let Prepared { answer, pending } = self.prepared(records, request)?;
         let reply = reply_to(request, last, answer);
-        settle(records, &pending)?;
-        Ok(reply)
+        match settle(records, &pending) {
+            Ok(()) => {
+                drop(pending);
+                Ok(reply)
+            }
+            Err(error) => {
+                drop(pending);
+                drop(reply);
+                Err(error)
+            }
+        }
     }
 
     /// Answers a request, by one step of the machine.
@@ -210,8 +225,17 @@ impl<'s> Setup<'s> {
     {
         let Prepared { answer, pending } = self.prepared(records, request)?;
         let reply = reply_to(request, last, answer);
-        settle_within(records, &pending, &reply, room, spare)?;
-        Ok(reply)
+        match settle_within(records, &pending, &reply, room, spare) {
+            Ok(()) => {
+                drop(pending);
+                Ok(reply)
+            }
+            Err(error) => {
+                drop(pending);
+                drop(reply);
+                Err(error)
+            }
+        }
     }
 
     /// Answers a request once there is room for the reply and `spare` bytes more. Where those were

@@ -41,10 +41,16 @@ pub(crate) fn pending_for(ask: &Ask, change: Change) -> Result<Option<Pending>, 
     ensures { IfOk result (λ pending. pending ≡ pending_for (instance_of ask.now) change) }
 {
     match ask.instance() {
-        Some(instance) => Ok(Some(Pending {
-            instance: instance.clone()?,
-            change,
-        })),
-        None => Ok(None),
+        Some(instance) => match instance.clone() {
+            Ok(instance) => Ok(Some(Pending { instance, change })),
+            Err(error) => {
+                drop(change);
+                Err(error)
+            }
+        },
+        None => {
+            drop(change);
+            Ok(None)
+        }
     }
 }

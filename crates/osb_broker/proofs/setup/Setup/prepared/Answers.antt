@@ -4,7 +4,7 @@ use Rattle.osb_broker.proofs.StoreLemmas.{lacks_memory}
 use Rattle.osb_broker.proofs.setup.Setup.prepared.Goals as goal
 
 pub returns-in-Ok-clause-gives : goal.returns-in-Ok-clause-gives
-returns-in-Ok-clause-gives g c = rw c.in-Ok.ensures.reads c.asked.ensures
+returns-in-Ok-clause-gives g c = rw c.in-Ok.ensures.reads c.asked-prepared.ensures
 
 pub returns-in-Err-Memory-clause-gives : goal.returns-in-Err-Memory-clause-gives
 returns-in-Err-Memory-clause-gives g c =
