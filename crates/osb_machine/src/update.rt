@@ -72,7 +72,9 @@ fn update_by<'a>(
     ensures { IfOk result (λ step. reaction step ≡ update_by instance.now.phase (rules_of settings.now) (facts view.now) instance.now.attributes ask.now target) }
 {
     if let InstancePhase::Updating = instance.phase {
-        return update_running(alloc, view, ask, &target);
+        let step = update_running(alloc, view, ask, &target);
+        drop(target);
+        return step;
     }
     update_ready(alloc, settings, view, &instance.attributes, ask, target)
 }
@@ -159,18 +161,24 @@ fn update_opening<'a>(
 ) -> Result<Opening<'a>, AllocError>
     ensures { IfOk result (λ opening. opening_of opening ≡ update_opening (rules_of settings.now) instance.now ask.now target) }
 {
-    Ok(Opening {
-        asynchronous: instances_run(settings, instance.plan.as_str()),
-        accepts_incomplete: ask.accepts_incomplete,
-        kind: OrderKind::Update,
-        binding: Text::new(alloc),
-        attributes: target,
-        credentials: Text::from_str(alloc, "{}")?,
-        answer: Answer {
-            status: Status::Ok,
-            body: Body::EMPTY_OBJECT,
-        },
-    })
+    match Text::from_str(alloc, "{}") {
+        Ok(credentials) => Ok(Opening {
+            asynchronous: instances_run(settings, instance.plan.as_str()),
+            accepts_incomplete: ask.accepts_incomplete,
+            kind: OrderKind::Update,
+            binding: Text::new(alloc),
+            attributes: target,
+            credentials,
+            answer: Answer {
+                status: Status::Ok,
+                body: Body::EMPTY_OBJECT,
+            },
+        }),
+        Err(error) => {
+            drop(target);
+            Err(error)
+        }
+    }
 }
 
 /// What the instance is to have.
