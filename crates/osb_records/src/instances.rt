@@ -152,16 +152,21 @@ fn standing_told(number: u32, attributes: Attributes) -> Result<Option<Standing>
         result ≢ Err faults.NotOurs }
 {
     if number == 0 {
-        return if are_blank(&attributes) {
+        let blank = are_blank(&attributes);
+        drop(attributes);
+        return if blank {
             Ok(None)
         } else {
             Err(StoreFault::NotOurs)
         };
     }
-    Ok(Some(Standing {
-        phase: instance_phase_numbered(number)?,
-        attributes,
-    }))
+    match instance_phase_numbered(number) {
+        Ok(phase) => Ok(Some(Standing { phase, attributes })),
+        Err(fault) => {
+            drop(attributes);
+            Err(fault)
+        }
+    }
 }
 
 /// How the instance of the row stands.

@@ -269,8 +269,13 @@ fn read_polled<S: Alter>(
     ensures reads { MayRead S.Store tx.old tx.new result }
 {
     let named = read_named(tx, alloc, instance, ask)?;
-    let subject_last = read_subject(tx, alloc, instance, ask)?;
-    Ok((named, subject_last))
+    match read_subject(tx, alloc, instance, ask) {
+        Ok(subject_last) => Ok((named, subject_last)),
+        Err(fault) => {
+            drop(named);
+            Err(fault)
+        }
+    }
 }
 
 /// What is read for the ask beside the row of its instance and the last order.
@@ -350,16 +355,22 @@ fn read_for<S: Alter>(
     ensures reads { Reads S.Store tx.old tx.new result }
 {
     let (row, last) = read_standing(tx, alloc, instance)?;
-    let asked = read_asked_of(tx, alloc, instance, ask, row.as_ref())?;
-    Ok(Read {
-        row,
-        last,
-        binding: asked.binding,
-        named: asked.named,
-        subject_last: asked.subject_last,
-        bound: asked.bound,
-        listing: Vec::new(alloc),
-    })
+    match read_asked_of(tx, alloc, instance, ask, row.as_ref()) {
+        Ok(asked) => Ok(Read {
+            row,
+            last,
+            binding: asked.binding,
+            named: asked.named,
+            subject_last: asked.subject_last,
+            bound: asked.bound,
+            listing: Vec::new(alloc),
+        }),
+        Err(fault) => {
+            drop(row);
+            drop(last);
+            Err(fault)
+        }
+    }
 }
 
 /// What is read for an ask that names the instance.
