@@ -18,7 +18,9 @@ fn is_built_in(settings: &Settings) -> bool {
 #[test]
 fn built_in_settings(rt: HostRuntime) -> Result<(), Fail> {
     let settings = Settings::read(rt.alloc(), BUILT_IN.as_bytes())?;
-    assert!(rt; is_built_in(&settings));
+    let right = is_built_in(&settings);
+    drop(settings);
+    assert!(rt; right);
     Ok(())
 }
 
@@ -33,7 +35,9 @@ fn has_its_service_alone(settings: &Settings) -> bool {
 #[test]
 fn services_are_found(rt: HostRuntime) -> Result<(), Fail> {
     let settings = Settings::read(rt.alloc(), BUILT_IN.as_bytes())?;
-    assert!(rt; has_its_service_alone(&settings));
+    let right = has_its_service_alone(&settings);
+    drop(settings);
+    assert!(rt; right);
     Ok(())
 }
 
@@ -199,7 +203,9 @@ fn has_full_catalog(settings: &Settings) -> bool {
 fn full_catalog(rt: HostRuntime) -> Result<(), Fail> {
     let file = changed_by(rt.alloc(), &FULL)?;
     let settings = Settings::read(rt.alloc(), file.as_bytes())?;
-    assert!(rt; has_full_catalog(&settings));
+    let right = has_full_catalog(&settings);
+    drop(settings);
+    assert!(rt; right);
     Ok(())
 }
 
@@ -215,7 +221,9 @@ fn has_no_service(settings: &Settings) -> bool {
 #[test]
 fn no_service(rt: HostRuntime) -> Result<(), Fail> {
     let settings = Settings::read(rt.alloc(), NO_SERVICE.as_bytes())?;
-    assert!(rt; has_no_service(&settings));
+    let right = has_no_service(&settings);
+    drop(settings);
+    assert!(rt; right);
     Ok(())
 }
 
@@ -237,7 +245,9 @@ fn has_two_services(settings: &Settings) -> bool {
 fn two_services(rt: HostRuntime) -> Result<(), Fail> {
     let file = changed(rt.alloc(), BUILT_IN, r#""services":["#, TWO_SERVICES)?;
     let settings = Settings::read(rt.alloc(), file.as_bytes())?;
-    assert!(rt; has_two_services(&settings));
+    let right = has_two_services(&settings);
+    drop(settings);
+    assert!(rt; right);
     Ok(())
 }
 
@@ -295,6 +305,8 @@ fn has_many_plans(settings: &Settings) -> bool {
 fn many_plans(rt: HostRuntime) -> Result<(), Fail> {
     let file = large_file(rt.alloc(), 20_000)?;
     let settings = Settings::read(rt.alloc(), file.as_bytes())?;
-    assert!(rt; has_many_plans(&settings));
+    let right = has_many_plans(&settings);
+    drop(settings);
+    assert!(rt; right);
     Ok(())
 }
