@@ -139,10 +139,17 @@ fn only_named(alloc: Global, found: Option<Order>, name: &str) -> Result<Option<
     let Some(order) = found else {
         return Ok(None);
     };
-    let own = order.name(alloc)?;
+    let own = match order.name(alloc) {
+        Ok(own) => own,
+        Err(fault) => {
+            drop(order);
+            return Err(StoreFault::from(fault));
+        }
+    };
     if own.as_str() == name {
         Ok(Some(order))
     } else {
+        drop(order);
         Ok(None)
     }
 }

@@ -82,8 +82,13 @@ fn read_standing<S: Alter>(
     ensures reads { Reads S.Store tx.old tx.new result }
 {
     let row = read_row(tx, alloc, instance)?;
-    let last = read_last(tx, alloc, instance, row.as_ref())?;
-    Ok((row, last))
+    match read_last(tx, alloc, instance, row.as_ref()) {
+        Ok(last) => Ok((row, last)),
+        Err(fault) => {
+            drop(row);
+            Err(fault)
+        }
+    }
 }
 
 /// Whether a binding of the instance remains.
