@@ -58,9 +58,9 @@ pub fn new_broker(
 }
 
 /// What the broker writes to a connection whose bytes come in pieces of that size.
-pub fn output_of(
+pub fn output_of<S: Alter>(
     alloc: Global,
-    broker: &mut Broker<'_, MemStore>,
+    broker: &mut Broker<'_, S>,
     bytes: &[u8],
     piece: usize,
 ) -> Result<Vec<u8>, Fail> {
@@ -115,7 +115,9 @@ pub fn goes_on<S: Alter>(
 /// connection.
 pub fn goes_over(alloc: Global, settings: &Settings, exchanges: &[Exchange]) -> Result<(), Fail> {
     let mut broker = new_broker(alloc, settings, 1)?;
-    goes_on(alloc, &mut broker, exchanges)
+    let went = goes_on(alloc, &mut broker, exchanges);
+    drop(broker);
+    went
 }
 
 /// The records after these exchanges, and a failure where one goes otherwise.
@@ -143,7 +145,9 @@ pub fn after(
 /// The same over the built-in settings.
 pub fn goes(alloc: Global, exchanges: &[Exchange]) -> Result<(), Fail> {
     let settings = built_in(alloc)?;
-    goes_over(alloc, &settings, exchanges)
+    let went = goes_over(alloc, &settings, exchanges);
+    drop(settings);
+    went
 }
 
 /// What a broker without orders, which takes so many requests of a connection, writes to these bytes.
@@ -185,7 +189,9 @@ pub fn answers(alloc: Global, per_connection: u32, bytes: &[u8], text: &[u8]) ->
     requires few { per_connection ≤ 1000 }
 {
     let settings = built_in(alloc)?;
-    answers_over(alloc, &settings, per_connection, bytes, text)
+    let answered = answers_over(alloc, &settings, per_connection, bytes, text);
+    drop(settings);
+    answered
 }
 
 /// Whether it writes the text to these bytes in pieces of that size.
@@ -201,8 +207,9 @@ fn is_output(
 {
     let (bytes, piece) = sent;
     let mut broker = new_broker(alloc, settings, per_connection)?;
-    let output = output_of(alloc, &mut broker, bytes, piece)?;
-    Ok(output.as_slice() == text)
+    let output = output_of(alloc, &mut broker, bytes, piece);
+    drop(broker);
+    Ok(output?.as_slice() == text)
 }
 
 const PIECES: [usize; 3] = [1, 7, usize::MAX];
@@ -238,7 +245,9 @@ pub fn answers_in_pieces(
     requires few { per_connection ≤ 1000 }
 {
     let settings = built_in(alloc)?;
-    answers_each_way(alloc, &settings, per_connection, bytes, text)
+    let answered = answers_each_way(alloc, &settings, per_connection, bytes, text);
+    drop(settings);
+    answered
 }
 
 /// The parts, one behind the other.
