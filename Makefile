@@ -24,7 +24,7 @@ test:
 	python3 tests/needs.py
 	python3 tests/counts.py
 	python3 tests/judged.py
-	python3 tests/edits.py --beside $(MAKE) --no-print-directory tried
+	python3 tests/edits.py --beside make --no-print-directory tried
 
 # Every proof from nothing; and the program that rt ci linked, tried from outside.
 tried:
