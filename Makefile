@@ -3,12 +3,14 @@
 #             database osb-broker.db in the working folder
 # make test   is the whole gate: every proof from nothing, edits that must be refused, and then the built
 #             program tried from outside
+# make package
+#             builds it and makes a Debian package of it
 # make edits  tries those of tests/edits.py alone, over the libraries that the gate or rt check left
 
 RT ?= rt
 export RT
 
-.PHONY: all run test tried edits clean FORCE
+.PHONY: all run package test tried edits clean FORCE
 
 all: osb-broker
 
@@ -17,6 +19,9 @@ osb-broker: FORCE
 
 run: osb-broker
 	./osb-broker serve --settings examples/settings.json --database osb-broker.db --listen 127.0.0.1:8080
+
+package: osb-broker
+	@packaging/package.sh ./osb-broker
 
 # The edits run beside what else there is to do, and behind it.
 test:

@@ -4,13 +4,14 @@
 #
 #     sh tests/needs.sh               says what is missing, on standard error
 #     sh tests/needs.sh --packages    writes the packages alone, for apt-get
+#     sh tests/needs.sh --more        writes those of what the gate passes over where it isn't there
 
 packages=
 what=$1
 
 lacks() {
     packages="$packages $2"
-    [ "$what" = --packages ] || echo "make test: missing: $1 (Debian: $2)" >&2
+    [ -n "$what" ] || echo "make test: missing: $1 (Debian: $2)" >&2
 }
 
 has() {
@@ -24,6 +25,18 @@ strict_tables() {
 links_libraries() {
     printf '#include <stdlib.h>\nvoid *taken(void) { return malloc(1); }\n' | cc -shared -fPIC -x c -o /dev/null - 2>/dev/null
 }
+
+if [ "$what" = --more ]; then
+    has nginx || lacks nginx nginx-light
+    has openssl || lacks openssl openssl
+    has lintian || lacks lintian lintian
+    has debootstrap || lacks debootstrap debootstrap
+    has systemd-nspawn || lacks systemd-nspawn systemd-container
+    has node || lacks node nodejs
+    has go || lacks go golang-go
+    echo $packages
+    exit 0
+fi
 
 has bash || lacks bash bash
 has curl || lacks curl curl

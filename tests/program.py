@@ -176,7 +176,7 @@ def try_resent_requests(tries):
 
 
 def try_example(tries):
-    """The conversation that the README shows."""
+    """The conversation of examples/resent.http."""
     with open(os.path.join(HERE, "..", "examples", "resent.http"), "rb") as file:
         ended = tries.run(["replay", "--per-connection", "5"], file.read())
     seen = [(status, body.partition('"kind"')[0]) for status, body in replies(ended.stdout)]

@@ -1,0 +1,55 @@
+#!/bin/sh
+# Makes a Debian package of a built program.
+#
+#     packaging/package.sh PROGRAM [FOLDER]
+#
+# The package osb-broker_VERSION_ARCHITECTURE.deb is put into the folder, without one into the working folder. Its
+# version is the program's own, its maintainer is $MAINTAINER ('Name <mail>'), or else the author of the last commit. It needs
+# dpkg-deb, readelf, strip and git.
+set -eu
+
+program=$1
+target=${2:-.}
+here=$(cd "$(dirname "$0")" && pwd)
+checkout=$(dirname "$here")
+maintainer=${MAINTAINER:-$(git -C "$checkout" log -1 --format='%an <%ae>')}
+version=$("$program" --version | cut -d ' ' -f 2)
+architecture=$(dpkg --print-architecture)
+commit=$(git -C "$checkout" rev-parse --short HEAD)
+date=$(git -C "$checkout" log -1 --format=%cD)
+SOURCE_DATE_EPOCH=$(git -C "$checkout" log -1 --format=%ct)
+export SOURCE_DATE_EPOCH
+
+umask 022
+root=$(mktemp -d)
+trap 'rm -rf "$root"' EXIT
+chmod 755 "$root"
+doc=$root/usr/share/doc/osb-broker
+
+fill() {
+    sed -e "s|@VERSION@|$version|; s|@ARCHITECTURE@|$architecture|; s|@MAINTAINER@|$maintainer|" \
+        -e "s|@YEAR@|$(date -d "$date" +%Y)|; s|@DATE@|$(LC_ALL=C date -d "$date" '+%B %-d, %Y')|" \
+        -e "s|@SIZE@|$(du -ks "$root" | cut -f 1)|; s|@LIBC@|${libc:-}|" "$1"
+}
+
+install -D -m 755 -s "$program" "$root/usr/bin/osb-broker"
+install -D -m 644 "$here/osb-broker.service" "$root/lib/systemd/system/osb-broker.service"
+mkdir -p "$doc/examples" "$root/usr/share/man/man1" "$root/DEBIAN"
+fill "$here/osb-broker.1" | gzip -9n > "$root/usr/share/man/man1/osb-broker.1.gz"
+install -m 644 "$checkout/README.md" "$checkout"/docs/*.md "$doc"
+install -m 644 "$checkout/examples/queues.json" "$checkout/examples/nginx.conf" "$checkout/examples/haproxy.cfg" "$doc/examples"
+install -m 755 "$checkout/examples/backend.py" "$doc/examples"
+fill "$here/debian/copyright" > "$doc/copyright"
+printf 'osb-broker (%s) unstable; urgency=medium\n\n  * Commit %s.\n\n -- %s  %s\n' \
+    "$version" "$commit" "$maintainer" "$date" | gzip -9n > "$doc/changelog.gz"
+
+# It links to the C library alone, in the version of the newest symbol that it uses.
+libc=$(readelf -V "$root/usr/bin/osb-broker" | grep -o 'GLIBC_[0-9.]*' | sort -uV | tail -1 | cut -d _ -f 2)
+fill "$here/debian/control" > "$root/DEBIAN/control"
+(cd "$root" && find usr lib -type f -print0 | sort -z | xargs -0 md5sum > DEBIAN/md5sums)
+for script in postinst prerm postrm; do
+    install -m 755 "$here/debian/$script" "$root/DEBIAN"
+done
+package=$target/osb-broker_${version}_$architecture.deb
+dpkg-deb --root-owner-group -Zxz --build "$root" "$package" >/dev/null
+echo "$package"
