@@ -20,6 +20,7 @@ SCRIPT = os.path.join(ROOT, "packaging", "package.sh")
 MAINTAINER = "Nobody <nobody@users.noreply.furtsjik.example>"
 INCLUDED = "systemd,systemd-sysv,dbus,curl,init-system-helpers"
 LATER = "9.9.9"
+NSPAWN = ["systemd-nspawn", "-q", "--register=no", "--keep-unit", "--private-network", "-D"]
 # What runs in the container, once it has booted. Each step writes a line `# NAME`, and then what it finds.
 STEPS = r"""#!/bin/bash
 exec > /root/found 2>&1
@@ -169,9 +170,9 @@ def container(folder):
     """A Debian of its own, or what keeps it from being made."""
     root = os.path.join(folder, "debian")
     release = run("sh", "-c", ". /etc/os-release && echo $VERSION_CODENAME")[1].strip()
-    status, said = run("debootstrap", "--variant=minbase", f"--include={INCLUDED}", release, root)
+    status, said = run("timeout", "-k", "5", "900", "debootstrap", "--variant=minbase", f"--include={INCLUDED}", release, root)
     if status == 0:
-        status, said = run("systemd-nspawn", "-q", "-D", root, "--register=no", "--keep-unit", "--private-network", "true")
+        status, said = run("timeout", "-k", "5", "60", *NSPAWN, root, "true")
     return root, said.strip().splitlines()[-1:] if status else None
 
 
@@ -190,8 +191,7 @@ def boots(root, made, folder):
     installed = run("chroot", root, "dpkg", "-i", "/root/osb-broker.deb")
     verified = run("chroot", root, "systemd-analyze", "verify", "--man=no", "osb-broker.service")
     run("chroot", root, "systemctl", "enable", "-q", "steps")
-    words = ["systemd-nspawn", "-q", "-D", root, "--register=no", "--keep-unit", "--private-network", "-b"]
-    booted = run("timeout", "-k", "5", "300", *words)
+    booted = run("timeout", "-k", "5", "300", *NSPAWN, root, "-b")
     found = os.path.join(root, "root", "found")
     if not os.path.isfile(found):
         return installed, verified, booted[1][-2000:]
