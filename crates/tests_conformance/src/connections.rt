@@ -1,8 +1,9 @@
 //! Readers and writers that fail or end early, and what is read and written before.
 
+use osb_broker::refuse::refuse;
 use osb_broker::{Broker, Buffer, ServeFault};
 use osb_catalog::Settings;
-use osb_frames::{Counted, Limits};
+use osb_frames::{Counted, Limits, StopKind};
 use sqlite::MemStore;
 use std::alloc::Global;
 use std::io::{self, Read, Write};
@@ -176,6 +177,22 @@ fn are_no_requests(alloc: Global, settings: &Settings) -> Result<bool, Fail> {
 fn no_beginning_of_a_request_is_one(rt: HostRuntime) -> Result<(), Fail> {
     let settings = built_in(rt.alloc())?;
     assert!(rt; are_no_requests(rt.alloc(), &settings)?);
+    Ok(())
+}
+
+/// What is written in answer to bytes that are no request.
+fn refused(alloc: Global, kind: StopKind) -> Result<Vec<u8>, Fail> {
+    let mut sink = Counted::new(Vec::new(alloc));
+    match refuse(&mut sink, kind) {
+        Ok(()) => Ok(sink.into_inner()),
+        Err(_) => Err("not written")?,
+    }
+}
+
+#[test]
+fn a_framing_fault_has_its_fixed_reply(rt: HostRuntime) -> Result<(), Fail> {
+    let written = refused(rt.alloc(), StopKind::NoHead)?;
+    assert!(rt; written.as_slice() == NO_HEAD);
     Ok(())
 }
 
