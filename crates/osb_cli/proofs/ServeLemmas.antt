@@ -1,5 +1,5 @@
 -- What `serve` leaves of a database file.
-use Rattle.std.proofs.Common.{◌≡◌, ℕ, List, sym, subst, arith, Option, IfSome, Result, Ok, Err, OnOk, IfErr}
+use Rattle.std.proofs.Common.{◌≡◌, refl, ℕ, List, sym, subst, arith, Option, None, Some, IfNone, IfSome, IsSome, Result, Ok, Err, IsErr, OnOk, IfErr}
 use Rattle.std.proofs.lemmas.Option.{IfSome_then}
 use Rattle.sqlite.specs.Tree.{Trees}
 use Rattle.osb_catalog.specs.Rules.{rules_of}
@@ -59,3 +59,13 @@ pub fault_if_4 : {A C : Type 0} (done : Result A Unserved) (status : ℕ) (conn 
     → ((fault : Unserved) → IsPlan fault → (c : C) → P fault c → Q c) → IfSome conn Q
 fault_if_4 (Ok x) status conn P Q zero is plan known f = absurd (omega (arith, is, zero))
 fault_if_4 (Err fault) status conn P Q zero is plan known f = IfSome_then conn known (f fault plan)
+
+-- what was done well opened the file, where only a fault leaves it
+pub is_opened : {A E C : Type 0} (done : Result A E) (conn : Option C) (fault : E) (x : A) → done ≡ Ok x → IfNone conn (done ≡ Err fault) → IsSome conn
+is_opened done None fault x is leaves = cc
+is_opened done (Some c) fault x is leaves = refl
+
+-- nothing is asked of what was done in vain
+pub in_vain : {A E : Type 0} (done : Result A E) (P : Type 0) → IsErr done → OnOk done P
+in_vain (Ok x) P is = cc
+in_vain (Err fault) P is = tt

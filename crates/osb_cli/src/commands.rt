@@ -1,6 +1,6 @@
 //! What the words ask for, done.
 
-ghost use Rattle.std.specs.Prelude.{◌≡◌, ◌≤◌, [], map, string_bytes, None, IfSome};
+ghost use Rattle.std.specs.Prelude.{◌≡◌, ◌≤◌, [], map, string_bytes, None, IfSome, IsSome};
 ghost use Rattle.std.specs.Prelude.{IsErr, IfErr, OnOk, OnErr};
 ghost use Rattle.clap.specs.Words.{kind_of};
 ghost use Rattle.sqlite.specs.Tree.{Trees};
@@ -91,7 +91,8 @@ fn other_command(alloc: Global, line: &str) -> Result<(), Fault<'static>>
 
 /// What was done without a database file.
 fn without_file<'a, S: Start>(done: Result<(), Fault<'a>>) -> (Result<(), Unserved<'a>>, Opened<S>)
-    ensures { result.1 ≡ None }
+    ensures none { result.1 ≡ None }
+    ensures fails { IsErr done.entry → IsErr result.0 }
 {
     match done {
         Ok(()) => (Ok(()), None),
@@ -110,6 +111,7 @@ fn perform_serve<'a, S: Start, W: Sink, E: Sink>(
         (db : Trees) → HoldsDatabase (image_at S.Start) db →
         IsServedAs (found_by (map string_bytes words.now)) db (stored (file_state conn))
         (E.taken errors.old) (E.taken errors.new))) }
+    ensures opened { AreTaken (map string_bytes words.now) → OnOk result.0 (IsSome result.1) }
     ensures lacks { IfErr result.0 (λ fault. IfSome result.1 (λ conn. Works (file_state conn) →
         (db : Trees) → HoldsDatabase (image_at S.Start) db → NamesInUse db fault)) }
 {
@@ -189,7 +191,8 @@ pub fn run<R: Source, W: Sink, E: Sink>(
 /// command, and 4 where the catalog lacks a plan that the database has in use.
 ///
 /// `start` stands for what the file of the database holds. What is said of lives is said of each
-/// database that it may hold, of the connection to it, which comes back where it was opened.
+/// database that it may hold, of the connection to it, which comes back where it was opened: with
+/// status 0 always, but where help was asked for.
 pub fn serve_command<S: Start, W: Sink, E: Sink>(
     rt: &HostRuntime,
     words: &[String],
@@ -202,6 +205,7 @@ pub fn serve_command<S: Start, W: Sink, E: Sink>(
         (db : Trees) → HoldsDatabase (image_at S.Start) db →
         IsServedAs (found_by (map string_bytes words.now)) db (stored (file_state conn))
         (E.taken errors.old) (E.taken errors.new)) }
+    ensures opened { AreTaken (map string_bytes words.now) → result.0 ≡ 0 → IsSome result.1 }
     ensures lacks { result.0 ≡ 4 → IfSome result.1 (λ conn. Works (file_state conn) →
         (db : Trees) → HoldsDatabase (image_at S.Start) db → NamesSome db) }
 {

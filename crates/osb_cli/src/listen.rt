@@ -1,6 +1,6 @@
 //! `serve`: TCP connections, one after the other.
 
-ghost use Rattle.std.specs.Prelude.{IfSome, OnOk, IfErr};
+ghost use Rattle.std.specs.Prelude.{IfSome, IsSome, OnOk, IfErr};
 ghost use Rattle.sqlite.specs.Tree.{Trees};
 ghost use Rattle.sqlite_wal.specs.Files.{image_at};
 ghost use Rattle.sqlite.specs.Files.{file_state, HoldsDatabase};
@@ -45,6 +45,7 @@ pub(crate) fn listen<'a, S: Start, W: Sink, E: Sink>(
         (db : Trees) → HoldsDatabase (image_at S.Start) db →
         IsServed asked.now.per_connection.number asked.now.place.connections db (stored (file_state conn))
         (E.taken errors.old) (E.taken errors.new))) }
+    ensures opened { OnOk result.0 (IsSome result.1) }
     ensures lacks { IfErr result.0 (λ fault. IfSome result.1 (λ conn. Works (file_state conn) →
         (db : Trees) → HoldsDatabase (image_at S.Start) db → NamesInUse db fault)) }
 {

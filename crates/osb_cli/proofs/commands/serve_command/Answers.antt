@@ -23,3 +23,8 @@ returns-clause-lacks g c four =
     let done = c.perform_serve-done in
     fault_if_4 done.result.0 status.result done.result.1 _ _ status.ensures.zero four (status.ensures.plan four) done.ensures.lacks
     (λ fault is conn lacks works db holds. names_some db fault is (lacks works db holds))
+
+pub returns-clause-opened : goal.returns-clause-opened
+returns-clause-opened g c taken zero =
+    let status = c.serve_status_of in
+    well_if_0 c.perform_serve-done.result.0 status.result _ status.ensures.fails zero (c.perform_serve-done.ensures.opened taken)
