@@ -4,21 +4,21 @@
 #     packaging/package.sh PROGRAM [FOLDER]
 #
 # The package osb-broker_VERSION_ARCHITECTURE.deb is put into the folder, without one into the working folder. Its
-# version is the program's own, its maintainer is $MAINTAINER ('Name <mail>'), or else the author of the last commit. It needs
-# dpkg-deb, readelf, strip and git.
+# version is the program's own, its maintainer is $MAINTAINER ('Name <mail>'), or else the author of the last commit, and
+# its dates are that commit's, where the sources are a checkout. It needs dpkg-deb, readelf and strip.
 set -eu
 
 program=$1
 target=${2:-.}
 here=$(cd "$(dirname "$0")" && pwd)
 checkout=$(dirname "$here")
-maintainer=${MAINTAINER:-$(git -C "$checkout" log -1 --format='%an <%ae>')}
+maintainer=${MAINTAINER:-$(git -C "$checkout" log -1 --format='%an <%ae>' 2>/dev/null || echo 'Nobody <nobody@localhost>')}
 version=$("$program" --version | cut -d ' ' -f 2)
 architecture=$(dpkg --print-architecture)
-commit=$(git -C "$checkout" rev-parse --short HEAD)
-date=$(git -C "$checkout" log -1 --format=%cD)
-SOURCE_DATE_EPOCH=$(git -C "$checkout" log -1 --format=%ct)
+commit=$(git -C "$checkout" rev-parse --short HEAD 2>/dev/null || echo 'not known')
+SOURCE_DATE_EPOCH=$(git -C "$checkout" log -1 --format=%ct 2>/dev/null || date +%s)
 export SOURCE_DATE_EPOCH
+date=$(LC_ALL=C date -R -d "@$SOURCE_DATE_EPOCH")
 
 umask 022
 root=$(mktemp -d)

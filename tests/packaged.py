@@ -134,7 +134,7 @@ UNIT = "[Unit]\nAfter=multi-user.target\n[Service]\nType=oneshot\nExecStart=/roo
 
 def run(*words, **more):
     """What a command prints, on both outputs, and its status."""
-    ran = subprocess.run(words, stdin=subprocess.DEVNULL, stdout=subprocess.PIPE, stderr=subprocess.STDOUT, text=True, **more)
+    ran = subprocess.run(words, stdin=subprocess.DEVNULL, stdout=subprocess.PIPE, stderr=subprocess.STDOUT, text=True, errors="replace", **more)
     return ran.returncode, ran.stdout
 
 
@@ -183,7 +183,8 @@ def write(path, text, mode):
 
 
 def boots(root, made, folder):
-    """What the steps find in the container."""
+    """How the package is installed in the container, what is said of its unit, and what the steps find there. Where it
+    doesn't boot they find nothing, and that is what it prints last."""
     shutil.copy(made, os.path.join(root, "root", "osb-broker.deb"))
     shutil.copy(later(made, folder), os.path.join(root, "root", "later.deb"))
     write(os.path.join(root, "root", "steps"), STEPS, 0o755)
@@ -194,9 +195,9 @@ def boots(root, made, folder):
     booted = run("timeout", "-k", "5", "300", *NSPAWN, root, "-b")
     found = os.path.join(root, "root", "found")
     if not os.path.isfile(found):
-        return installed, verified, booted[1][-2000:]
+        return installed, verified, None, booted[1].strip()[-200:]
     with open(found, encoding="utf-8") as file:
-        return installed, verified, "".join(line.rstrip() + "\n" for line in file)
+        return installed, verified, "".join(line.rstrip() + "\n" for line in file), ""
 
 
 def tries(program, folder):
@@ -206,9 +207,12 @@ def tries(program, folder):
     if why is not None:
         print(f"packaged: passed over what needs a container: {' '.join(why)}")
         return
-    installed, verified, found = boots(root, made, folder)
+    installed, verified, found, printed = boots(root, made, folder)
     yield "it is installed", installed[0], 0
     yield "the unit", verified, (0, "")
+    if found is None:
+        print(f"packaged: passed over what runs in the container, which doesn't boot: {printed}")
+        return
     steps = [[text.partition("\n")[::2] for text in whole.split("# ")[1:]] for whole in (found, EXPECTED)]
     yield "the steps", [name for name, _ in steps[0]], [name for name, _ in steps[1]]
     for (name, wrote), (_, expected) in zip(*steps):
