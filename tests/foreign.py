@@ -68,8 +68,8 @@ def clients(folder):
         yield "node", by_words(["node", os.path.join(ROOT, "tests", "foreign.mjs")])
     if shutil.which("go"):
         built = os.path.join(folder, "foreign")
-        environment = {**os.environ, "GOCACHE": os.path.join(folder, "cache"), "GO111MODULE": "off"}
-        subprocess.run(["go", "build", "-o", built, os.path.join(ROOT, "tests", "foreign.go")], env=environment, check=True)
+        own = {"GOCACHE": os.path.join(folder, "cache"), "GOPATH": os.path.join(folder, "go"), "GO111MODULE": "off"}
+        subprocess.run(["go", "build", "-o", built, os.path.join(ROOT, "tests", "foreign.go")], env={**os.environ, **own}, check=True)
         yield "go", by_words([built])
 
 
