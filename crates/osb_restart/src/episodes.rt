@@ -99,6 +99,7 @@ pub fn lived_through<D: Crash + Drop>(
         (stored (file_state run.1))) }
 {
     histories();
+    // Its contract says that the settings are sound.
     let _ = settings.order_limit();
     records.are_whole();
     lived_within(
