@@ -18,7 +18,7 @@ from crates import LIBRARIES, ROOT, RT, below, lanes, sum_of
 PROGRAM = "osb_program"
 # What the largest check takes of memory.
 BYTES_EACH = 4_500_000_000
-# About how many minutes a crate takes where nothing of it is kept, on one processor (docs/PROVING.md, 'Times').
+# About how many minutes a crate takes where nothing of it is kept, on one processor (docs/GATE.md, 'What a crate costs').
 MINUTES = {
     "osb_text": 2,
     "osb_catalog": 6,
