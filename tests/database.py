@@ -804,6 +804,85 @@ def try_plans(program, folder):
         yield from goes(serving, [("PUT", I, SYNC, 201, "{}")])
 
 
+def looked_at(program, database, *words, given=None):
+    """How `check` ends over a database file."""
+    ended = subprocess.run([program, "check", "--database", database, *words], capture_output=True, timeout=60, preexec_fn=given)
+    return ended.returncode, ended.stdout, ended.stderr
+
+
+def unseen(cause):
+    return 1, b"", f"database: 1 Refused\n{cause}\n".encode()
+
+
+def state_of(path):
+    """The bytes and the times of the files beside a path."""
+    folder = os.path.dirname(path)
+    found = {}
+    for name in sorted(os.listdir(folder)):
+        with open(os.path.join(folder, name), "rb") as file:
+            found[name] = (file.read(), os.stat(file.name).st_mtime_ns)
+    return found
+
+
+def try_looked_at(program, folder, path):
+    """What `check` says of a database, which it leaves as it is: of a copy, of the file of a broker that runs, and
+    of what is none."""
+    counts = (0, b"instances 2, bindings 1, running 1\n", b"")
+    copy = copied(path, folder)
+    before = state_of(copy)
+    yield "a database is looked at", looked_at(program, copy), counts
+    yield "it stays", state_of(copy), before
+    both = looked_at(program, copy, SETTINGS)
+    yield "with its settings", both, (0, b"services 1, plans 2\n" + counts[1], b"")
+    with Serving(program, copy) as serving:
+        yield "that of a broker that runs", looked_at(program, copy), counts
+        yield from goes(serving, ASKED_AGAIN)
+    old = made_before(folder, 2)
+    before = state_of(old)
+    yield "a database of version 1", looked_at(program, old)[0], 0
+    yield "it stays version 1", state_of(old), before
+    empty = new_database(folder)
+    yield "no file", looked_at(program, empty), unseen("no such file")
+    yield "none is made", os.path.exists(empty), False
+    open(empty, "wb").close()
+    yield "an empty file", looked_at(program, empty), (0, b"instances 0, bindings 0, running 0\n", b"")
+    yield "it stays empty", os.path.getsize(empty), 0
+
+
+def try_causes(program, folder, path):
+    """Why a file isn't looked at, which `serve` refuses, too."""
+    def refused(name, database, cause):
+        yield name, looked_at(program, database), unseen(cause)
+        yield f"{name}, served", starts(program, database), REFUSED
+
+    yield from refused("a folder", folder, "a folder")
+    yield from refused("a device", "/dev/null", "no regular file")
+    named, journalled = copied(path, folder), copied(path, folder)
+    os.link(named, named + "-too")
+    yield from refused("a file with a second name", named, "it has two names")
+    subprocess.run([sys.executable, "-c", CUT_OFF, journalled], check=True)
+    yield from refused("a file with a journal", journalled, "a journal lies beside it")
+    for content in [b"no database\n", b"SQLite format 3\x00" + bytes(5000)]:
+        none = new_database(folder)
+        with open(none, "wb") as file:
+            file.write(content)
+        yield from refused("no database", none, "no database")
+    unread = copied(path, folder)
+    run(unread, "UPDATE orders SET params = CAST(X'FF' AS TEXT)")
+    yield from refused("a row that is no text", unread, "a row that can't be read")
+    other = new_database(folder)
+    run(other, "CREATE TABLE orders (a)")
+    yield "another database", looked_at(program, other), NOT_OURS
+    written = copied(path, folder)
+    os.chmod(written, 0o444)
+    os.chmod(os.path.dirname(written), 0o755)
+    os.chmod(folder, 0o755)
+    if os.geteuid() == 0:
+        yield "a file that can't be written to", looked_at(program, written, given=lambda: os.setuid(65534)), unseen("it can't be written to")
+        os.chmod(written, 0)
+        yield "a file that can't be read", looked_at(program, written, given=lambda: os.setuid(65534)), unseen("it can't be read")
+
+
 def try_order(program, folder):
     """Settings come before the database, and that before the address."""
     path = new_database(folder)
@@ -829,6 +908,8 @@ def tries(program):
         yield from try_made_before(program, folder)
         yield from try_others(program, folder)
         yield from try_beside(program, folder, path)
+        yield from try_looked_at(program, folder, path)
+        yield from try_causes(program, folder, path)
         yield from try_plans(program, folder)
         yield from try_order(program, folder)
         yield from try_large(program, folder)

@@ -292,7 +292,10 @@ def try_words(tries):
     for words in [
         ["bogus"],
         ["check"],
+        ["check", "--explain"],
         ["check", "a", "b"],
+        ["check", "--database"],
+        ["check", "--explain=a", "b"],
         ["--bogus"],
         ["check", "--settings", "a"],
         ["replay", "--settings"],
@@ -355,6 +358,59 @@ def try_check(tries, folder):
     )
 
 
+def another_service(settings):
+    """One that is whole, before the other."""
+    plans = [{"name": "n", "id": "p", "description": "d"}]
+    made = {"name": "n", "id": "first", "description": "d", "bindable": False, "plans": plans}
+    settings["catalog"]["services"].insert(0, made)
+
+
+def behind(change):
+    """The change of a service that isn't the first."""
+    def both(settings):
+        change(settings)
+        another_service(settings)
+
+    return both
+
+
+# A change of the settings, the fault, and where it is.
+PLACES = [
+    (lambda it: it.pop("backend"), "2 Missing backend", "the top"),
+    (lambda it: it["catalog"].pop("services"), "2 Missing services", "catalog"),
+    (lambda it: service(it).pop("bindable"), "2 Missing bindable", "catalog.services[0]"),
+    (behind(lambda it: service(it).pop("bindable")), "2 Missing bindable", "catalog.services[1]"),
+    (lambda it: plan(it, 1).pop("description"), "2 Missing description", "catalog.services[0].plans[1]"),
+    (behind(lambda it: plan(it, 1).pop("name")), "2 Missing name", "catalog.services[1].plans[1]"),
+    (lambda it: it["modes"]["p-async"].update(bindings="later"), "2 Missing bindings", "modes.p-async"),
+    (lambda it: plan(it, 1).update(id="p-sync"), "3 DoubleId", "catalog.services[0].plans[0]"),
+    (lambda it: plan(it, 0).update(schemas={}), "4 LeftOut schemas", "catalog.services[0].plans[0]"),
+    (lambda it: plan(it, 1).update(maintenance_info={"version": "1"}), "5 Version", "catalog.services[0].plans[1]"),
+    (lambda it: it["modes"].update(other={}), "6 Mode", "modes.other"),
+    (lambda it: service(it).pop("bindings_retrievable"), "6 Mode", "catalog.services[0].plans[1]"),
+    (lambda it: it["platform"].update(user="a:b"), "7 Credential", "platform"),
+    (lambda it: it["backend"].update(password=""), "7 Credential", "backend"),
+]
+
+
+def try_explain(tries, folder):
+    """Where in the settings a fault is."""
+    path = os.path.join(folder, "settings.json")
+
+    def explain(name, content, status, output, errors):
+        with open(path, "wb") as file:
+            file.write(content)
+        tries.expect(f"explain {name}", tries.run(["check", "--explain", path]), status, output, errors)
+
+    for change, fault, place in PLACES:
+        explain(place, changed(change), 3, b"", f"settings: {fault}\nat {place}\n".encode())
+    explain("no object", b"[]", 3, b"", b"settings: 1 Text\n")
+    explain("good settings", json.dumps(SETTINGS).encode(), 0, b"services 1, plans 2\n", b"")
+    os.remove(path)
+    line = f"osb-broker: cannot read {path}\n".encode()
+    tries.expect("explain a missing file", tries.run(["check", path, "--explain"]), 1, b"", line)
+
+
 def main():
     tries = Tries(sys.argv[1])
     with tempfile.TemporaryDirectory() as folder:
@@ -372,6 +428,7 @@ def main():
         try_version(tries)
         try_words_of_bytes(tries)
         try_check(tries, folder)
+        try_explain(tries, folder)
     print(f"program: {tries.passed} passed, {tries.failed} failed")
     return 1 if tries.failed or not tries.passed else 0
 

@@ -6,3 +6,4 @@ pub mod LivesLemmas
 pub mod StandLemmas
 pub mod SetLemmas
 pub mod PlanLemmas
+pub mod CountLemmas

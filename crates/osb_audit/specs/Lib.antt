@@ -5,3 +5,4 @@ pub mod Audit
 pub mod Life
 pub mod Runs
 pub mod Plans
+pub mod Counts

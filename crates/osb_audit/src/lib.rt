@@ -3,6 +3,7 @@
 
 mod audit;
 mod bindings;
+mod counting;
 mod entry;
 mod life;
 mod plans;
@@ -10,5 +11,6 @@ mod rising;
 mod worded;
 
 pub use audit::are_rows_of_lives;
+pub use counting::{Counts, count};
 pub use entry::BindingEntry;
 pub use plans::plans_in_use;

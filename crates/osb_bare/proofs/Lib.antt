@@ -4,3 +4,4 @@ pub mod WordLemmas
 pub mod LivesLemmas
 pub mod ViewLemmas
 pub mod ContextLemmas
+pub mod CountLemmas

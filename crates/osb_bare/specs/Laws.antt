@@ -21,6 +21,8 @@ use Rattle.osb_standing.specs.Written.{order_written, IsWritten}
 use Rattle.osb_standing.specs.Instance.{row_after}
 use Rattle.osb_standing.specs.Binding.{edit_of}
 use Rattle.osb_audit.specs.Orders.{Entry, lives_in}
+use Rattle.osb_audit.specs.declared.counting.Counts.{Counts}
+use Rattle.osb_audit.specs.Counts.{AreCounts}
 use Rattle.osb_audit.specs.Plans.{plans_in_use}
 use Rattle.osb_bare.specs.Bare.{bare_order, bare_life, bare_lives, bare_change, bare_entry, bare_standing, bare_row}
 use Rattle.osb_bare.specs.Context.{standing_context, context_edit}
@@ -72,6 +74,10 @@ ListingOfBare = (lives : Lives) (after : List ℕ) (limit : ℕ) → listing (ba
 
 abbrev pub PlansOfBare : Type 0
 PlansOfBare = (lives : Lives) → plans_in_use (bare_lives lives) ≡ plans_in_use lives
+
+-- nothing that is counted looks at a context
+abbrev pub CountsOfBare : Type 0
+CountsOfBare = (lives : Lives) (counts : Counts) → AreCounts (bare_lives lives) counts → AreCounts lives counts
 
 -- ---- changes
 

@@ -5,7 +5,7 @@
 
 ghost use Rattle.osb_bare.specs.Laws.{BareLivesHaveNoContext, BareLivesAreWellFormed, LifeOfBare, LivesInBare};
 ghost use Rattle.osb_bare.specs.Laws.{StandingOfBare, RowOfBare, BindingsOfBare, BareBindingsRemain, BirthOfBare};
-ghost use Rattle.osb_bare.specs.Laws.{LastOfBare, NamedInBare, SubjectOfBare, ListingOfBare, PlansOfBare};
+ghost use Rattle.osb_bare.specs.Laws.{LastOfBare, NamedInBare, SubjectOfBare, ListingOfBare, PlansOfBare, CountsOfBare};
 ghost use Rattle.osb_bare.specs.Laws.{BareLifeChanged, BareLivesChanged, BareOrderWritten, BareLifeIsWellFormed, BareChangeIsAllowed};
 ghost use Rattle.osb_bare.specs.Laws.{RowAfterBare, EditOfBare, ContextStands};
 
@@ -27,13 +27,14 @@ pub fn bare_rows()
 {}
 
 /// The orders that an ask looks for in bare lives are those of the lives, bare, and the plans in use
-/// are the same.
+/// and what is counted are the same.
 pub fn bare_views()
     ensures last { LastOfBare }
     ensures named { NamedInBare }
     ensures subject { SubjectOfBare }
     ensures listing { ListingOfBare }
     ensures plans { PlansOfBare }
+    ensures counts { CountsOfBare }
 {}
 
 /// A change of a bare life does to it what the change with its context does to the life, may be made

@@ -14,6 +14,7 @@ pub mod SettingsData
 pub mod Contents
 pub mod FaultNames
 pub mod Faults
+pub mod Found
 pub mod Places
 pub mod Rules
 pub mod Sound

@@ -25,7 +25,7 @@ fn refuses_login_at(file: &Value, door: Field) -> bool
     }
 }
 
-fn refuses_login(login: &Value) -> bool
+pub(crate) fn refuses_login(login: &Value) -> bool
     ensures { result ≡ refuses_login (view login.now) }
 {
     !is_user(text_at(login, Field::User)) || !is_password(text_at(login, Field::Password))

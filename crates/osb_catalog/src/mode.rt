@@ -71,7 +71,7 @@ fn some_binds_later(file: &Value, plans: &[Value]) -> bool
     false
 }
 
-fn binds_later(file: &Value, plan: &Value) -> bool
+pub(crate) fn binds_later(file: &Value, plan: &Value) -> bool
     ensures { result ≡ binds_later (view file.now) (view plan.now) }
 {
     match mode_of_plan(file, text_at(plan, Field::Id)) {

@@ -38,7 +38,7 @@ fn some_has_wrong_version(alloc: Global, plans: &[Value]) -> Result<bool, AllocE
     Ok(false)
 }
 
-fn has_wrong_version(alloc: Global, plan: &Value) -> Result<bool, AllocError>
+pub(crate) fn has_wrong_version(alloc: Global, plan: &Value) -> Result<bool, AllocError>
     ensures { IfOk result (λ b. b ≡ has_wrong_version (view plan.now)) }
 {
     match value_at(plan, Field::MaintenanceInfo) {

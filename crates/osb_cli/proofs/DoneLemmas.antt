@@ -1,11 +1,13 @@
 -- What a command has done.
-use Rattle.std.proofs.Common.{◌≡◌, ◌≢◌, ◌∙◌, refl, sym, subst, Bor, true, ℕ, List, [], ◌∷◌, map, length, codes, Option, None}
+use Rattle.std.proofs.Common.{◌≡◌, ◌≢◌, ◌∙◌, refl, sym, ap, subst, Bor, true, bytes_eq, ℕ, List, [], ◌∷◌, map, length, codes, Option, None, option_map, unwrap_or, Result, Ok, Err, IsOk, OnOk, IfErr}
+use Rattle.std.proofs.lemmas.Bool.{false≢true}
 use Rattle.std.proofs.lemmas.List.{length-map}
 use Rattle.clap.specs.Words.{subcommand_of, takes}
 use Rattle.clap.proofs.OnLiterals.{clap_on_literals}
-use Rattle.osb_cli.specs.Done.{AreConnections, IsChecked, IsDone, IsReplayedBy, IsReplayedFor}
+use Rattle.osb_cli.specs.Done.{AreChecked, AreConnections, IsDone, IsReplayedBy, IsReplayedFor}
 use Rattle.osb_cli.specs.Grammar.{osb_broker}
-use Rattle.osb_cli.specs.Words.{AsksReplay, Found, Names}
+use Rattle.osb_cli.specs.Words.{AsksCheck, AsksReplay, Found, Names}
+use Rattle.osb_cli.specs.declared.words.Check.{Check}
 use Rattle.osb_cli.specs.declared.words.Replay.{Replay}
 
 -- without words there is no command
@@ -22,16 +24,46 @@ pub of_files : (names : List (Bor (List ℕ))) (input : Option (List ℕ)) (file
 of_files [] input files some same = absurd (some refl)
 of_files (name ∷ names) input files some same = same ∙ sym (length-map (name ∷ names) (λ it. it.now))
 
+-- no words name two commands
+pub not_both : (found : Found) → Names (codes "check") found → Names (codes "serve") found → ⊥
+not_both found checks serves = false≢true (sym (ap (λ (name : Option (List ℕ)). bytes_eq (unwrap_or name []) (codes "check")) (sym checks ∙ serves)))
+
+-- what was done well without a file was done well
+pub done_well : {A B E F : Type 0} (done : Result A E) (told : Result B F) (P : Type 0) → OnOk told (IsOk done) → OnOk done P → OnOk told P
+done_well (Ok x) (Ok y) P well known = known
+done_well (Err fault) (Ok y) P well known = cc
+done_well done (Err other) P well known = tt
+
+pub if_done : {A E : Type 0} (done : Result A E) (P : Type 0) → P → OnOk done P
+if_done (Ok x) P known = known
+if_done (Err fault) P known = tt
+
+pub if_failed : {A E : Type 0} (done : Result A E) (P : E → Type 0) → ((fault : E) → P fault) → IfErr done P
+if_failed (Ok x) P known = tt
+if_failed (Err fault) P known = known fault
+
 module _ (found : Found) (input : Option (List ℕ)) (old new : List ℕ) where
-  pub is_checked : Names (codes "check") found → IsChecked old new → IsDone found input old new
-  is_checked is checked = record { check = λ _. checked; replay = λ other. absurd (other is) }
+  pub is_checked : (asked : Check) → AsksCheck found asked
+      → AreChecked (option_map (λ it. it.now) asked.settings) (option_map (λ it. it.now) asked.database) old new
+      → IsDone found input old new
+  is_checked asked asks checked = record {
+    check = λ _. rw (asks.settings, asks.database) at checked;
+    replay = λ other another. absurd (other asks.named);
+  }
 
   pub is_replayed : (asked : Replay) → AsksReplay found asked
       → IsReplayedFor asked input old new
       → IsDone found input old new
   is_replayed asked asks replayed = record {
-    check = λ is. absurd (asks.named is);
-    replay = λ _. (asked.per_connection.number, asks.per_connection, rw (asks.settings, asks.connections) at replayed);
+    check = λ is. absurd (asks.no_check is);
+    replay = λ _ _. (asked.per_connection.number, asks.per_connection, rw (asks.settings, asks.connections) at replayed);
+  }
+
+  -- nothing is said of what `serve` writes to standard output
+  pub is_neither : Names (codes "serve") found → IsDone found input old new
+  is_neither is = record {
+    check = λ checks. absurd (not_both found checks is);
+    replay = λ other another. absurd (another is);
   }
 
   -- without words the input is replayed
@@ -40,5 +72,5 @@ module _ (found : Found) (input : Option (List ℕ)) (old new : List ℕ) where
     where
       plain : IsDone None input old new → IsReplayedBy None 1 [] input old new
       plain it =
-          let replay = it.replay (λ is. cc) in
+          let replay = it.replay (λ is. cc) (λ is. cc) in
           subst (λ most. IsReplayedBy None most [] input old new) replay.1 replay.2

@@ -60,6 +60,11 @@ pub fault_if_4 : {A C : Type 0} (done : Result A Unserved) (status : ℕ) (conn 
 fault_if_4 (Ok x) status conn P Q zero is plan known f = absurd (omega (arith, is, zero))
 fault_if_4 (Err fault) status conn P Q zero is plan known f = IfSome_then conn known (f fault plan)
 
+-- status 4 is of a fault that names a plan
+pub serves_if_4 : {A : Type 0} (done : Result A Unserved) (status : ℕ) {P : Type 0} → OnOk done (status ≡ 0) → status ≡ 4 → IfErr done IsPlan → IfErr done (λ fault. IsPlan fault → P) → P
+serves_if_4 (Ok x) status zero is plan serves = absurd (omega (arith, is, zero))
+serves_if_4 (Err fault) status zero is plan serves = serves plan
+
 -- what was done well opened the file, where only a fault leaves it
 pub is_opened : {A E C : Type 0} (done : Result A E) (conn : Option C) (fault : E) (x : A) → done ≡ Ok x → IfNone conn (done ≡ Err fault) → IsSome conn
 is_opened done None fault x is leaves = cc

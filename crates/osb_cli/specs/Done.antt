@@ -1,7 +1,12 @@
 -- What a command that ends with status 0 has written.
-use Rattle.std.specs.Prelude.{◌≡◌, ℕ, List, [], ◌∷◌, ◌++◌, length, codes, decimal, map, Option, option_map, IfSome}
+use Rattle.std.specs.Prelude.{◌≡◌, ℕ, List, [], ◌∷◌, ◌++◌, length, codes, decimal, map, Option, None, Some, option_map, IfSome}
+use Rattle.sqlite.specs.Files.{HoldsDatabase}
+use Rattle.sqlite_trees.specs.Tree.{Trees}
 use Rattle.osb_catalog.specs.Rules.{rules_of}
 use Rattle.osb_catalog.specs.SettingsData.{SettingsData}
+use Rattle.osb_audit.specs.declared.counting.Counts.{Counts}
+use Rattle.osb_file.specs.declared.copied.Copied.{Copied}
+use Rattle.osb_file.specs.Looked.{IsCounted, image_in}
 use Rattle.osb_cli.specs.Replay.{IsReplayed}
 use Rattle.osb_cli.specs.Settings.{AreAccepted, AreSettingsOf}
 use Rattle.osb_cli.specs.declared.words.Replay.{Replay}
@@ -16,6 +21,33 @@ pub record IsChecked (old new : List ℕ) : Type 0 where
   pub settings : SettingsData
   pub accepted : AreAccepted settings
   pub written : new ≡ old ++ counts_line (length settings.services) (length settings.plans)
+
+abbrev pub database_line : Counts → List ℕ
+database_line counts =
+    codes "instances " ++ (decimal counts.instances ++ (codes ", bindings " ++ (decimal counts.bindings
+    ++ (codes ", running " ++ (decimal counts.running ++ codes "\n")))))
+
+-- the line of some files was written, by the lives that stand in any database that they hold
+pub record IsLookedAt (old new : List ℕ) : Type 0 where
+  pub files : Copied
+  pub counts : Counts
+  pub counted : (db : Trees) → HoldsDatabase (image_in files) db → IsCounted db counts
+  pub written : new ≡ old ++ database_line counts
+
+-- where a file is named, its line
+abbrev pub AreSettingsChecked : Option (List ℕ) → List ℕ → List ℕ → Type 0
+AreSettingsChecked None old new = new ≡ old
+AreSettingsChecked (Some file) old new = IsChecked old new
+
+abbrev pub IsDatabaseChecked : Option (List ℕ) → List ℕ → List ℕ → Type 0
+IsDatabaseChecked None old new = new ≡ old
+IsDatabaseChecked (Some file) old new = IsLookedAt old new
+
+-- the line of the settings, and behind it that of the database
+pub record AreChecked (settings database : Option (List ℕ)) (old new : List ℕ) : Type 0 where
+  pub between : List ℕ
+  pub settings_checked : AreSettingsChecked settings old between
+  pub database_checked : IsDatabaseChecked database between new
 
 -- a connection for each of these files; without any, all of the input is one, as far as it is known
 abbrev pub AreConnections : List (List ℕ) → Option (List ℕ) → List (List ℕ) → Type 0
@@ -37,8 +69,9 @@ abbrev pub IsReplayedFor : Replay → Option (List ℕ) → List ℕ → List �
 IsReplayedFor asked = IsReplayedBy (option_map (λ it. it.now) asked.settings) asked.per_connection.number
     (map (λ it. it.now) asked.connections.items)
 
--- what `check` has written, and what any other command
+-- what `check` has written, and what `replay`, also without its name
 pub record IsDone (found : Found) (input : Option (List ℕ)) (old new : List ℕ) : Type 0 where
-  pub check : Names (codes "check") found → IsChecked old new
-  pub replay : ¬ Names (codes "check") found → (most : ℕ) × HasPerConnection found most
+  pub check : Names (codes "check") found →
+      AreChecked (text_in (codes "settings") found) (text_in (codes "database") found) old new
+  pub replay : ¬ Names (codes "check") found → ¬ Names (codes "serve") found → (most : ℕ) × HasPerConnection found most
       × IsReplayedBy (text_in (codes "settings") found) most (texts_in (codes "connections") found) input old new

@@ -3,7 +3,7 @@ use Rattle.std.specs.Prelude.{ℕ, true, List, codes, pos, Some}
 use Rattle.clap.specs.Lexer.{usize_max}
 use Rattle.clap.specs.Words.{App, Rule, new_app, new_rule, with_rule, with_subcommand}
 use Rattle.clap.specs.Simple.{on_top}
-use Rattle.clap.specs.declared.builder.ArgAction.TheVariants.{Append}
+use Rattle.clap.specs.declared.builder.ArgAction.TheVariants.{Append, SetTrue}
 use Rattle.clap.specs.declared.builder.value_parser.ValueParser.TheVariants as parser
 
 -- `--ID TEXT`, which may be left out
@@ -18,9 +18,13 @@ required_option id = record (text_option id) { required = true }
 abbrev pub number_option : List ℕ → ℕ → Rule
 number_option id most = record (text_option id) { parser = Some (parser.Signed (pos 1) (pos most)) }
 
--- the file of `check`
+-- the settings file of `check`, which may be left out
 abbrev pub settings_word : Rule
-settings_word = record (new_rule (codes "settings")) { value_names = 1; required = true }
+settings_word = record (new_rule (codes "settings")) { value_names = 1 }
+
+-- `--ID`
+abbrev pub flag_option : List ℕ → Rule
+flag_option id = record (new_rule id) { long = Some id; action = Some SetTrue }
 
 -- the files of `replay`, any number of them
 abbrev pub files_word : Rule
@@ -34,7 +38,8 @@ abbrev pub per_connection_option : Rule
 per_connection_option = number_option (codes "per-connection") 1000
 
 abbrev pub check_command : App
-check_command = with_rule (new_app (codes "check")) settings_word
+check_command = with_rule (with_rule (with_rule (new_app (codes "check"))
+    settings_word) (flag_option (codes "explain"))) (text_option (codes "database"))
 
 abbrev pub replay_command : App
 replay_command = with_rule (with_rule (with_rule (new_app (codes "replay"))

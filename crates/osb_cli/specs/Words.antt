@@ -5,6 +5,7 @@ use Rattle.std.specs.Duration.{as_nanos}
 use Rattle.clap.specs.Words.{Row, Text, all_of, first_of, found_of, one_of, rows_of, subcommand_of, takes}
 use Rattle.clap.specs.declared.parser.matches.ArgMatches.{ArgMatches}
 use Rattle.osb_cli.specs.Grammar.{osb_broker}
+use Rattle.osb_cli.specs.declared.words.Check.{Check}
 use Rattle.osb_cli.specs.declared.words.Listen.{Listen}
 use Rattle.osb_cli.specs.declared.words.Order.{Order}
 use Rattle.osb_cli.specs.declared.words.Order.TheVariants as order
@@ -60,7 +61,8 @@ abbrev pub HasTimeLimit : Found → ℕ → Type 0
 HasTimeLimit found = HasNumber 86400 10 (number_in (codes "time-limit") found)
 
 pub record AsksReplay (found : Found) (asked : Replay) : Type 0 where
-  pub named : ¬ Names (codes "check") found
+  pub no_check : ¬ Names (codes "check") found
+  pub no_serve : ¬ Names (codes "serve") found
   pub settings : option_map (λ it. it.now) asked.settings ≡ text_in (codes "settings") found
   pub connections : map (λ it. it.now) asked.connections.items ≡ texts_in (codes "connections") found
   pub per_connection : HasPerConnection found asked.per_connection.number
@@ -76,8 +78,13 @@ pub record AsksServe (found : Found) (asked : Listen) : Type 0 where
   pub time_limit : as_nanos asked.place.time_limit ≡ seconds * 1000000000
   pub limit : HasTimeLimit found seconds
 
+pub record AsksCheck (found : Found) (asked : Check) : Type 0 where
+  pub named : Names (codes "check") found
+  pub settings : option_map (λ it. it.now) asked.settings ≡ text_in (codes "settings") found
+  pub database : option_map (λ it. it.now) asked.database ≡ text_in (codes "database") found
+
 -- the order is what the words ask for
 abbrev pub Asks : Found → Order → Type 0
-Asks found (order.Check file) = Names (codes "check") found × (file.now ≡ unwrap_or (text_in (codes "settings") found) [])
+Asks found (order.Check asked) = AsksCheck found asked
 Asks found (order.Replay asked) = AsksReplay found asked
 Asks found (order.Serve asked) = AsksServe found asked

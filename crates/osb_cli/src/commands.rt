@@ -1,7 +1,7 @@
 //! What the words ask for, done.
 
-ghost use Rattle.std.specs.Prelude.{◌≡◌, ◌≤◌, [], map, string_bytes, None, IfSome, IsSome};
-ghost use Rattle.std.specs.Prelude.{IsErr, IfErr, OnOk, OnErr};
+ghost use Rattle.std.specs.Prelude.{◌≡◌, ◌≤◌, [], codes, map, string_bytes, None, IfSome, IsSome};
+ghost use Rattle.std.specs.Prelude.{IsErr, IsOk, IfErr, OnOk, OnErr};
 ghost use Rattle.clap.specs.Words.{kind_of};
 ghost use Rattle.sqlite.specs.Tree.{Trees};
 ghost use Rattle.sqlite_wal.specs.Files.{image_at};
@@ -10,7 +10,7 @@ ghost use Rattle.osb_records.specs.Steps.{stored};
 ghost use Rattle.osb_broker.specs.Kept.{Works};
 ghost use Rattle.osb_cli.specs.Done.{IsDone, IsReplayedBy, IsReplayedFor};
 ghost use Rattle.osb_cli.specs.Serve.{IsPlan, IsServedAs, NamesInUse, NamesSome};
-ghost use Rattle.osb_cli.specs.Words.{AreTaken, found_by};
+ghost use Rattle.osb_cli.specs.Words.{AreTaken, Names, found_by};
 
 use crate::check::check;
 use crate::fault::{Fault, Unserved};
@@ -60,58 +60,39 @@ fn replay<'a, R: Source, W: Sink>(
     }
 }
 
-fn perform<'a, R: Source, W: Sink>(
-    rt: &HostRuntime,
-    words: &'a [String],
-    input: &mut R,
-    output: &mut W,
-) -> Result<(), Fault<'a>>
-    ensures { AreTaken (map string_bytes words.now) →
-        OnOk result (IsDone (found_by (map string_bytes words.now)) (R.rest input.old)
-        (W.taken output.old) (W.taken output.new)) }
-{
-    let order = match read(rt.alloc(), words) {
-        Ok(order) => order,
-        Err(error) => return answer_words(rt.alloc(), &error, output),
-    };
-    match order {
-        Order::Check { settings } => check(rt, settings, output),
-        Order::Replay(asked) => replay(rt, &asked, input, output),
-        Order::Serve(_) => other_command(rt.alloc(), "serve is a command of its own\n"),
-    }
-}
-
-/// The fault of words that name a command which is done elsewhere.
-fn other_command(alloc: Global, line: &str) -> Result<(), Fault<'static>>
-    ensures { IsErr result }
-{
-    let text = String::from_str(alloc, line)?;
-    Err(Fault::Words(text))
-}
-
 /// What was done without a database file.
 fn without_file<'a, S: Start>(done: Result<(), Fault<'a>>) -> (Result<(), Unserved<'a>>, Opened<S>)
     ensures none { result.1 ≡ None }
-    ensures fails { IsErr done.entry → IsErr result.0 }
+    ensures well { OnOk result.0 (IsOk done.entry) }
+    ensures other { IfErr result.0 (λ fault. ¬ IsPlan fault) }
 {
     match done {
         Ok(()) => (Ok(()), None),
-        Err(fault) => (Err(Unserved::from(fault)), None),
+        Err(fault) => (Err(Unserved::Fault(fault)), None),
     }
 }
 
-fn perform_serve<'a, S: Start, W: Sink, E: Sink>(
+/// Does what the words ask for, and hands out the connection to the database file that it opened.
+fn perform<'a, S: Start, R: Source, W: Sink, E: Sink>(
     rt: &HostRuntime,
     words: &'a [String],
     start: S,
+    input: &mut R,
     output: &mut W,
     errors: &mut E,
 ) -> (Result<(), Unserved<'a>>, Opened<S>)
+    ensures done { AreTaken (map string_bytes words.now) →
+        OnOk result.0 (IsDone (found_by (map string_bytes words.now)) (R.rest input.old)
+        (W.taken output.old) (W.taken output.new)) }
     ensures served { OnOk result.0 (IfSome result.1 (λ conn. Works (file_state conn) →
         (db : Trees) → HoldsDatabase (image_at S.Start) db →
         IsServedAs (found_by (map string_bytes words.now)) db (stored (file_state conn))
         (E.taken errors.old) (E.taken errors.new))) }
-    ensures opened { AreTaken (map string_bytes words.now) → OnOk result.0 (IsSome result.1) }
+    ensures opened { AreTaken (map string_bytes words.now) →
+        Names (codes "serve") (found_by (map string_bytes words.now)) →
+        OnOk result.0 (IsSome result.1) }
+    ensures serves { IfErr result.0 (λ fault. IsPlan fault →
+        Names (codes "serve") (found_by (map string_bytes words.now))) }
     ensures lacks { IfErr result.0 (λ fault. IfSome result.1 (λ conn. Works (file_state conn) →
         (db : Trees) → HoldsDatabase (image_at S.Start) db → NamesInUse db fault)) }
 {
@@ -120,29 +101,14 @@ fn perform_serve<'a, S: Start, W: Sink, E: Sink>(
         Err(error) => return without_file(answer_words(rt.alloc(), &error, output)),
     };
     match order {
+        Order::Check(asked) => without_file(check(rt, &asked, output)),
+        Order::Replay(asked) => without_file(replay(rt, &asked, input, output)),
         Order::Serve(asked) => listen(rt, &asked, start, output, errors),
-        Order::Check { .. } | Order::Replay(_) => {
-            without_file(other_command(rt.alloc(), "the command is not serve\n"))
-        }
     }
 }
 
 /// The status of what was done. A fault has a line on `errors`.
-fn status_of<E: Sink>(done: Result<(), Fault<'_>>, errors: &mut E) -> u8
-    ensures most { result ≤ 3 }
-    ensures fails { OnErr done.entry (1 ≤ result) }
-{
-    match done {
-        Ok(()) => 0,
-        Err(fault) => {
-            fault.tell(errors);
-            fault.status()
-        }
-    }
-}
-
-/// The same of `serve`.
-fn serve_status_of<E: Sink>(done: Result<(), Unserved<'_>>, errors: &mut E) -> u8
+fn status_of<E: Sink>(done: Result<(), Unserved<'_>>, errors: &mut E) -> u8
     ensures most { result ≤ 4 }
     ensures zero { OnOk done.entry (result ≡ 0) }
     ensures fails { OnErr done.entry (1 ≤ result) }
@@ -156,59 +122,47 @@ fn serve_status_of<E: Sink>(done: Result<(), Unserved<'_>>, errors: &mut E) -> u
     fault.status()
 }
 
-/// Does what the words after the program's name ask for, and gives the status that the process
-/// ends with: 0 where all went well or help or the version was asked for, 1 where a file, memory or standard
-/// output failed, 2 where the words aren't those of `check` or `replay`, 3 where settings aren't
-/// accepted. A status other than 0 has a line on `errors`; a failed write there is passed over.
+/// Does what the words after the program's name ask for, and gives the status that the process ends
+/// with and, of `serve`, the connection to its database file, where it was opened.
+///
+/// The status is 0 where all went well or help or the version was asked for, 1 where a file, memory or
+/// standard output failed, the database can't be used or its file is taken away, the address can't be
+/// listened at or a connection can't be taken, 2 where the words aren't those of a command, 3 where
+/// settings aren't accepted, and 4 where the catalog lacks a plan that the database has in use. A status
+/// other than 0 has a line on `errors`; a failed write there is passed over. While `serve` goes on, a
+/// fault of a connection is a line there, and the next connection is taken.
 ///
 /// Where the words are those of a command, so no help was asked for, what was written with status 0 is
-/// the line of `check`, or exactly the replies of `replay`; of files nothing is said but that each is a
+/// the lines of `check`, or exactly the replies of `replay`; of files nothing is said but that each is a
 /// connection. Without any words it replays the whole input with the built-in settings, one request.
-pub fn run<R: Source, W: Sink, E: Sink>(
-    rt: &HostRuntime,
-    words: &[String],
-    input: &mut R,
-    output: &mut W,
-    errors: &mut E,
-) -> u8
-    ensures most { result ≤ 3 }
-    ensures done { AreTaken (map string_bytes words.now) → result ≡ 0 →
-        IsDone (found_by (map string_bytes words.now)) (R.rest input.old)
-        (W.taken output.old) (W.taken output.new) }
-    ensures plain { words.now ≡ [] → result ≡ 0 →
-        IsReplayedBy None 1 [] (R.rest input.old) (W.taken output.old) (W.taken output.new) }
-{
-    let done = perform(rt, words, input, output);
-    status_of(done, errors)
-}
-
-/// Does what the words ask for where they name `serve`: takes connections at an address, one after
-/// the other, and answers them from one broker, which keeps its orders in a database file. A fault
-/// of a connection is a line on `errors`, and the next connection is taken.
 ///
-/// The status is that of [`run`]: also 1 where the database can't be used or its file is taken away,
-/// the address can't be listened at or a connection can't be taken, 2 where the words name another
-/// command, and 4 where the catalog lacks a plan that the database has in use.
-///
-/// `start` stands for what the file of the database holds. What is said of lives is said of each
-/// database that it may hold, of the connection to it, which comes back where it was opened: with
-/// status 0 always, but where help was asked for.
-pub fn serve_command<S: Start, W: Sink, E: Sink>(
+/// `start` stands for what the file of `serve`'s database holds. What is said of lives is said of each
+/// database that it may hold, of the connection to it.
+pub fn run<S: Start, R: Source, W: Sink, E: Sink>(
     rt: &HostRuntime,
     words: &[String],
     start: S,
+    input: &mut R,
     output: &mut W,
     errors: &mut E,
 ) -> (u8, Opened<S>)
     ensures most { result.0 ≤ 4 }
+    ensures done { AreTaken (map string_bytes words.now) → result.0 ≡ 0 →
+        IsDone (found_by (map string_bytes words.now)) (R.rest input.old)
+        (W.taken output.old) (W.taken output.new) }
+    ensures plain { words.now ≡ [] → result.0 ≡ 0 →
+        IsReplayedBy None 1 [] (R.rest input.old) (W.taken output.old) (W.taken output.new) }
     ensures served { result.0 ≡ 0 → IfSome result.1 (λ conn. Works (file_state conn) →
         (db : Trees) → HoldsDatabase (image_at S.Start) db →
         IsServedAs (found_by (map string_bytes words.now)) db (stored (file_state conn))
         (E.taken errors.old) (E.taken errors.new)) }
-    ensures opened { AreTaken (map string_bytes words.now) → result.0 ≡ 0 → IsSome result.1 }
+    ensures opened { AreTaken (map string_bytes words.now) → result.0 ≡ 0 →
+        Names (codes "serve") (found_by (map string_bytes words.now)) → IsSome result.1 }
+    ensures serves { result.0 ≡ 4 →
+        Names (codes "serve") (found_by (map string_bytes words.now)) }
     ensures lacks { result.0 ≡ 4 → IfSome result.1 (λ conn. Works (file_state conn) →
         (db : Trees) → HoldsDatabase (image_at S.Start) db → NamesSome db) }
 {
-    let (done, conn) = perform_serve(rt, words, start, output, errors);
-    (serve_status_of(done, errors), conn)
+    let (done, conn) = perform(rt, words, start, input, output, errors);
+    (status_of(done, errors), conn)
 }

@@ -3,7 +3,8 @@
 ghost use Rattle.std.specs.Prelude.{◌≡◌, ◌≤◌};
 
 use itoa::Buffer;
-use osb_catalog::SettingsFault;
+use osb_catalog::{Place, SettingsFault};
+use osb_file::Unseen;
 use osb_frames::{Sink, send_all};
 use osb_records::StoreFault;
 use osb_text::Text;
@@ -30,6 +31,10 @@ pub(crate) enum Fault<'a> {
     Words(String),
     /// The settings aren't accepted.
     Settings(SettingsFault),
+    /// The same, and where in them the fault is.
+    Placed(SettingsFault, Place),
+    /// The database file can't be looked at.
+    Unseen(Unseen),
 }
 
 /// Why `serve` ends with another status than 0.
@@ -49,6 +54,17 @@ impl From<AllocError> for Fault<'_> {
 
     fn from(_error: AllocError) -> Self {
         Fault::OutOfMemory
+    }
+}
+
+impl From<Unseen> for Fault<'_> {
+    ghost use Rattle.std.specs.Prelude.{◌≡◌};
+    ghost use Rattle.osb_cli.specs.declared.fault.Fault.TheVariants.{Unseen};
+
+    ghost from_gives = { λ unseen fault. fault ≡ Unseen unseen };
+
+    fn from(unseen: Unseen) -> Self {
+        Fault::Unseen(unseen)
     }
 }
 
@@ -99,6 +115,37 @@ fn tell_settings<E: Sink>(fault: SettingsFault, errors: &mut E) {
     }
 }
 
+/// Writes where in the settings a fault is.
+fn tell_place<E: Sink>(place: &Place, errors: &mut E) {
+    let (mut digits, mut more) = (Buffer::new(), Buffer::new());
+    match place {
+        Place::File => say(errors, &["at the top\n"]),
+        Place::Catalog => say(errors, &["at catalog\n"]),
+        Place::Platform => say(errors, &["at platform\n"]),
+        Place::Backend => say(errors, &["at backend\n"]),
+        Place::Service(at) => say(errors, &["at catalog.services[", digits.format(*at), "]\n"]),
+        Place::Plan(service, at) => say(
+            errors,
+            &[
+                "at catalog.services[",
+                digits.format(*service),
+                "].plans[",
+                more.format(*at),
+                "]\n",
+            ],
+        ),
+        Place::Mode(name) => say(errors, &["at modes.", name.as_str(), "\n"]),
+    }
+}
+
+/// Writes the line of a database file that can't be looked at, and behind it the cause.
+fn tell_unseen<E: Sink>(unseen: Unseen, errors: &mut E) {
+    tell_database(unseen.store_fault(), errors);
+    if unseen != Unseen::NotOurs {
+        say(errors, &[unseen.text(), "\n"]);
+    }
+}
+
 /// Writes the line of a fault of the database: its number and its name.
 fn tell_database<E: Sink>(fault: StoreFault, errors: &mut E) {
     match fault {
@@ -120,9 +167,10 @@ impl Fault<'_> {
             | Fault::Database(_)
             | Fault::CannotWrite
             | Fault::CannotListen(_)
-            | Fault::CannotAccept => 1,
+            | Fault::CannotAccept
+            | Fault::Unseen(_) => 1,
             Fault::Words(_) => 2,
-            Fault::Settings(_) => 3,
+            Fault::Settings(_) | Fault::Placed(_, _) => 3,
         }
     }
 
@@ -141,6 +189,11 @@ impl Fault<'_> {
             Fault::CannotAccept => say(errors, &["osb-broker: cannot accept\n"]),
             Fault::Words(text) => say(errors, &[text.as_str()]),
             Fault::Settings(fault) => tell_settings(*fault, errors),
+            Fault::Placed(fault, place) => {
+                tell_settings(*fault, errors);
+                tell_place(place, errors);
+            }
+            Fault::Unseen(unseen) => tell_unseen(*unseen, errors),
         }
     }
 }

@@ -2,7 +2,7 @@
 
 ghost use Rattle.std.specs.Prelude.{◌≡◌, false, IfOk, IfErr, codes};
 ghost use Rattle.clap.specs.Words.{app_of, new_app, rule_of, kind_of};
-ghost use Rattle.osb_cli.specs.Grammar.{check_command, files_word, number_option, osb_broker, replay_command, required_option, serve_command, text_option};
+ghost use Rattle.osb_cli.specs.Grammar.{check_command, files_word, flag_option, number_option, osb_broker, replay_command, required_option, serve_command, settings_word, text_option};
 
 use clap::error::ErrorKind;
 use clap::{Arg, ArgAction, Command, Error, value_parser};
@@ -25,11 +25,17 @@ Status:
   4  the settings lack a plan that the database has in use
 With any status but 0 a line on standard error says why.";
 
-const CHECK: &str = "Check a settings file";
+const CHECK: &str = "Check a settings file, a database file, or both";
 
-const CHECK_MORE: &str = "Prints the number of services and of plans in the catalog, as
-`services 1, plans 2`; or on standard error the first fault of the settings,
-as `settings: 2 Missing id`. docs/SETTINGS.md lists the fields and the faults.";
+const CHECK_MORE: &str = "Of a settings file it prints the number of services and of plans in the
+catalog, as `services 1, plans 2`; or on standard error the first fault of the
+settings, as `settings: 2 Missing id`, and with `--explain` where it is, as
+`at catalog.services[0].plans[1]`. docs/SETTINGS.md lists the fields and the
+faults.
+Of a database file it prints what it has, as `instances 2, bindings 1, running
+0`; or on standard error why `serve` wouldn't open it, as `database: 1 Refused`
+and behind it `in use`. It reads the file and its log into memory and changes
+neither, so it may look at a backup, or at the file of a broker that runs.";
 
 const REPLAY: &str = "Answer the requests in files or on standard input";
 
@@ -60,6 +66,27 @@ fn text_option<'a>(alloc: Global, id: &'a str, value: &'a str, help: &'a str) ->
     ensures local { result.global ≡ false }
 {
     Arg::new(alloc, id).long(id).value_name(value).help(help)
+}
+
+/// The settings file of `check`.
+fn settings_word<'a>(alloc: Global) -> Arg<'a>
+    ensures rule { rule_of result ≡ settings_word }
+    ensures local { result.global ≡ false }
+{
+    Arg::new(alloc, "settings").value_name("FILE").help(
+        "The settings file, a JSON object of at most 16777216 bytes",
+    )
+}
+
+/// `--explain`.
+fn explain_option<'a>(alloc: Global) -> Arg<'a>
+    ensures rule { rule_of result ≡ flag_option (codes "explain") }
+    ensures local { result.global ≡ false }
+{
+    Arg::new(alloc, "explain")
+        .long("explain")
+        .action(ArgAction::SetTrue)
+        .help("Says where in the settings a fault is")
 }
 
 /// `--ID VALUE`, which has to be there.
@@ -139,11 +166,14 @@ fn check_command<'a>(alloc: Global) -> Result<Command<'a>, Error>
     ensures app { IfOk result (λ command. app_of command ≡ check_command) }
     ensures err { IfErr result (λ error. kind_of error ≡ ErrorKind.OutOfMemory) }
 {
-    let settings = Arg::new(alloc, "settings")
-        .value_name("FILE")
-        .help("A JSON object of at most 16777216 bytes")
-        .required(true);
-    Ok(begun(alloc, "check", CHECK, CHECK_MORE, "osb-broker check <FILE>").arg(settings)?)
+    let usage = "osb-broker check [--explain] [--database FILE] [FILE]";
+    let path = "A database file to look at";
+    Ok(
+        begun(alloc, "check", CHECK, CHECK_MORE, usage)
+            .arg(settings_word(alloc))?
+            .arg(explain_option(alloc))?
+            .arg(text_option(alloc, "database", "FILE", path))?,
+    )
 }
 
 /// `replay` and its words.

@@ -1,5 +1,5 @@
-//! The command line of osb-broker, as a library: [`run`] and [`serve_command`] do what the words ask
-//! for and give the status that the process ends with, as [`words_unread`] does where they can't be read.
+//! The command line of osb-broker, as a library: [`run`] does what the words ask for and gives the status
+//! that the process ends with, as [`words_unread`] does where they can't be read.
 #![tactic(auto)]
 
 mod check;
@@ -15,5 +15,5 @@ mod settings;
 mod unread;
 mod words;
 
-pub use commands::{run, serve_command};
+pub use commands::run;
 pub use unread::words_unread;

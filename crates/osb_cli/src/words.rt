@@ -13,6 +13,17 @@ use osb_listen::Place;
 use std::alloc::{AllocError, Global};
 use std::time::Duration;
 
+/// What is checked.
+#[derive(Clone, Copy, Debug)]
+pub(crate) struct Check<'a> {
+    /// The name of the settings file.
+    pub(crate) settings: Option<&'a str>,
+    /// Whether it is said where in the settings a fault is.
+    pub(crate) explain: bool,
+    /// The path of the database file.
+    pub(crate) database: Option<&'a str>,
+}
+
 /// Where connections are taken, and how.
 #[derive(Clone, Copy, Debug)]
 pub(crate) struct Listen<'a> {
@@ -35,8 +46,8 @@ pub(crate) struct Replay<'a> {
 /// What the words ask for.
 #[derive(Debug, Drop)]
 pub(crate) enum Order<'a> {
-    /// Check the settings file of that name.
-    Check { settings: &'a str },
+    /// Check a settings file, a database file, or both.
+    Check(Check<'a>),
     /// Serve connections whose bytes are all there.
     Replay(Replay<'a>),
     /// Serve TCP connections.
@@ -85,9 +96,20 @@ fn files_of<'a>(alloc: Global, found: &ArgMatches<'a>) -> Result<Vec<&'a str>, A
     Ok(names)
 }
 
+/// The order to check, as the words after `check` say it.
+fn check_order<'a>(found: &ArgMatches<'a>) -> Order<'a>
+    ensures { Asks (Some (codes "check", rows_of (found_of found.now))) result }
+{
+    Order::Check(Check {
+        settings: found.get_str("settings"),
+        explain: found.get_flag("explain"),
+        database: found.get_str("database"),
+    })
+}
+
 /// The order to replay, as the words after `replay` say it.
 fn replay_order<'a>(alloc: Global, found: &ArgMatches<'a>) -> Result<Order<'a>, AllocError>
-    ensures { (name : List ℕ) → name ≢ codes "check" →
+    ensures { (name : List ℕ) → name ≢ codes "check" → name ≢ codes "serve" →
         IfOk result (Asks (Some (name, rows_of (found_of found.now)))) }
 {
     Ok(Order::Replay(Replay {
@@ -122,9 +144,7 @@ pub(crate) fn read<'a>(alloc: Global, words: &'a [String]) -> Result<Order<'a>, 
 {
     let matches = osb_broker(alloc)?.try_get_matches_from(words)?;
     match matches.subcommand() {
-        Some(("check", found)) => Ok(Order::Check {
-            settings: found.get_str("settings").unwrap_or(""),
-        }),
+        Some(("check", found)) => Ok(check_order(found)),
         Some(("serve", found)) => Ok(serve_order(found)),
         Some((_, found)) => Ok(replay_order(alloc, found)?),
         None => Ok(Order::Replay(Replay {

@@ -27,7 +27,7 @@ fn node_at(rt: &HostRuntime, path: &str) -> Option<Node> {
 }
 
 /// Whether SQLite has another meaning for the path than a file's: a database in memory, or a URI.
-fn is_special(path: &str) -> bool {
+pub(crate) fn is_special(path: &str) -> bool {
     path == ":memory:" || path.starts_with("file:")
 }
 

@@ -1,7 +1,7 @@
 //! The program `osb-broker`.
 #![tactic(auto)]
 
-use osb_cli::{run, serve_command, words_unread};
+use osb_cli::{run, words_unread};
 use osb_frames::Counted;
 use sqlite::Unknown;
 use std::io;
@@ -19,14 +19,15 @@ fn main(rt: HostRuntime) -> ExitCode {
         Ok(words) => words,
         Err(error) => return ExitCode::from(words_unread(&error, &mut errors)),
     };
-    let serves = words.first().is_some_and(|word| word.as_str() == "serve");
-    let status = if serves {
-        // What the file holds isn't known: what `serve_command` says holds of each database that it may hold.
-        let (status, _) = serve_command(&rt, words.as_slice(), Unknown, &mut output, &mut errors);
-        status
-    } else {
-        let mut input = Counted::new(rt.stdin());
-        run(&rt, words.as_slice(), &mut input, &mut output, &mut errors)
-    };
+    let mut input = Counted::new(rt.stdin());
+    // What the file of a database holds isn't known: what `run` says holds of each that it may hold.
+    let (status, _) = run(
+        &rt,
+        words.as_slice(),
+        Unknown,
+        &mut input,
+        &mut output,
+        &mut errors,
+    );
     ExitCode::from(status)
 }

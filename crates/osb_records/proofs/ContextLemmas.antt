@@ -33,11 +33,14 @@ use Rattle.osb_standing.specs.Laws.{has_rows}
 use Rattle.osb_standing.specs.Read.{IsReadOf}
 use Rattle.osb_standing.specs.Written.{order_written, IsWritten}
 use Rattle.osb_audit.specs.Orders.{Entry, lives_in}
+use Rattle.osb_audit.specs.declared.counting.Counts.{Counts}
+use Rattle.osb_audit.specs.Counts.{AreCounts}
 use Rattle.osb_audit.specs.Plans.{plans_in_use}
 use Rattle.osb_bare.specs.Bare.{bare_order, bare_life, bare_lives, bare_entry}
 use Rattle.osb_bare.specs.Context.{context_over}
 use Rattle.osb_bare.proofs.LifeLemmas.{last_of-bare, bindings_of-bare, written-bare}
 use Rattle.osb_bare.proofs.LivesLemmas.{life_of-bare, is_lives-bare, lives_changed-bare, lives_in-bare}
+use Rattle.osb_bare.proofs.CountLemmas.{counts-bare}
 use Rattle.osb_bare.proofs.ViewLemmas.{plans_in_use-bare}
 use Rattle.osb_bare.proofs.WordLemmas.{allowed-bare}
 use Rattle.osb_joined.specs.declared.entry.ContextEntry.{ContextEntry}
@@ -287,6 +290,9 @@ module _ (db : Database) (has : HasLives db) where
 
   pub plans_read : plans_in_use (lives_told db.trees) ≡ plans_in_use found
   plans_read = ap plans_in_use (told_bare db.trees) ∙ plans_in_use-bare found
+
+  pub counts_read : (counts : Counts) → AreCounts (lives_told db.trees) counts → AreCounts found counts
+  counts_read counts are = counts-bare found counts (subst (λ (lives : Lives). AreCounts lives counts) (told_bare db.trees) are)
 
   pub read_joined : (id : List ℕ) (ask : Ask) (read joined : Read) → IsReadOf (life_of (lives_told db.trees) id) [] ask read → IsJoinedRead entries id read joined → IsReadOf (life_of found id) [] ask joined
   read_joined id ask read joined is joins =

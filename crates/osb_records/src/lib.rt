@@ -2,7 +2,7 @@
 //!
 //! Five floors, each of which calls the one below it: cells and values (`cells`, `names`); a statement (`sql`, and
 //! in `format`, `orders`, `instances` and `bindings` those on each table, beside its columns and rows); several of
-//! them inside a transaction (`tables`, `queries`, `contexts`, `standing`, `writing`, `view`, `reading`, `plans`, `whole`); a
+//! them inside a transaction (`tables`, `queries`, `contexts`, `standing`, `writing`, `view`, `reading`, `plans`, `counting`, `whole`); a
 //! transaction (`commits`, `adopt`); and the public calls (`records`, `memory`). What stays is said once for each
 //! kind of call (`Reads` of osb_contexts).
 #![tactic(auto)]
@@ -12,6 +12,7 @@ mod bindings;
 mod cells;
 mod commits;
 mod contexts;
+mod counting;
 mod fault;
 mod format;
 mod instances;

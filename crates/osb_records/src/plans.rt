@@ -20,7 +20,7 @@ use std::alloc::Global;
 
 /// The rows of all instances, by their ids.
 #[tactic(auto, using(crate::proofs::PlanLemmas::records_schema))]
-fn all_instances<S: Alter>(
+pub(crate) fn all_instances<S: Alter>(
     tx: &mut Transaction<'_, S>,
     alloc: Global,
 ) -> Result<Vec<(Text, InstanceRow)>, StoreFault>

@@ -12,6 +12,7 @@ ghost use Rattle.osb_orders.specs.Lives.{Lives, life_of};
 ghost use Rattle.osb_orders.specs.Facts.{facts, view_of};
 ghost use Rattle.osb_orders.specs.Listing.{listing};
 ghost use Rattle.osb_orders.specs.Changed.{lives_changed};
+ghost use Rattle.osb_audit.specs.Counts.{AreCounts};
 ghost use Rattle.osb_audit.specs.Plans.{plans_in_use};
 ghost use Rattle.osb_orders.specs.IsLife.{IsLives};
 ghost use Rattle.osb_records.specs.declared.fault.StoreFault.TheVariants as faults;
@@ -23,12 +24,14 @@ ghost use Rattle.osb_records.specs.Looks.{Looks, MayLook};
 
 use crate::adopt::take_over;
 use crate::commits::{append, finish};
+use crate::counting::read_counts;
 use crate::fault::StoreFault;
 use crate::plans::read_plans;
 use crate::reading::{read_life, read_running};
 use crate::tables::make_tables;
 use crate::view::{view_of_instance, view_without_instance};
 use osb_asks::Ask;
+use osb_audit::Counts;
 use osb_orders::{Change, Order, View};
 use osb_text::Text;
 use sqlite::{Alter, Connection, MemStore};
@@ -158,6 +161,16 @@ impl<S: Alter> Records<S> {
         ensures looks { Looks (state S.Store self.old) (state S.Store self.new) result }
     {
         read_plans(&mut self.conn, alloc)
+    }
+
+    /// How many instances and bindings there are that aren't absent, and how many orders run. All of
+    /// their rows are read.
+    pub fn counts(&mut self, alloc: Global) -> Result<Counts, StoreFault>
+        ensures ok { HasCleanDisk (state S.Store self.new) →
+            IfOk result (AreCounts (stored (state S.Store self.old))) }
+        ensures looks { Looks (state S.Store self.old) (state S.Store self.new) result }
+    {
+        read_counts(&mut self.conn, alloc)
     }
 
     /// What the ask needs to know of the lives.

@@ -1,7 +1,7 @@
 //! The statuses and lines of commands that need no file.
 
 use osb_catalog::BUILT_IN;
-use osb_cli::{run, serve_command};
+use osb_cli::run;
 use osb_frames::Counted;
 use sqlite::Unknown;
 use std::io::{self, Read, Write};
@@ -66,7 +66,14 @@ fn run_on<T: Read + Drop>(rt: &HostRuntime, words: &[&str], input: T) -> Result<
     let mut source = Counted::new(input);
     let mut output = Counted::new(Vec::new(alloc));
     let mut errors = Counted::new(Vec::new(alloc));
-    let status = run(rt, owned.as_slice(), &mut source, &mut output, &mut errors);
+    let (status, _) = run(
+        rt,
+        owned.as_slice(),
+        Unknown,
+        &mut source,
+        &mut output,
+        &mut errors,
+    );
     Ok(Left {
         status,
         output: output.into_inner(),
@@ -74,27 +81,8 @@ fn run_on<T: Read + Drop>(rt: &HostRuntime, words: &[&str], input: T) -> Result<
     })
 }
 
-/// What `serve_command` leaves for these words.
-fn serve_on(rt: &HostRuntime, words: &[&str]) -> Result<Left, Fail> {
-    let alloc = rt.alloc();
-    let mut owned = Vec::new(alloc);
-    for word in words {
-        owned.push(String::from_str(alloc, word)?)?;
-    }
-    let mut output = Counted::new(Vec::new(alloc));
-    let mut errors = Counted::new(Vec::new(alloc));
-    let (status, _) = serve_command(rt, owned.as_slice(), Unknown, &mut output, &mut errors);
-    Ok(Left {
-        status,
-        output: output.into_inner(),
-        errors: errors.into_inner(),
-    })
-}
-
-/// Words for `serve_command` that aren't those of `serve`.
-const NOT_SERVE: [&[&str]; 7] = [
-    &[],
-    &["check", "FILE"],
+/// Words that aren't those of `serve`.
+const NOT_SERVE: [&[&str]; 5] = [
     &["serve"],
     &["serve", "--settings", "FILE", "--listen", "127.0.0.1:0"],
     &["serve", "--settings", "FILE", "--database", "FILE"],
@@ -125,23 +113,10 @@ const NOT_SERVE: [&[&str]; 7] = [
 #[test]
 fn words_of_serve(rt: HostRuntime) -> Result<(), Fail> {
     for words in NOT_SERVE {
-        let left = serve_on(&rt, words)?;
+        let left = run_on(&rt, words, GET_CATALOG)?;
         assert_eq!(rt; left.status, 2, "{words:?}");
         assert!(rt; left.output.is_empty() && !left.errors.is_empty());
     }
-    // Its words are those of no other command.
-    let words: [&str; 7] = [
-        "serve",
-        "--settings",
-        "FILE",
-        "--database",
-        "FILE",
-        "--listen",
-        "127.0.0.1:0",
-    ];
-    let left = run_on(&rt, &words, GET_CATALOG)?;
-    assert_eq!(rt; left.status, 2);
-    assert!(rt; left.output.is_empty() && !left.errors.is_empty());
     Ok(())
 }
 
@@ -156,7 +131,7 @@ fn serve_over_a_folder(rt: &HostRuntime, settings: &str) -> Result<Left, Fail> {
         "--listen",
         "127.0.0.1:0",
     ];
-    serve_on(rt, &words)
+    run_on(rt, &words, b"".as_slice())
 }
 
 #[test]
@@ -266,9 +241,10 @@ fn an_output_that_fails(rt: HostRuntime) -> Result<(), Fail> {
     let alloc = rt.alloc();
     let mut source = Counted::new(GET_CATALOG);
     let mut errors = Counted::new(Vec::new(alloc));
-    let status = run(
+    let (status, _) = run(
         &rt,
         &[],
+        Unknown,
         &mut source,
         &mut Counted::new(Closed),
         &mut errors,
@@ -279,9 +255,10 @@ fn an_output_that_fails(rt: HostRuntime) -> Result<(), Fail> {
     // A failed write on standard error is passed over.
     let mut source = Counted::new(GET_CATALOG);
     let mut closed = Counted::new(Closed);
-    let status = run(
+    let (status, _) = run(
         &rt,
         &[],
+        Unknown,
         &mut source,
         &mut Counted::new(Closed),
         &mut closed,
@@ -342,5 +319,37 @@ fn a_file_that_is_not_there(rt: HostRuntime) -> Result<(), Fail> {
         let line = b"osb-broker: cannot read no/such/file\n";
         assert_eq!(rt; left.errors.as_slice(), line.as_slice());
     }
+    Ok(())
+}
+
+#[test]
+fn a_database_that_is_not_there(rt: HostRuntime) -> Result<(), Fail> {
+    let words: [&str; 3] = ["check", "--database", "no/such/file"];
+    let left = run_on(&rt, &words, b"".as_slice())?;
+    assert_eq!(rt; left.status, 1);
+    assert_eq!(rt; left.output.as_slice(), b"".as_slice());
+    let line = b"database: 1 Refused\nno such file\n";
+    assert_eq!(rt; left.errors.as_slice(), line.as_slice());
+    Ok(())
+}
+
+/// What `check` leaves of a settings file with this text.
+fn explained(rt: &HostRuntime, text: &str) -> Result<Left, Fail> {
+    let folder = env::temp_dir(rt)?;
+    let path = format!(in rt.alloc(); "{}/osb_cli_explained.json", folder.display())?;
+    fs::write(rt, path.as_str(), text)?;
+    let words: [&str; 3] = ["check", "--explain", path.as_str()];
+    run_on(rt, &words, b"".as_slice())
+}
+
+#[test]
+fn where_a_fault_is(rt: HostRuntime) -> Result<(), Fail> {
+    let left = explained(&rt, "{}")?;
+    assert_eq!(rt; left.status, 3);
+    let lines = b"settings: 2 Missing platform\nat the top\n";
+    assert_eq!(rt; left.errors.as_slice(), lines.as_slice());
+    let left = explained(&rt, BUILT_IN)?;
+    assert_eq!(rt; left.status, 0);
+    assert_eq!(rt; left.output.as_slice(), b"services 1, plans 2\n".as_slice());
     Ok(())
 }

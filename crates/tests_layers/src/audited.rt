@@ -1,7 +1,7 @@
 //! Small tables by hand: rows of lives, and the same with one thing turned. All texts but the ids,
 //! the plans, the parameters and the contexts are alike.
 
-use osb_audit::{BindingEntry, are_rows_of_lives, plans_in_use};
+use osb_audit::{BindingEntry, Counts, are_rows_of_lives, count, plans_in_use};
 use osb_orders::BindingPhase::{Binding, Bound, Unbinding};
 use osb_orders::InstancePhase::{Deleting, Ready, Updating};
 use osb_orders::OrderKind::{Bind, Create, Delete, Unbind, Update};
@@ -334,5 +334,34 @@ fn plans(alloc: Global) -> Result<String, AllocError> {
 #[test]
 fn each_plan_once(rt: HostRuntime) -> Result<(), Fail> {
     assert_eq!(rt; plans(rt.alloc())?.as_str(), "spsq");
+    Ok(())
+}
+
+/// What there is of two instances, an absent one and one that is deleted, and of three bindings.
+fn counts(alloc: Global) -> Result<Counts, AllocError> {
+    let rows = [
+        ("a", Some(Ready), false, 3, "q"),
+        ("b", Some(Updating), true, 2, "q"),
+        ("c", None, false, 2, "r"),
+        ("d", Some(Deleting), true, 2, "r"),
+    ];
+    let bound = [
+        ("a", "x", Bound),
+        ("a", "y", Unbinding),
+        ("b", "x", Binding),
+    ];
+    let instances = instances(alloc, &rows)?;
+    let bindings = bindings(alloc, &bound)?;
+    Ok(count(instances.as_slice(), bindings.as_slice()))
+}
+
+#[test]
+fn what_is_absent_is_not_counted(rt: HostRuntime) -> Result<(), Fail> {
+    let some = Counts {
+        instances: 3,
+        bindings: 3,
+        running: 2,
+    };
+    assert_eq!(rt; counts(rt.alloc())?, some);
     Ok(())
 }

@@ -1,6 +1,7 @@
 mod contents;
 mod faults;
 mod fields;
+mod places;
 
 use osb_catalog::{BUILT_IN, Settings};
 use std::alloc::Global;

@@ -1,5 +1,6 @@
 //! A new database, and databases that are taken over. Those that are not stand in `spoilt`.
 
+use osb_audit::Counts;
 use osb_records::{Records, StoreFault, open_memory};
 use sqlite::{Alter, Connection, MemStore};
 use std::alloc::Global;
@@ -86,6 +87,13 @@ fn plans_after(alloc: Global, statements: &[&str]) -> Result<usize, StoreFault> 
     plans_in(alloc, &mut records)
 }
 
+/// What there is after these statements, where the database is taken over again.
+fn counts_after(alloc: Global, statements: &[&str]) -> Result<Counts, StoreFault> {
+    let conn = changed(alloc, statements)?;
+    let mut records = adopted(alloc, conn)?;
+    records.counts(alloc)
+}
+
 #[test]
 fn a_new_database_has_no_orders(rt: HostRuntime) -> Result<(), Fail> {
     assert_eq!(rt; orders_at_first(rt.alloc())?, 0);
@@ -111,6 +119,25 @@ pub(crate) const ABSENT: &str =
 pub(crate) const OF_DELETION: &str = "INSERT INTO contexts VALUES ('i', 2, '{}')";
 
 const NO_STANDING: &str = "INSERT INTO contexts VALUES ('i', 0, '')";
+
+#[test]
+fn what_is_there_is_counted(rt: HostRuntime) -> Result<(), Fail> {
+    let alloc = rt.alloc();
+    let nothing = Counts {
+        instances: 0,
+        bindings: 0,
+        running: 0,
+    };
+    let one = Counts {
+        instances: 1,
+        ..nothing
+    };
+    let gone = [ORDER, DELETION, ABSENT, OF_ORDER, OF_DELETION, NO_STANDING];
+    assert_eq!(rt; counts_after(alloc, &[])?, nothing);
+    assert_eq!(rt; counts_after(alloc, &WHOLE)?, one);
+    assert_eq!(rt; counts_after(alloc, &gone)?, nothing);
+    Ok(())
+}
 
 #[test]
 fn a_database_of_this_broker_is_taken_over(rt: HostRuntime) -> Result<(), Fail> {

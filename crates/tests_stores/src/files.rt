@@ -1,7 +1,8 @@
 //! A database file, made and opened again.
 
 use crate::adopting::{WHOLE, count_orders, run};
-use osb_file::{DatabaseFile, open_file};
+use osb_audit::Counts;
+use osb_file::{Copied, DatabaseFile, Unseen, open_file};
 use osb_records::{Records, StoreFault};
 use sqlite::{Alter, Unknown};
 use std::alloc::Global;
@@ -82,5 +83,37 @@ fn a_file_that_is_taken_away_is_not_there(rt: HostRuntime) -> Result<(), Fail> {
 #[test]
 fn a_folder_is_refused(rt: HostRuntime) -> Result<(), Fail> {
     assert_eq!(rt; open_and_run(&rt, ".", &[]), Err(StoreFault::Refused));
+    Ok(())
+}
+
+/// What a file has that is looked at, and not opened.
+fn looked_at(rt: &HostRuntime, path: &str) -> Result<Counts, Unseen> {
+    let files = Copied::read(rt, path)?;
+    files.counts(rt.alloc())
+}
+
+#[test]
+fn a_file_is_looked_at(rt: HostRuntime) -> Result<(), Fail> {
+    let path = unused(&rt, "osb_file_seen.db")?;
+    assert_eq!(rt; looked_at(&rt, path.as_str()), Err(Unseen::NoFile));
+    assert_eq!(rt; open_and_run(&rt, path.as_str(), &WHOLE)?, 0);
+    let one = Counts {
+        instances: 1,
+        bindings: 0,
+        running: 0,
+    };
+    assert_eq!(rt; looked_at(&rt, path.as_str()), Ok(one));
+    Ok(())
+}
+
+#[test]
+fn what_is_no_database_is_not_looked_at(rt: HostRuntime) -> Result<(), Fail> {
+    let path = unused(&rt, "osb_file_text.db")?;
+    fs::write(&rt, path.as_str(), "no database, but some text")?;
+    assert_eq!(rt; looked_at(&rt, path.as_str()), Err(Unseen::NoDatabase));
+    assert_eq!(rt; looked_at(&rt, "."), Err(Unseen::Folder));
+    assert_eq!(rt; looked_at(&rt, ":memory:"), Err(Unseen::NoFile));
+    assert_eq!(rt; Unseen::Folder.store_fault(), StoreFault::Refused);
+    assert_eq!(rt; Unseen::Folder.text(), "a folder");
     Ok(())
 }

@@ -1,9 +1,8 @@
 use Rattle.std.proofs.Common.{rules, refl, ◌≡◌, ◌≢◌, ◌∙◌, sym, ap, subst, map, string_bytes, Some, option_map, [], codes, unwrap_or}
 use Rattle.clap.specs.Words.{found_of, rows_of, subcommand_of, takes}
-use Rattle.clap.proofs.WalkLemmas.{first_value-rows}
 use Rattle.osb_cli.specs.Grammar.{osb_broker}
-use Rattle.osb_cli.specs.Words.{Asks, text_in}
-use Rattle.osb_cli.proofs.WordLemmas.{are_read, is_found, none_found, text_or}
+use Rattle.osb_cli.specs.Words.{Asks}
+use Rattle.osb_cli.proofs.WordLemmas.{are_read, is_found, none_found}
 use Rattle.osb_cli.proofs.words.read.Goals as goal
 
 pub returns-in_err-matches-clause-err : goal.returns-in_err-matches-clause-err
@@ -19,8 +18,7 @@ returns-in-Some-check-default-clause-ok c =
     let rows = rows_of (found_of some.found.now) in
     let is : some.field-0-0.now ≡ codes "check" = search rules in
     let found : subcommand_of osb_broker words ≡ Some (codes "check", rows) = is_found words _ _ _ read some.ensures.name some.ensures.rows ∙ ap (λ name. Some (name, rows)) is in
-    let value = c.get_str.ensures ∙ first_value-rows (found_of some.found.now) (codes "settings") in
-    (ap (option_map (λ it. it.0)) found, text_or _ _ _ _ c.unwrap_or.ensures value ∙ ap (λ it. unwrap_or (text_in (codes "settings") it) []) (sym found))
+    subst (λ it. Asks it c.check_order.result) (sym found) c.check_order.ensures
 
 pub returns-in-Some-serve-default-clause-ok : goal.returns-in-Some-serve-default-clause-ok
 returns-in-Some-serve-default-clause-ok c =
@@ -37,12 +35,13 @@ returns-in-Some-clause-ok c =
     let words = map string_bytes c.args.words.now in
     let read = are_read _ words _ c.in_ok-osb_broker.ensures.app c.in_ok-matches.ensures.matches in
     let found = is_found words _ _ _ read c.in-Some.ensures.name c.in-Some.ensures.rows in
-    let other : c.in-Some.field-0-0.now ≢ codes "check" = search rules in
-    subst (λ it. Asks it c.in_ok-replay_order-in-Some.field-0) (sym found) (c.in_ok-replay_order-in-Some.ensures c.in-Some.field-0-0.now other)
+    let no_check : c.in-Some.field-0-0.now ≢ codes "check" = search rules in
+    let no_serve : c.in-Some.field-0-0.now ≢ codes "serve" = search rules in
+    subst (λ it. Asks it c.in_ok-replay_order-in-Some.field-0) (sym found) (c.in_ok-replay_order-in-Some.ensures c.in-Some.field-0-0.now no_check no_serve)
 
 pub returns-clause-ok : goal.returns-clause-ok
 returns-clause-ok c =
     let words = map string_bytes c.args.words.now in
     let read = are_read _ words _ c.in_ok-osb_broker.ensures.app c.in_ok-matches.ensures.matches in
     let none = none_found words _ read c.in-None.ensures.rows in
-    rw none (record { named = λ is. cc; settings = refl; connections = search rules; per_connection = refl })
+    rw none (record { no_check = λ is. cc; no_serve = λ is. cc; settings = refl; connections = search rules; per_connection = refl })

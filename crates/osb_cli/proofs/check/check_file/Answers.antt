@@ -1,5 +1,5 @@
 use Rattle.std.proofs.lemmas.Result.{on_ok_weaker}
-use Rattle.osb_cli.proofs.check.check.Goals as goal
+use Rattle.osb_cli.proofs.check.check_file.Goals as goal
 
 pub returns : goal.returns
 returns g c =

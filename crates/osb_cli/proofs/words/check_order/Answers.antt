@@ -1,0 +1,13 @@
+use Rattle.std.proofs.Common.{◌∙◌, refl, codes}
+use Rattle.clap.specs.Words.{found_of}
+use Rattle.clap.proofs.WalkLemmas.{first_value-rows}
+use Rattle.osb_cli.proofs.words.check_order.Goals as goal
+
+pub returns : goal.returns
+returns c =
+    let found = found_of c.args.found.now in
+    record {
+      named = refl;
+      settings = c.get_str.ensures ∙ first_value-rows found (codes "settings");
+      database = c.get_str-2.ensures ∙ first_value-rows found (codes "database");
+    }

@@ -1,0 +1,143 @@
+//! A database file and its log, read into memory.
+
+ghost use Rattle.std.specs.Prelude.{◌≡◌, Err, IfOk};
+ghost use Rattle.sqlite.specs.Files.{HoldsDatabase};
+ghost use Rattle.sqlite_trees.specs.Tree.{Trees};
+ghost use Rattle.osb_orders.specs.Lives.{Lives};
+ghost use Rattle.osb_file.specs.declared.unseen.Unseen.TheVariants.{NotOurs};
+ghost use Rattle.osb_file.specs.File.{AreLivesOf};
+ghost use Rattle.osb_file.specs.Looked.{IsCounted, image_in};
+
+use crate::database_file::is_special;
+use crate::looking::{count_files, disk_of};
+use crate::unseen::Unseen;
+use osb_audit::Counts;
+use sqlite_disk::Files;
+use std::alloc::Global;
+use std::fs::{self, OpenOptions};
+use std::io::{Error, ErrorKind, Read};
+use std::os::unix::fs::MetadataExt;
+
+/// The bytes of a database file and of its log.
+#[derive(Debug, Drop)]
+pub struct Copied {
+    pub(crate) database: Vec<u8>,
+    pub(crate) log: Vec<u8>,
+}
+
+/// What a call on a file that is there has met.
+fn unread(error: Error) -> Unseen {
+    match error.kind() {
+        ErrorKind::OutOfMemory => Unseen::Memory,
+        _ => Unseen::CannotRead,
+    }
+}
+
+/// Refuses what stands at the path unless it is a regular file with one name.
+fn check_kind(rt: &HostRuntime, path: &str) -> Result<(), Unseen> {
+    let found = match fs::metadata(rt, path) {
+        Ok(found) => found,
+        Err(error) if error.kind() == ErrorKind::NotFound => return Err(Unseen::NoFile),
+        Err(error) => return Err(unread(error)),
+    };
+    if found.is_dir() {
+        return Err(Unseen::Folder);
+    }
+    if !found.is_file() {
+        return Err(Unseen::NotRegular);
+    }
+    if found.nlink() != 1 {
+        return Err(Unseen::TwoNames);
+    }
+    Ok(())
+}
+
+/// Whether the file at the path begins with a byte other than 0, as a journal does that is to be played back.
+fn begins(rt: &HostRuntime, path: &str) -> Result<bool, Error> {
+    let mut first = [0];
+    let mut file = fs::open(rt, path)?;
+    Ok(file.read(&mut first)? == 1 && first[0] != 0)
+}
+
+fn check_journal(rt: &HostRuntime, path: &str) -> Result<(), Unseen> {
+    let Ok(journal) = format!(in rt.alloc(); "{path}-journal") else {
+        return Err(Unseen::Memory);
+    };
+    match begins(rt, journal.as_str()) {
+        Ok(false) => Ok(()),
+        Err(error) if error.kind() == ErrorKind::NotFound => Ok(()),
+        Ok(true) | Err(_) => Err(Unseen::Journal),
+    }
+}
+
+/// Refuses a file that can't be opened for writing. Nothing is written.
+fn check_mode(rt: &HostRuntime, path: &str) -> Result<(), Unseen> {
+    match OpenOptions::new().read(true).write(true).open(rt, path) {
+        Ok(_) => Ok(()),
+        Err(error) if error.kind() == ErrorKind::OutOfMemory => Err(Unseen::Memory),
+        Err(_) => match fs::open(rt, path) {
+            Ok(_) => Err(Unseen::ReadOnly),
+            Err(error) => Err(unread(error)),
+        },
+    }
+}
+
+fn read_file(rt: &HostRuntime, path: &str) -> Result<Vec<u8>, Unseen> {
+    match fs::read(rt, path) {
+        Ok(bytes) => Ok(bytes),
+        Err(error) => Err(unread(error)),
+    }
+}
+
+/// The log of the file at the path, empty where there is none.
+fn read_log(rt: &HostRuntime, path: &str) -> Result<Vec<u8>, Unseen> {
+    let Ok(log) = format!(in rt.alloc(); "{path}-wal") else {
+        return Err(Unseen::Memory);
+    };
+    match fs::read(rt, log.as_str()) {
+        Ok(bytes) => Ok(bytes),
+        Err(error) if error.kind() == ErrorKind::NotFound => Ok(Vec::new(rt.alloc())),
+        Err(error) => Err(unread(error)),
+    }
+}
+
+fn read_both(rt: &HostRuntime, path: &str) -> Result<Copied, Unseen> {
+    let database = read_file(rt, path)?;
+    let log = read_log(rt, path)?;
+    Ok(Copied { database, log })
+}
+
+impl Copied {
+    /// Reads a database file and its log, and writes nothing. They are read twice: where what was read
+    /// differs, another process writes to them.
+    ///
+    /// What stands at the path has to be a file that `serve` can open: see [`Unseen`].
+    pub fn read(rt: &HostRuntime, path: &str) -> Result<Copied, Unseen> {
+        if is_special(path) {
+            return Err(Unseen::NoFile);
+        }
+        check_kind(rt, path)?;
+        check_journal(rt, path)?;
+        check_mode(rt, path)?;
+        let first = read_both(rt, path)?;
+        let again = read_both(rt, path)?;
+        if first.database != again.database || first.log != again.log {
+            return Err(Unseen::InUse);
+        }
+        Ok(first)
+    }
+
+    /// What the database of these bytes has, opened and audited as `serve` would. All of it happens in
+    /// memory, so the files stay as they are.
+    pub fn counts(&self, alloc: Global) -> Result<Counts, Unseen>
+        ensures counted { IfOk result (λ counts. (db : Trees) →
+            HoldsDatabase (image_in self.now) db → IsCounted db counts) }
+        ensures not_ours { result ≡ Err NotOurs → (db : Trees) →
+            HoldsDatabase (image_in self.now) db → (lives : Lives) → ¬ AreLivesOf db lives }
+    {
+        let (Ok(log), Ok(db)) = (disk_of(alloc, &self.log), disk_of(alloc, &self.database)) else {
+            return Err(Unseen::Memory);
+        };
+        count_files(alloc, Files { log, db })
+    }
+}

@@ -1,0 +1,102 @@
+//! What a database file has, without a change of it.
+
+ghost use Rattle.std.specs.Prelude.{◌≡◌, ◌≢◌, true, Err, IsTrue, IfOk};
+ghost use Rattle.sqlite.specs.Held.{Held, state};
+ghost use Rattle.sqlite.specs.State.{HasCleanDisk};
+ghost use Rattle.sqlite.specs.Files.{HoldsDatabase, image_of};
+ghost use Rattle.sqlite_disk.specs.Memory.{memory_bytes, memory_is_usable};
+ghost use Rattle.sqlite_trees.specs.Tree.{Trees};
+ghost use Rattle.osb_orders.specs.Lives.{Lives};
+ghost use Rattle.osb_audit.specs.Counts.{AreCounts};
+ghost use Rattle.osb_records.specs.declared.fault.StoreFault.TheVariants as faults;
+ghost use Rattle.osb_records.specs.Opened.{StandIn};
+ghost use Rattle.osb_records.specs.Steps.{stored};
+ghost use Rattle.osb_file.specs.declared.unseen.Unseen.TheVariants.{NotOurs};
+ghost use Rattle.osb_file.specs.File.{AreLivesOf};
+ghost use Rattle.osb_file.specs.Looked.{IsCounted};
+
+use crate::unseen::Unseen;
+use osb_audit::Counts;
+use osb_records::{Records, StoreFault};
+use sqlite::{Alter, Connection, Error, ErrorCode, FileStore, Options};
+use sqlite_disk::{Disk, Files, Memory};
+use std::alloc::Global;
+use std::io;
+
+/// What an opening has met.
+fn unopened(error: Error) -> Unseen
+    ensures { result ≢ NotOurs }
+{
+    match error {
+        Error::SqliteFailure(ErrorCode::OutOfMemory) => Unseen::Memory,
+        Error::SqliteFailure(ErrorCode::NotADatabase) => Unseen::NoDatabase,
+        _ => Unseen::Damaged,
+    }
+}
+
+/// What taking a database over has met.
+fn unadopted(fault: StoreFault) -> Unseen
+    ensures { result ≡ NotOurs → fault ≡ faults.NotOurs }
+{
+    match fault {
+        StoreFault::NotOurs => Unseen::NotOurs,
+        StoreFault::Refused => Unseen::Row,
+    }
+}
+
+/// The counts of records that were taken over.
+fn counts_of<S: Alter + Drop>(alloc: Global, mut records: Records<S>) -> Result<Counts, Unseen>
+    requires clean { (held : Held S) → HasCleanDisk (state S.Store held) }
+    ensures ok { IfOk result (λ counts. IsTrue (state S.Store records).is_open ×
+        AreCounts (stored (state S.Store records)) counts) }
+    ensures not_ours { result ≢ Err NotOurs }
+{
+    match records.counts(alloc) {
+        Ok(counts) => Ok(counts),
+        Err(_) => Err(Unseen::Row),
+    }
+}
+
+/// Takes a database over and counts what it has.
+fn count_in<S: Alter + Drop>(alloc: Global, conn: Connection<S>) -> Result<Counts, Unseen>
+    requires clean { (held : Held S) → HasCleanDisk (state S.Store held) }
+    ensures counted { IfOk result (λ counts. (lives : Lives) ×
+        StandIn (state S.Store conn).now lives × AreCounts lives counts) }
+    ensures not_ours { result ≡ Err NotOurs → (lives : Lives) →
+        ¬ StandIn (state S.Store conn).now lives }
+{
+    match Records::adopt(alloc, conn) {
+        Ok(records) => counts_of(alloc, records),
+        Err((fault, left)) => {
+            drop(left);
+            Err(unadopted(fault))
+        }
+    }
+}
+
+/// Opens two files, of which none gives other bytes than were written, and counts.
+pub(crate) fn count_files<D: Disk + Drop>(alloc: Global, files: Files<D>) -> Result<Counts, Unseen>
+    requires log { IsTrue (D.Disk.is_usable files.log) }
+    requires db { IsTrue (D.Disk.is_usable files.db) }
+    requires honest { (disk : D) → D.Disk.is_clean disk ≡ true }
+    ensures counted { IfOk result (λ counts. (db : Trees) →
+        HoldsDatabase (image_of D.Disk files) db → IsCounted db counts) }
+    ensures not_ours { result ≡ Err NotOurs → (db : Trees) →
+        HoldsDatabase (image_of D.Disk files) db → (lives : Lives) → ¬ AreLivesOf db lives }
+{
+    match Connection::open_files(alloc, files, Options::new(0)) {
+        Ok(conn) => count_in(alloc, conn),
+        Err((error, _)) => Err(unopened(error)),
+    }
+}
+
+/// A file in memory that has these bytes.
+#[tactic(auto, using(crate::proofs::LookLemmas::written))]
+pub(crate) fn disk_of(alloc: Global, bytes: &[u8]) -> io::Result<Memory>
+    ensures bytes { IfOk result (λ disk. memory_bytes disk ≡ bytes.now) }
+    ensures usable { IfOk result (λ disk. IsTrue (memory_is_usable disk)) }
+{
+    let mut disk = Memory::new(alloc);
+    disk.write_at(0, bytes)?;
+    Ok(disk)
+}
