@@ -48,7 +48,7 @@ def replies(output):
     found = []
     while output:
         head, _, rest = output.partition(b"\r\n\r\n")
-        length = int(head.partition(b"Content-Length: ")[2].split(b"\r\n")[0])
+        length = int(head.lower().partition(b"content-length: ")[2].split(b"\r\n")[0])
         found.append((int(head[9:12]), rest[:length].decode()))
         output = rest[length:]
     return found

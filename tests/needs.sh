@@ -28,6 +28,7 @@ links_libraries() {
 
 if [ "$what" = --more ]; then
     has nginx || lacks nginx nginx-light
+    has haproxy || lacks haproxy haproxy
     has openssl || lacks openssl openssl
     has lintian || lacks lintian lintian
     has debootstrap || lacks debootstrap debootstrap

@@ -54,8 +54,8 @@ class Serving:
         self.more = process
         self.start()
 
-    def start(self):
-        self.address = free_address()
+    def start(self, address=None):
+        self.address = address or free_address()
         self.port = int(self.address.rpartition(":")[2])
         words = [*self.words, "--listen", self.address]
         self.process = subprocess.Popen(words, stdout=subprocess.PIPE, stderr=subprocess.PIPE, **self.more)

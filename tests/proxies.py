@@ -1,0 +1,128 @@
+"""The proxies of the examples in front of a broker, and what a client reads behind one."""
+
+import os
+import socket
+import ssl
+import subprocess
+import tempfile
+import time
+
+from conversations import replies
+from serving import EXAMPLES, free_address, read_to_end
+
+UNUSABLE = '{"description":"The request is not usable."}'
+AWAY = '{"description":"The broker does not answer."}'
+CODINGS = 411, '{"description":"Transfer codings are not supported."}'
+
+
+class Proxy:
+    """A proxy in front of a broker, until it is left. The addresses of its example are put in the place of free ones,
+    and nothing else of it is changed. What stands around it in Debian is written in `around` here, for one folder."""
+
+    # Its program, its example, the address at which that listens, and what stands around it.
+    program = example = listens = around = ""
+    # The words that it is started with, those that have it look at its configuration alone, and what it says to these.
+    words, checks, valid = [], [], ""
+
+    def __init__(self, folder, broker):
+        self.folder, self.address = tempfile.mkdtemp(dir=folder), free_address()
+        self.port = int(self.address.rpartition(":")[2])
+        with open(os.path.join(EXAMPLES, self.example), encoding="utf-8") as file:
+            configuration = file.read()
+        for given, used in [("127.0.0.1:8080", broker), (self.listens, self.address)]:
+            if configuration.count(given) != 1:
+                raise RuntimeError(f"{given} stands {configuration.count(given)} times in {self.example}")
+            configuration = configuration.replace(given, used)
+        self.writes("broker.conf", configuration)
+        self.writes("around.conf", self.around)
+        key, certificate = os.path.join(self.folder, "broker.key"), os.path.join(self.folder, "broker.crt")
+        words = ["openssl", "req", "-x509", "-newkey", "rsa:2048", "-nodes", "-subj", "/CN=localhost", "-days", "2"]
+        subprocess.run([*words, "-keyout", key, "-out", certificate], check=True, stderr=subprocess.DEVNULL)
+        with open(certificate, encoding="utf-8") as one, open(key, encoding="utf-8") as other:
+            self.writes("broker.pem", one.read() + other.read())
+        self.trust = ssl.create_default_context(cafile=certificate)
+        self.trust.check_hostname = False
+
+    def writes(self, name, text):
+        with open(os.path.join(self.folder, name), "w", encoding="utf-8") as file:
+            file.write(text)
+
+    def is_valid(self):
+        """What the proxy says of its configuration: its status, and all that it prints."""
+        words = [self.program, *self.checks]
+        ran = subprocess.run(words, cwd=self.folder, stdout=subprocess.PIPE, stderr=subprocess.STDOUT, text=True)
+        return ran.returncode, ran.stdout.strip()
+
+    def __enter__(self):
+        words = [self.program, *self.words]
+        self.process = subprocess.Popen(words, cwd=self.folder, stdout=subprocess.DEVNULL, stderr=subprocess.DEVNULL)
+        for _ in range(100):
+            try:
+                self.connection().close()
+                return self
+            except OSError:
+                time.sleep(0.1)
+        raise RuntimeError(f"{self.program} doesn't listen")
+
+    def __exit__(self, *_):
+        self.process.terminate()
+        self.process.wait()
+
+    def connection(self):
+        plain = socket.create_connection(("127.0.0.1", self.port), timeout=30)
+        return self.trust.wrap_socket(plain, server_hostname="localhost")
+
+    def sends(self, bytes_sent):
+        """What a client reads that sends these bytes."""
+        with self.connection() as client:
+            client.sendall(bytes_sent)
+            return read_to_end(client)
+
+    def answers(self, bytes_sent):
+        """The status and the body of the only reply, or what went wrong."""
+        try:
+            return first_of(self.sends(bytes_sent))
+        except OSError as error:
+            return repr(error)
+
+
+def first_of(output):
+    found = replies(output)
+    return found[0] if len(found) == 1 else found
+
+
+class Nginx(Proxy):
+    program, example, listens = "nginx", "nginx.conf", "127.0.0.1:8443"
+    around = """pid nginx.pid;
+error_log error.log warn;
+events { worker_connections 4096; }
+http {
+    access_log access.log;
+    client_body_temp_path body;
+    include broker.conf;
+}
+"""
+    words = ["-p", ".", "-c", "around.conf", "-e", "error.log", "-g", "daemon off;"]
+    checks, valid = ["-t", "-q", *words], ""
+    # What it answers to a head that it refuses, to a body in chunks, to a client that stops inside its head and inside its
+    # body, and for a broker that isn't there.
+    refused = 400, UNUSABLE
+    chunks = 201, "{}"
+    no_head = no_body = []
+    away = 502, AWAY
+    # Whether requests wait in it for a broker that starts again.
+    bridges = False
+
+
+class HAProxy(Proxy):
+    program, example, listens = "haproxy", "haproxy.cfg", "127.0.0.1:8445"
+    around = "global\n    log stdout format raw local0\n"
+    words = ["-f", "around.conf", "-f", "broker.conf"]
+    checks, valid = ["-c", *words], "Configuration file is valid"
+    # The pages that it answers a head with can't be changed.
+    refused = 400, "<html><body><h1>400 Bad request</h1>\nYour browser sent an invalid request.\n</body></html>\n"
+    no_head = 408, "<html><body><h1>408 Request Time-out</h1>\nYour browser didn't send a complete request in time.\n</body></html>\n"
+    no_body = 408, '{"description":"The request took too long."}'
+    chunks = CODINGS
+    away = 503, AWAY
+    bridges = True
