@@ -1,6 +1,7 @@
 #!/usr/bin/env python3
-"""Makes the Debian package of a program and tries it: in a Debian of its own, under its own systemd, it is installed,
-configured, called, killed, backed up, upgraded and purged.
+"""Makes the Debian package of a program and tries it by docs/OPERATING.md: in a Debian of its own, under its own systemd,
+it is installed, put behind nginx, configured, called, killed, backed up, upgraded, removed and purged, and what was
+backed up is restored in another one.
 
 usage: tests/packaged.py PROGRAM
 
@@ -9,25 +10,27 @@ Where something of that can't be had, it says what it passed over.
 """
 
 import os
+import re
 import shutil
 import subprocess
 import sys
 import tempfile
+import textwrap
 
 from serving import ROOT, tell
 
 SCRIPT = os.path.join(ROOT, "packaging", "package.sh")
+PAGE = os.path.join(ROOT, "docs", "OPERATING.md")
 MAINTAINER = "Nobody <nobody@users.noreply.furtsjik.example>"
-INCLUDED = "systemd,systemd-sysv,dbus,curl,init-system-helpers"
+INCLUDED = "systemd,systemd-sysv,dbus,curl,init-system-helpers,nginx-light,openssl"
 LATER = "9.9.9"
 NSPAWN = ["systemd-nspawn", "-q", "--register=no", "--keep-unit", "--private-network", "-D"]
-# What runs in the container, once it has booted. Each step writes a line `# NAME`, and then what it finds.
-STEPS = r"""#!/bin/bash
+# What runs in a container, once it has booted. Each step writes a line `# NAME`, and then what it finds. A line
+# `told: START` stands for those of docs/OPERATING.md that begin so.
+COMMON = r"""#!/bin/bash
 exec > /root/found 2>&1
 settings=/etc/osb-broker/settings.json
 records=/var/lib/private/osb-broker
-password=$(sed -n 's/.*"platform", "password": "\([0-9a-f]\{48\}\)".*/\1/p' $settings)
-other=$(sed -n 's/.*"backend", "password": "\([0-9a-f]\{48\}\)".*/\1/p' $settings)
 
 # waits until a command succeeds, for half a minute at most
 until_it() {
@@ -38,29 +41,73 @@ until_it() {
     echo "not within half a minute: $*"
 }
 listens() { curl -s http://127.0.0.1:${1:-8080}/; }
+password_of() { sed -n "s/.*\"$1\", \"password\": \"\([0-9a-f]\{48\}\)\".*/\1/p" $settings; }
+state() { systemctl show -p ActiveState -p Result -p ExecMainStatus -p NRestarts osb-broker | sort | tr '\n' ' '; echo; }
+call() { curl -s -m 5 $trusting -u "platform:$password" -H 'X-Broker-API-Version: 2.17' -w ' %{http_code}\n' "$@"; }
+"""
+STEPS = COMMON + r"""
 restarted() { [ "$(systemctl show -p NRestarts --value osb-broker)" = 1 ] && listens; }
 has_failed() { [ "$(systemctl show -p ActiveState --value osb-broker)" = failed ]; }
-call() { curl -s -m 5 -u "platform:$password" -H 'X-Broker-API-Version: 2.17' -w ' %{http_code}\n' "$@"; }
-instance=http://127.0.0.1:8080/v2/service_instances
-put='{"service_id":"svc","plan_id":"p","organization_guid":"o","space_guid":"s"}'
-write() {
-    printf '{"platform":{"user":"platform","password":"%s"},"backend":{"user":"backend","password":"%s"},' "$password" "$other"
-    printf '"catalog":{"services":[{"id":"svc","name":"s","description":"d","bindable":true,"plans":[{"id":"%s","name":"p","description":"d"}]}]}}' "$1"
+installs() {
+    cd $1
+told: apt-get install
 }
-state() { systemctl show -p ActiveState -p Result -p ExecMainStatus osb-broker | sort | tr '\n' ' '; echo; }
+work() { curl -s -m 5 -u "backend:$other" -w ' %{http_code}\n' "$@"; }
+instance=https://localhost:8443/v2/service_instances
+body() { printf '{"service_id":"svc","plan_id":"%s","organization_guid":"o","space_guid":"s"}' $1; }
+write() {
+    cat << END
+{
+  "platform": { "user": "platform", "password": "$password" },
+  "backend": { "user": "backend", "password": "$other" },
+  "catalog": {
+    "services": [{ "id": "svc", "name": "s", "description": "d", "bindable": true, "plans": [
+      { "id": "$1", "name": "now", "description": "d" }, { "id": "slow", "name": "later", "description": "d" } ] }]
+  },
+  "modes": { "slow": { "instances": "asynchronous" } }
+}
+END
+}
 
 echo '# installed'
+installs /root/package > /root/installed 2>&1 || cat /root/installed
+systemd-analyze verify --man=no osb-broker.service
 stat -c '%a %U' $settings
+password=$(password_of platform) other=$(password_of backend)
 echo "$([ "$password" ] && [ "$password" != "$other" ] && echo two passwords)"
 osb-broker check $settings
 until_it listens; state
 call http://127.0.0.1:8080/v2/catalog
 
+echo '# behind nginx'
+openssl req -x509 -newkey rsa:2048 -nodes -subj /CN=localhost -days 2 -keyout /etc/nginx/broker.key \
+    -out /etc/nginx/broker.crt 2> /dev/null
+told: cp /usr/share/doc/osb-broker/examples/nginx.conf
+trusting='--cacert /etc/nginx/broker.crt'
+until_it call https://localhost:8443/
+call https://localhost:8443/v2/catalog
+call https://localhost:8443/backend/v1/orders
+password= call https://localhost:8443/v2/
+
 echo '# configured'
 write p > $settings
-osb-broker check $settings && systemctl restart osb-broker && until_it listens
-call -X PUT -d "$put" $instance/a
+told: osb-broker check
+until_it listens
+call -X PUT -d "$(body p)" $instance/a
 stat -c '%a' $records $records/broker.db $records/broker.db-wal
+
+echo '# reported'
+call -X PUT -d "$(body slow)" "$instance/b?accepts_incomplete=true"
+call $instance/b/last_operation
+work -X PUT -d '{"state":"succeeded"}' http://127.0.0.1:8080/backend/v1/orders/b/1
+call $instance/b/last_operation
+
+echo '# an order that nobody reports'
+call -X PUT -d "$(body slow)" "$instance/c?accepts_incomplete=true"
+sed "s/PASSWORD/$other/; s,INSTANCE/SEQ,c/1," << 'END' | bash 2> /dev/null
+told: curl -u backend:PASSWORD
+END
+echo; call $instance/c/last_operation
 
 echo '# killed'
 systemctl kill -s KILL osb-broker
@@ -69,18 +116,12 @@ systemctl show -p NRestarts osb-broker
 call $instance/a
 
 echo '# backed up while it runs'
-systemctl kill -s STOP osb-broker
-mkdir /root/copy && cp $records/broker.db* /root/copy
-systemctl kill -s CONT osb-broker
-call -X PUT -d "$put" $instance/b
-osb-broker serve --settings $settings --database /root/copy/broker.db --listen 127.0.0.1:8090 &
-until_it listens 8090
-call ${instance/8080/8090}/a
-call ${instance/8080/8090}/b
-kill %1; wait 2>/dev/null
+told: mkdir -p -m 700 /backup
+ls /backup
+call -X PUT -d "$(body p)" $instance/d
 
 echo '# upgraded'
-dpkg -i /root/later.deb > /dev/null
+installs /root/later > /root/installed 2>&1 || cat /root/installed
 until_it listens; dpkg-query -W -f '${Version}\n' osb-broker
 write p | cmp - $settings && call $instance/a
 
@@ -90,44 +131,101 @@ systemctl restart osb-broker; until_it has_failed; state
 journalctl -q --no-pager -u osb-broker -o cat | grep '^plan in use' | sort -u
 
 echo '# no settings'
-rm $settings; systemctl start osb-broker 2>/dev/null; systemctl show -p ActiveState osb-broker
+mv $settings /root; systemctl start osb-broker 2> /dev/null; systemctl show -p ActiveState osb-broker
+mv /root/settings.json $settings
+
+echo '# removed'
+apt-get remove -qq -y osb-broker > /dev/null 2>&1
+ls -d $settings /lib/systemd/system/osb-broker.service /usr/bin/osb-broker $records 2> /dev/null
 
 echo '# purged'
-dpkg --purge osb-broker 2>&1 | grep '^osb-broker:'
-ls -d /etc/osb-broker /lib/systemd/system/osb-broker.service /usr/bin/osb-broker $records 2>/dev/null
+apt-get purge -qq -y osb-broker 2>&1 | grep '^osb-broker:'
+ls -d /etc/osb-broker /etc/systemd/system/osb-broker.service $records 2> /dev/null
 systemctl poweroff
 """
 EXPECTED = """# installed
 600 root
 two passwords
 services 0, plans 0
-ActiveState=active ExecMainStatus=0 Result=success
+ActiveState=active ExecMainStatus=0 NRestarts=0 Result=success
 {"services":[]} 200
+# behind nginx
+nginx: the configuration file /etc/nginx/nginx.conf syntax is ok
+nginx: configuration file /etc/nginx/nginx.conf test is successful
+{"services":[]} 200
+{} 404
+{} 401
 # configured
-services 1, plans 1
+services 1, plans 2
 {} 201
 700
 600
 600
+# reported
+{"operation":"create-1"} 202
+{"state":"in progress"} 200
+{} 200
+{"state":"succeeded"} 200
+# an order that nobody reports
+{"operation":"create-1"} 202
+{"orders":[{"instance_id":"c","kind":"create","organization_guid":"o","parameters":{},"plan_id":"slow","seq":1,\
+"service_id":"svc","space_guid":"s"}]}{}
+{"state":"failed"} 200
 # killed
 NRestarts=1
 {"parameters":{},"plan_id":"p","service_id":"svc"} 200
 # backed up while it runs
+broker.db
+broker.db-wal
+settings.json
 {} 201
-listening on 127.0.0.1:8090
-{"parameters":{},"plan_id":"p","service_id":"svc"} 200
-{} 404
 # upgraded
 9.9.9
 {"parameters":{},"plan_id":"p","service_id":"svc"} 200
 # a plan in use is taken away
-ActiveState=failed ExecMainStatus=4 Result=exit-code
+ActiveState=failed ExecMainStatus=4 NRestarts=0 Result=exit-code
 plan in use: svc p
 # no settings
 ActiveState=failed
+# removed
+/etc/osb-broker/settings.json
+/var/lib/private/osb-broker
 # purged
 osb-broker: the records are left in /var/lib/private/osb-broker
 /var/lib/private/osb-broker
+"""
+# In another Debian, where the package is there when it boots.
+ELSEWHERE = COMMON + r"""
+echo '# booted'
+until_it listens; state
+
+echo '# restored'
+told: systemctl stop osb-broker
+until_it listens; state
+stat -c '%a %U' $settings
+password=$(password_of platform) instance=http://127.0.0.1:8080/v2/service_instances
+for each in a b c d; do call $instance/$each; done
+
+echo '# at another port'
+mkdir -p /etc/systemd/system/osb-broker.service.d
+cat > /etc/systemd/system/osb-broker.service.d/override.conf << 'END'
+told: [Service]
+END
+systemctl daemon-reload; systemctl restart osb-broker; until_it listens 9080
+call ${instance/8080/9080}/a
+systemctl poweroff
+"""
+EXPECTED_ELSEWHERE = """# booted
+ActiveState=active ExecMainStatus=0 NRestarts=0 Result=success
+# restored
+ActiveState=active ExecMainStatus=0 NRestarts=0 Result=success
+600 root
+{"parameters":{},"plan_id":"p","service_id":"svc"} 200
+{"parameters":{},"plan_id":"slow","service_id":"svc"} 200
+{} 404
+{} 404
+# at another port
+{"parameters":{},"plan_id":"p","service_id":"svc"} 200
 """
 UNIT = "[Unit]\nAfter=multi-user.target\n[Service]\nType=oneshot\nExecStart=/root/steps\n[Install]\nWantedBy=multi-user.target\n"
 
@@ -155,7 +253,7 @@ def package(program, folder):
 
 def later(made, folder):
     """The same package under a later version."""
-    tree, path = os.path.join(folder, "later"), os.path.join(folder, "later.deb")
+    tree, path = os.path.join(folder, "later"), os.path.join(folder, f"osb-broker_{LATER}.deb")
     subprocess.run(["dpkg-deb", "-R", made, tree], check=True)
     control = os.path.join(tree, "DEBIAN", "control")
     with open(control, encoding="utf-8") as file:
@@ -166,14 +264,28 @@ def later(made, folder):
     return path
 
 
-def container(folder):
-    """A Debian of its own, or what keeps it from being made."""
-    root = os.path.join(folder, "debian")
+def containers(folder):
+    """Two Debians alike, or what keeps them from being made."""
+    root, other = os.path.join(folder, "debian"), os.path.join(folder, "other")
     release = run("sh", "-c", ". /etc/os-release && echo $VERSION_CODENAME")[1].strip()
     status, said = run("timeout", "-k", "5", "900", "debootstrap", "--variant=minbase", f"--include={INCLUDED}", release, root)
     if status == 0:
         status, said = run("timeout", "-k", "5", "60", *NSPAWN, root, "true")
-    return root, said.strip().splitlines()[-1:] if status else None
+    if status == 0:
+        status, said = run("cp", "-a", root, other)
+    return root, other, said.strip().splitlines()[-1:] if status else None
+
+
+def as_told(script):
+    """A script with the lines of docs/OPERATING.md that it names."""
+    with open(PAGE, encoding="utf-8") as file:
+        blocks = re.findall("(?:^    .*\n)+", file.read(), re.MULTILINE)
+
+    def block(line):
+        [found] = [it for it in blocks if it.startswith(f"    {line[1]}")]
+        return textwrap.dedent(found)
+
+    return re.sub("^told: (.*)\n", block, script, flags=re.MULTILINE)
 
 
 def write(path, text, mode):
@@ -182,41 +294,48 @@ def write(path, text, mode):
     os.chmod(path, mode)
 
 
-def boots(root, made, folder):
-    """How the package is installed in the container, what is said of its unit, and what the steps find there. Where it
-    doesn't boot they find nothing, and that is what it prints last."""
-    shutil.copy(made, os.path.join(root, "root", "osb-broker.deb"))
-    shutil.copy(later(made, folder), os.path.join(root, "root", "later.deb"))
-    write(os.path.join(root, "root", "steps"), STEPS, 0o755)
+def boots(root, script):
+    """What a script finds in a container. Where it doesn't boot that is nothing, and then what it prints last."""
+    write(os.path.join(root, "root", "steps"), as_told(script), 0o755)
     write(os.path.join(root, "etc", "systemd", "system", "steps.service"), UNIT, 0o644)
-    installed = run("chroot", root, "dpkg", "-i", "/root/osb-broker.deb")
-    verified = run("chroot", root, "systemd-analyze", "verify", "--man=no", "osb-broker.service")
     run("chroot", root, "systemctl", "enable", "-q", "steps")
     booted = run("timeout", "-k", "5", "300", *NSPAWN, root, "-b")
     found = os.path.join(root, "root", "found")
     if not os.path.isfile(found):
-        return installed, verified, None, booted[1].strip()[-200:]
+        return None, booted[1].strip()[-200:]
     with open(found, encoding="utf-8") as file:
-        return installed, verified, "".join(line.rstrip() + "\n" for line in file), ""
+        return "".join(line.rstrip() + "\n" for line in file), ""
+
+
+def compared(whole, expected):
+    """What each step found, and should find."""
+    steps = [[text.partition("\n")[::2] for text in it.split("# ")[1:]] for it in (whole, expected)]
+    yield "the steps", [name for name, _ in steps[0]], [name for name, _ in steps[1]]
+    for (name, wrote), (_, right) in zip(*steps):
+        yield name, wrote, right
 
 
 def tries(program, folder):
     made = package(program, folder)
     yield "lintian", run("lintian", "--allow-root", made), (0, "")
-    root, why = container(folder)
+    root, other, why = containers(folder)
     if why is not None:
         print(f"packaged: passed over what needs a container: {' '.join(why)}")
         return
-    installed, verified, found, printed = boots(root, made, folder)
-    yield "it is installed", installed[0], 0
-    yield "the unit", verified, (0, "")
+    for path, name in [(made, "package"), (later(made, folder), "later")]:
+        os.mkdir(os.path.join(root, "root", name))
+        shutil.copy(path, os.path.join(root, "root", name))
+    found, printed = boots(root, STEPS)
     if found is None:
-        print(f"packaged: passed over what runs in the container, which doesn't boot: {printed}")
+        print(f"packaged: passed over what runs in a container, which doesn't boot: {printed}")
         return
-    steps = [[text.partition("\n")[::2] for text in whole.split("# ")[1:]] for whole in (found, EXPECTED)]
-    yield "the steps", [name for name, _ in steps[0]], [name for name, _ in steps[1]]
-    for (name, wrote), (_, expected) in zip(*steps):
-        yield name, wrote, expected
+    yield from compared(found, EXPECTED)
+    shutil.copy(made, os.path.join(other, "root", "osb-broker.deb"))
+    yield "it is installed where no systemd runs", run("chroot", other, "dpkg", "-i", "/root/osb-broker.deb")[0], 0
+    shutil.copytree(os.path.join(root, "backup"), os.path.join(other, "backup"))
+    found, printed = boots(other, ELSEWHERE)
+    yield "the other one boots", printed, ""
+    yield from compared(found or "", EXPECTED_ELSEWHERE)
 
 
 def main():
