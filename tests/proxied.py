@@ -1,7 +1,7 @@
 #!/usr/bin/env python3
 """Tries the program behind nginx and behind HAProxy, with the configurations of the examples: TLS, slow clients,
-requests by which a proxy and a broker might disagree, and restarts. What goes wrong while the machine stands still is
-tried again.
+requests by which a proxy and a broker might disagree, a copy and restarts. What goes wrong while the machine stands
+still is tried again.
 
 usage: tests/proxied.py PROGRAM
 
@@ -11,6 +11,7 @@ Needs openssl, nginx and HAProxy; of what isn't there it says that it passed thi
 import itertools
 import os
 import shutil
+import signal
 import socket
 import sys
 import tempfile
@@ -114,9 +115,9 @@ def bodies(proxy):
     yield "a body in chunks", proxy.answers(head + chunks), proxy.chunks
 
 
-def two_ways(refused):
+def two_ways(refused, new):
     """What a proxy and a broker might read in two ways: what is sent, and the one reply to it, bare, behind nginx and
-    behind HAProxy. `refused` is that of the proxy itself."""
+    behind HAProxy. `refused` is that of the proxy itself, and `new` an instance that isn't there."""
     no_head, nothing = replies(NO_HEAD_REPLY)[0], (404, "{}")
     without_login = b"GET /v2/ HTTP/1.1\r\nHost: b\r\nConnection: close\r\n"
     many = "".join(f"A{number}:\r\n" for number in range(200))
@@ -127,7 +128,7 @@ def two_ways(refused):
         ("200 field lines", closing("GET", "/v2/catalog", lines=many), no_head, GET, refused),
         ("200 field lines and no login", without_login + many.encode() + b"\r\n", no_head, (401, "{}"), refused),
         ("two lengths", closing("PUT", I, "{}", "Content-Length: 3\r\n"), LENGTH, refused, refused),
-        ("two equal lengths", closing("PUT", at("equal"), SYNC, length), LENGTH, refused, MADE),
+        ("two equal lengths", closing("PUT", at(new), SYNC, length), LENGTH, refused, MADE),
         ("a length and chunks", closing("PUT", I, lines=both) + smuggled, CODINGS, refused, refused),
         ("a coding that isn't one", closing("PUT", I, lines=other) + smuggled, CODINGS, refused, refused),
         ("a length of +2", closing("PUT", I, lines="Content-Length: +2\r\n") + b"{}", LENGTH, refused, refused),
@@ -140,10 +141,10 @@ def two_ways(refused):
     ]
 
 
-def disagreements(proxy, serving):
+def disagreements(proxy, serving, numbers):
     """Whether such a request is one, bare and through the proxy, and another client is answered behind it, all at
     once."""
-    for name, sent, bare, *through in two_ways(proxy.refused):
+    for name, sent, bare, *through in two_ways(proxy.refused, f"equal-{next(numbers)}"):
         for where, doors, expected in [("bare", serving, bare), ("through", proxy, through[PROXIES.index(type(proxy))])]:
             begun = time.monotonic()
             yield f"{name}, {where}", replies(doors.sends(sent)), [expected]
@@ -151,6 +152,26 @@ def disagreements(proxy, serving):
         for what, found, expected in at_once(proxy, SOON):
             yield f"behind {name}: {what}", found, expected
     yield "nothing was smuggled", proxy.answers(closing("GET", at("smuggled"))), (404, "{}")
+
+
+def connections_to(port):
+    """How many clients are connected to a port, taken or not."""
+    with open("/proc/net/tcp", encoding="ascii") as file:
+        rows = [line.split() for line in file]
+    return sum(row[1].endswith(f":{port:04X}") and row[3] == "01" for row in rows)
+
+
+def held_back(proxy, serving):
+    """Whether those are answered who ask while the program is stopped for a copy, and where they wait."""
+    with ThreadPoolExecutor(FAST) as pool:
+        serving.process.send_signal(signal.SIGSTOP)
+        asked = [pool.submit(proxy.answers, closing("GET", "/v2/catalog")) for _ in range(FAST)]
+        time.sleep(SOON)
+        connected = connections_to(serving.port)
+        serving.process.send_signal(signal.SIGCONT)
+        found = [it.result() for it in asked]
+    yield "while it is stopped for a copy", found, [GET] * FAST
+    yield "connections to it meanwhile", connected, 1 if proxy.queues else FAST
 
 
 def restarts(serving):
@@ -195,9 +216,10 @@ def behind(proxy, serving, watch):
                 yield f"beside clients that stop, {where}: {what}", found, expected
         yield from conversation(proxy)
         yield from bodies(proxy)
-        yield from watch.calmly(lambda: disagreements(proxy, serving))
+        yield from watch.calmly(lambda: disagreements(proxy, serving, numbers))
         yield from watch.calmly(lambda: slow_and_fast(proxy, numbers))
-        if proxy.bridges:
+        yield from watch.calmly(lambda: held_back(proxy, serving))
+        if proxy.queues:
             yield from bridged(proxy, serving, numbers)
         for name, found, expected in zip(["head", "body"], late, [proxy.no_head, proxy.no_body]):
             yield f"a client that stops inside its {name}", found.result(), expected

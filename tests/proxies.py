@@ -110,8 +110,8 @@ http {
     chunks = 201, "{}"
     no_head = no_body = []
     away = 502, AWAY
-    # Whether requests wait in it for a broker that starts again.
-    bridges = False
+    # Whether requests wait in it for their turn, and for a broker that starts again.
+    queues = False
 
 
 class HAProxy(Proxy):
@@ -125,4 +125,4 @@ class HAProxy(Proxy):
     no_body = 408, '{"description":"The request took too long."}'
     chunks = CODINGS
     away = 503, AWAY
-    bridges = True
+    queues = True
