@@ -1,4 +1,4 @@
-//! What a request asks.
+//! The asks, a type for each kind of request, and which instance and binding each is about.
 
 ghost use Rattle.std.specs.Prelude.{◌≡◌, option_copied};
 ghost use Rattle.osb_asks.specs.Subjects.{instance_of, binding_of};
@@ -123,7 +123,7 @@ pub enum ReportState {
     Failed,
 }
 
-/// The backend's word on an order.
+/// The backend's report of an order.
 #[derive(Debug, Drop)]
 pub struct Report {
     pub instance: Id,

@@ -1,3 +1,5 @@
+//! The faults of reading a request, in the order in which they count.
+
 use std::alloc::AllocError;
 use thiserror::Error;
 

@@ -1,4 +1,4 @@
-//! What the backend asks.
+//! Reads what the backend asks: the running orders, and the report of how one ended.
 
 ghost use Rattle.osb_text.specs.ObjectText.{IsReadable};
 ghost use Rattle.osb_asks.specs.Backend as spec;

@@ -1,4 +1,4 @@
-//! What requests for bindings ask.
+//! Reads what requests for bindings ask, from the ids of the path, the query and the body.
 
 ghost use Rattle.osb_text.specs.ObjectText.{IsReadable};
 ghost use Rattle.osb_catalog.specs.Rules.{rules_of};

@@ -1,4 +1,4 @@
-//! What the body of a request says.
+//! Reads the body of a request: its object, and the members that each ask has.
 
 ghost use Rattle.std.specs.Prelude.{◌≡◌, IfOk};
 ghost use Rattle.osb_text.specs.ObjectText.{IsReadable};
@@ -34,7 +34,7 @@ pub(crate) struct NamedSpace {
     pub(crate) space: Id,
 }
 
-/// What the platform tells of itself, and the parameters, as compact texts.
+/// The context and the parameters, as compact texts.
 #[derive(Debug, Drop)]
 pub(crate) struct Details {
     pub(crate) context: ObjectText,

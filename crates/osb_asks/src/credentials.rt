@@ -1,4 +1,4 @@
-//! The login of a door.
+//! Whether the value of an Authorization field is the Basic login of a door.
 
 ghost use Rattle.std.specs.Prelude.{◌≡◌};
 ghost use Rattle.osb_asks.specs.Credentials.{after_spaces, is_spaced, is_login};

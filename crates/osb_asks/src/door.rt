@@ -1,4 +1,4 @@
-//! The doors of the broker.
+//! Which door, the platform's or the backend's, a path leads to.
 
 ghost use Rattle.std.specs.Prelude.{◌≡◌, option_map};
 ghost use Rattle.osb_asks.specs.Doors as spec;

@@ -1,3 +1,5 @@
+//! Ids as a type of their own: texts that were found to be id texts.
+
 ghost use Rattle.std.specs.Prelude.{◌≡◌, true};
 ghost use Rattle.osb_text.specs.Id.{is_id};
 ghost use Rattle.osb_asks.specs.Texts.{id_if};

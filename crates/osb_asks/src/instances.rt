@@ -1,4 +1,4 @@
-//! What requests for instances ask.
+//! Reads what requests for instances ask, from the id of the path, the query and the body.
 
 ghost use Rattle.osb_text.specs.ObjectText.{IsReadable};
 ghost use Rattle.osb_catalog.specs.Rules.{rules_of};

@@ -1,3 +1,5 @@
+//! JSON objects that are kept as their compact texts.
+
 ghost use Rattle.std.specs.Prelude.{◌≡◌, true, IfOk, codes};
 ghost use Rattle.osb_text.specs.ObjectText.{is_object_text, IsReadable};
 ghost use Rattle.osb_text.specs.Object.{ref_data};

@@ -1,4 +1,4 @@
-//! What the catalog has.
+//! Whether the catalog has the service and the plan that an ask names.
 
 ghost use Rattle.std.specs.Prelude.{◌≡◌};
 ghost use Rattle.osb_catalog.specs.Rules.{rules_of};

@@ -1,4 +1,4 @@
-//! The places behind the doors.
+//! What the path behind a door names: the catalog, an instance, a binding, an operation or orders.
 
 ghost use Rattle.std.specs.Prelude.{◌≡◌, option_map};
 ghost use Rattle.osb_asks.specs.Places as spec;

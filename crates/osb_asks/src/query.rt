@@ -1,4 +1,4 @@
-//! What a query says.
+//! Reads the query of a request, of which the first pair of each name counts.
 
 ghost use Rattle.std.specs.Prelude.{◌≡◌, IfOk};
 ghost use Rattle.osb_asks.specs.Ids.{id_unless_empty_or};

@@ -1,4 +1,4 @@
-//! What a request asks.
+//! Reads the ask of a request: who is let in by which route, and then what that route asks.
 
 ghost use Rattle.std.specs.Prelude.{◌≡◌, true, Ok, IfOk};
 ghost use Rattle.osb_frames.specs.Steps.{message};

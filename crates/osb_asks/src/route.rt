@@ -1,4 +1,4 @@
-//! The routes of the broker.
+//! The table of routes, by method and path.
 
 ghost use Rattle.std.specs.Prelude.{◌≡◌, option_map};
 ghost use Rattle.osb_asks.specs.Routes as spec;

@@ -1,4 +1,4 @@
-//! The version of the API.
+//! Whether a version of the API is one that is spoken.
 
 ghost use Rattle.std.specs.Prelude.{◌≡◌, take, drop};
 ghost use Rattle.std.specs.List.{list_all};

@@ -1,3 +1,5 @@
+//! Whether lists of orders and rows are those of well-formed lives, instance by instance.
+
 ghost use Rattle.std.specs.Prelude.{◌≡◌, ◌↔◌, true, length, IfOk};
 ghost use Rattle.std.specs.List.{take_while};
 ghost use Rattle.osb_audit.specs.Orders.{is_of};

@@ -1,3 +1,5 @@
+//! The bindings that the orders of one instance lead to, and whether rows are theirs.
+
 ghost use Rattle.std.specs.Prelude.{◌≡◌, ◌↔◌, true, OnOk, map};
 ghost use Rattle.std.specs.FinMap.{insert, remove, entries};
 ghost use Rattle.osb_standing.specs.Rows.{Bindings};

@@ -1,3 +1,5 @@
+//! A row of the table of bindings with its key.
+
 use osb_orders::BindingPhase;
 use osb_text::Text;
 

@@ -1,3 +1,5 @@
+//! Whether the orders of one instance are a well-formed life, and its rows those of that life.
+
 ghost use Rattle.std.specs.Prelude.{◌≡◌, ◌↔◌, ◌<◌, ◌∷◌, ◌++◌, [], true, length, Some, IfOk, OnOk, IfSome, IfNone, option_copied};
 ghost use Rattle.osb_orders.specs.declared.order.OrderKind.TheVariants.{Create};
 ghost use Rattle.osb_orders.specs.declared.order.OrderState.TheVariants.{Failed};

@@ -1,3 +1,5 @@
+//! The plans in use, read off the rows of the instances and the running orders.
+
 ghost use Rattle.std.specs.Prelude.{◌≡◌, ℕ, ◌≤◌, ◌∷◌, [], length, IfOk, OnOk};
 ghost use Rattle.std.specs.List.Sorted.{IsStrictlySortedBy};
 ghost use Rattle.osb_orders.specs.Lives.{Lives};

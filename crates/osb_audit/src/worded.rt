@@ -1,3 +1,5 @@
+//! Whether the texts of an order are id texts and compact texts, where they have to be.
+
 ghost use Rattle.std.specs.Prelude.{◌≡◌, ◌↔◌, ◌&&◌, true, IfOk};
 ghost use Rattle.osb_text.specs.Id.{is_id};
 ghost use Rattle.osb_text.specs.ObjectText.{is_object_text};

@@ -1,6 +1,6 @@
 //! Lives without contexts, and the context that stands of an instance: laws over the definitions of
 //! lives and rows alone. The tables of orders, instances and bindings have no column for a context,
-//! so what they tell is bare.
+//! so what they say is bare.
 #![tactic(auto)]
 
 ghost use Rattle.osb_bare.specs.Laws.{BareLivesHaveNoContext, BareLivesAreWellFormed, LifeOfBare, LivesInBare};

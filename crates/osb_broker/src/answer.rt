@@ -1,4 +1,4 @@
-//! Answers to requests that can't be read, and the replies that carry answers.
+//! The answers to requests that can't be read, and the replies that carry answers.
 
 ghost use Rattle.std.specs.Prelude.{◌≡◌};
 ghost use Rattle.osb_frames.specs.Steps.{message};
@@ -31,7 +31,7 @@ fn fixed<'s>(error: FixedError) -> Answer<'s>
     }
 }
 
-/// What tells a request that can't be read.
+/// The answer to a request that can't be read.
 pub(crate) fn fault_answer<'s>(fault: AskFault) -> Answer<'s>
     ensures { answer_parts result ≡ fault_answer fault }
 {

@@ -1,4 +1,4 @@
-//! The broker.
+//! The broker and its public calls, each a short call of what `Setup` does to the records.
 
 ghost use Rattle.std.specs.Prelude.{◌≡◌, ◌≢◌, ◌≤◌, ◌⊎◌, length, true, false, IfOk, IfErr};
 ghost use Rattle.sqlite.specs.Held.{state};

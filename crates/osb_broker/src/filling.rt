@@ -1,4 +1,4 @@
-//! The front of the room that a connection is read into.
+//! Reads into the room of a connection, and moves what is left to its front.
 
 ghost use Rattle.std.specs.Prelude.{◌≡◌, ◌<◌, ◌≤◌, ◌+◌, ◌-◌, [], ◌∷◌, ◌++◌, Some, None, length, take, drop, IfOk, MatchResult};
 ghost use Rattle.std.specs.Io.KnownBytes.{Consumes, IsAtEnd, Keeps};

@@ -1,4 +1,4 @@
-//! What the definitions say of every connection.
+//! Laws of texts, runs and histories, over the definitions alone.
 
 ghost use Rattle.std.specs.Prelude.{◌≡◌, [], ◌∷◌, ◌++◌, ℕ, List, Bool, Result};
 ghost use Rattle.osb_frames.specs.declared.limits.Limits.{Limits};

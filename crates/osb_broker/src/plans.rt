@@ -30,7 +30,8 @@ fn first_lacking(settings: &Settings, plans: Vec<(Text, Text)>) -> Option<(Text,
     plans.into_iter().find(|pair| !offers(settings, pair))
 }
 
-/// Looks whether the catalog has all plans that are in use.
+/// Nothing where the catalog has all plans that are in use, otherwise a fault that names the first
+/// that it lacks.
 pub(crate) fn find_plans<S: Alter>(
     records: &mut Records<S>,
     alloc: Global,

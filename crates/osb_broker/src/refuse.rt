@@ -9,7 +9,7 @@ ghost use Rattle.osb_broker.specs.Answering.{WritesText};
 use osb_frames::{Sink, StopKind};
 use osb_replies::{FixedError, Reply, WriteFault, write_reply};
 
-/// The error that tells a framing fault.
+/// The error that reports a framing fault.
 fn error_of(kind: StopKind) -> FixedError
     ensures { result ≡ error_of kind }
 {

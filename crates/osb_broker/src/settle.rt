@@ -1,4 +1,4 @@
-//! Changes that are pending, made.
+//! Makes the change of an answer that is ready.
 
 ghost use Rattle.std.specs.Prelude.{◌≤◌, ◌+◌, ◌≢◌, length, None, Some, OnOk, OnErr};
 ghost use Rattle.sqlite.specs.Held.{state};

@@ -1,3 +1,5 @@
+//! The text of the built-in settings.
+
 /// The settings that serve where no file is named: one service with a synchronous and an
 /// asynchronous plan.
 pub const BUILT_IN: &str = "{\"platform\":{\"user\":\"platform\",\"password\":\"secret\"},

@@ -1,3 +1,5 @@
+//! Takes services, plans, modes and the limit of orders from a file without faults.
+
 ghost use Rattle.std.specs.Prelude.{◌≡◌, ◌++◌, IfOk, OnOk, true};
 ghost use Rattle.serde_json.specs.View.{view, items_view};
 ghost use Rattle.osb_text.specs.Whole.{is_whole};

@@ -1,3 +1,5 @@
+//! The faults of a settings file, with their numbers and names.
+
 ghost use Rattle.std.specs.Prelude.{◌≡◌};
 
 use crate::field::Field;

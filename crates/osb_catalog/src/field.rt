@@ -1,3 +1,5 @@
+//! The names of the fields of a settings file.
+
 ghost use Rattle.std.specs.Prelude.{◌≡◌};
 ghost use Rattle.osb_catalog.specs.Fields.{field_name};
 

@@ -1,3 +1,5 @@
+//! The ids of services and plans, and whether one of them stands twice.
+
 ghost use Rattle.std.specs.Prelude.{◌≡◌, ◌++◌, ℕ, List, IfOk, OnOk};
 ghost use Rattle.serde_json.specs.View.{view, items_view};
 ghost use Rattle.osb_catalog.specs.Ids.{has_double, is_among, ids_of, plan_ids, has_double_id};

@@ -1,3 +1,5 @@
+//! The kinds of values that fields may hold, and whether a value is of one of them.
+
 ghost use Rattle.std.specs.Prelude.{◌≡◌};
 ghost use Rattle.serde_json.specs.View.{view, items_view, members_view};
 ghost use Rattle.osb_catalog.specs.Items.{all_items, all_members};

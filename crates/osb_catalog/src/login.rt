@@ -1,3 +1,5 @@
+//! The logins of platform and backend: whether they can be used, and their tokens.
+
 ghost use Rattle.std.specs.Prelude.{◌≡◌, IfOk};
 ghost use Rattle.serde_json.specs.View.{view};
 ghost use Rattle.osb_catalog.specs.Logins.{has_colon, is_user, is_password, refuses_login, refuses_login_at, refuses_logins, token, token_at};

@@ -1,3 +1,5 @@
+//! Looks up what an object of a settings file has under a field.
+
 ghost use Rattle.std.specs.Prelude.{◌≡◌, option_map, unwrap_or, IfSome, true};
 ghost use Rattle.serde_json.specs.Data.{no_items, no_members};
 ghost use Rattle.serde_json.specs.Find.{as_array};

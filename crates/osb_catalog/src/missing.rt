@@ -1,3 +1,5 @@
+//! The first field that a file lacks, and the first that announces what the broker leaves out.
+
 ghost use Rattle.std.specs.Prelude.{◌≡◌};
 ghost use Rattle.serde_json.specs.View.{view, items_view, members_view};
 ghost use Rattle.osb_catalog.specs.Items.{first_in, first_of_members};

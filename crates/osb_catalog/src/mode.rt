@@ -1,3 +1,5 @@
+//! The modes of a file, and which of them are refused.
+
 ghost use Rattle.std.specs.Prelude.{◌≡◌, IfOk, IfSome, option_map, unwrap_or, true};
 ghost use Rattle.serde_json.specs.Data.{null};
 ghost use Rattle.serde_json.specs.View.{view, items_view, members_view};

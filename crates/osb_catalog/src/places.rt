@@ -1,3 +1,5 @@
+//! A map from ids to their places in a list.
+
 ghost use Rattle.std.specs.Prelude.{◌≡◌, IfOk};
 ghost use Rattle.osb_catalog.specs.IdSet.{texts};
 

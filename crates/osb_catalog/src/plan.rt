@@ -1,3 +1,5 @@
+//! Services and plans as the settings keep them, and the modes of plans.
+
 ghost use Rattle.std.specs.Prelude.{◌≡◌};
 
 use osb_text::Text;

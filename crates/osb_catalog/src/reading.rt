@@ -1,3 +1,5 @@
+//! Reads a settings file: its first fault, or the settings that it has.
+
 ghost use Rattle.std.specs.Prelude.{◌≡◌, ◌≢◌, IfOk, IfErr, Ok, Err, None, Some};
 ghost use Rattle.serde_json.specs.View.{view};
 ghost use Rattle.osb_text.specs.ObjectText.{IsReadable};

@@ -1,3 +1,5 @@
+//! The settings, with the look-ups by which the broker decides.
+
 ghost use Rattle.std.specs.Prelude.{◌≡◌, ◌≤◌, option_map, is_some, length};
 ghost use Rattle.osb_catalog.specs.Rules.{rules_of, allows_context_updates, service_named, plan_named};
 ghost use Rattle.osb_catalog.specs.Sound.{AreSound};

@@ -1,3 +1,5 @@
+//! The tables of the fields that each object of a file must have, may have, and must leave out.
+
 ghost use Rattle.std.specs.Prelude.{◌≡◌};
 ghost use Rattle.serde_json.specs.View.{view};
 ghost use Rattle.osb_catalog.specs.Tables.{is_broken, first_broken, required, optional, file_rules, catalog_rules, service_rules, plan_rules, mode_rules, service_left_out_rules, plan_left_out_rules};

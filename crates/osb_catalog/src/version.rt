@@ -1,3 +1,5 @@
+//! Whether the maintenance versions of all plans are versions.
+
 ghost use Rattle.std.specs.Prelude.{◌≡◌, IfOk};
 ghost use Rattle.serde_json.specs.View.{view, items_view};
 ghost use Rattle.osb_catalog.specs.Items.{any_item};

@@ -174,7 +174,7 @@ impl Fault<'_> {
         }
     }
 
-    /// Writes the line that tells it. It takes no memory.
+    /// Writes the line that reports it. It takes no memory.
     pub(crate) fn tell<E: Sink>(&self, errors: &mut E) {
         match self {
             Fault::CannotRead(file) => say(errors, &["osb-broker: cannot read ", file, "\n"]),
@@ -213,7 +213,7 @@ impl Unserved<'_> {
         }
     }
 
-    /// Writes the line that tells it. It takes no memory.
+    /// Writes the line that reports it. It takes no memory.
     pub(crate) fn tell<E: Sink>(&self, errors: &mut E) {
         match self {
             Unserved::Fault(fault) => fault.tell(errors),

@@ -1,4 +1,4 @@
-//! The head at the front of a buffer.
+//! Reads the request head at the front of a buffer.
 
 ghost use Rattle.std.specs.Prelude.{◌≡◌, ◌≤◌, length, take, map, All};
 ghost use Rattle.httparse.specs.Spans.{IsHeaderWithin, header_bytes};

@@ -1,4 +1,4 @@
-//! What the definitions say of every list of bytes.
+//! Laws of heads, fronts and cuts, over the definitions alone.
 
 ghost use Rattle.std.specs.Prelude.{◌≡◌, ℕ, List, [], ◌∷◌, ◌++◌, ◌↔◌};
 ghost use Rattle.httparse.specs.Grammar.{RequestHead};

@@ -1,4 +1,4 @@
-//! Writing all of a piece.
+//! Writes all of a piece, by as many writes as it takes.
 
 ghost use Rattle.std.specs.Prelude.{◌≡◌, ◌≤◌, ◌<◌, ◌+◌, ◌++◌, length, take, OnOk, OnErr, IfErr};
 

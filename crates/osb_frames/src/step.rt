@@ -1,4 +1,4 @@
-//! The next request of a connection.
+//! What stands at the front of a buffer: a request, a framing fault, or too little yet.
 
 ghost use Rattle.std.specs.Prelude.{◌≡◌, ℕ, ◌+◌, ◌<◌, ◌≤◌, length, IsTrue, IsFalse, MatchResult};
 
@@ -7,7 +7,7 @@ use crate::head::{Found, head_at};
 use crate::limits::Limits;
 use crate::request::Request;
 
-/// Why no further request is read. Where several stand, the first of this list is told.
+/// Why no further request is read. Where several stand, the first of this list is reported.
 #[derive(Clone, Copy, Debug, PartialEq, Eq)]
 pub enum StopKind {
     /// The bytes begin with no head within the limits.
@@ -103,9 +103,9 @@ fn step_at<'a>(buf: &'a [u8], ended: bool, limits: &Limits, patient: bool) -> St
 
 /// The request at the front of `buf`, where `ended` says that no more bytes come.
 ///
-/// It takes no memory. A fault of the head is told as soon as the head is whole. Where the parser
-/// refuses the bytes, NoHead is told at once, except for too many field lines: there more bytes
-/// are asked for until the limit of a head is reached or the input ended.
+/// It takes no memory. A fault of the head is reported as soon as the head is whole. Where the
+/// parser refuses the bytes, NoHead is reported at once, except for too many field lines: there
+/// more bytes are asked for until the limit of a head is reached or the input ended.
 pub fn next<'a>(buf: &'a [u8], ended: bool, limits: &Limits) -> Step<Request<'a>>
     // What is answered stands there.
     ensures says { Says limits.now buf.now ended result }
@@ -126,8 +126,8 @@ pub fn next<'a>(buf: &'a [u8], ended: bool, limits: &Limits) -> Step<Request<'a>
     step_at(buf, ended, limits, true)
 }
 
-/// As [`next`], but no more is asked for of a head that has too many field lines: it is told to be no
-/// head as soon as the line too many has come.
+/// As [`next`], but no more is asked for of a head that has too many field lines: NoHead is
+/// reported as soon as the line too many has come.
 pub fn next_at_once<'a>(buf: &'a [u8], ended: bool, limits: &Limits) -> Step<Request<'a>>
     ensures says { Says limits.now buf.now ended result }
     ensures size { IfWhole result (λ request used. (0 < used) × (used ≤ length buf.now)) }

@@ -1,3 +1,5 @@
+//! Whether orders, rows and contexts that were read apart are those of well-formed lives.
+
 ghost use Rattle.std.specs.Prelude.{◌≡◌, ◌↔◌, true, IfOk};
 ghost use Rattle.osb_joined.specs.Audit.{HaveNoContexts, AreRowsWithContexts};
 

@@ -1,3 +1,5 @@
+//! A row of the table of contexts with its key.
+
 use osb_text::Text;
 
 /// The context of an order, or with the number 0 of what stands of the instance.

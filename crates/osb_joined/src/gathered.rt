@@ -1,3 +1,5 @@
+//! Gathers the contexts of orders and rows into one list.
+
 ghost use Rattle.std.specs.Prelude.{◌≡◌, List, IfOk, option_copied};
 ghost use Rattle.osb_audit.specs.declared.entry.BindingEntry.{BindingEntry};
 ghost use Rattle.osb_audit.specs.Orders.{lives_in};

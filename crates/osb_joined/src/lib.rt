@@ -1,6 +1,6 @@
 //! The contexts of lives as entries of a table, and the lives that they make up with what the other
-//! tables tell: laws over the definitions, and for the lists that an audit reads `gather`, which gives
-//! their contexts, and `are_rows_with_contexts`, which says whether contexts are theirs.
+//! tables show: laws over the definitions, and for the lists that an audit reads `gather`, which
+//! gives their contexts, and `are_rows_with_contexts`, which says whether contexts are theirs.
 #![tactic(auto)]
 
 mod audit;

@@ -1,3 +1,5 @@
+//! Puts contexts beside the orders and rows that they belong to.
+
 ghost use Rattle.std.specs.Prelude.{◌≡◌, ◌↔◌, List, true, IfOk, IfSome, IfNone, option_map, option_copied};
 ghost use Rattle.std.specs.Ordering.{is_lt};
 ghost use Rattle.osb_audit.specs.Orders.{Entry};

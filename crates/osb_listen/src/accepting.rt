@@ -10,7 +10,7 @@ const MOST_TRIES: u32 = 100;
 /// How long is waited for a descriptor: ten seconds in a row at most.
 const PAUSE_MILLISECONDS: u64 = 100;
 
-/// The numbers of the system's errors that tell of no free descriptor: `ENFILE`, where the whole
+/// The numbers of the system's errors that mean no free descriptor: `ENFILE`, where the whole
 /// system has none, and `EMFILE`, where the process may have no more.
 const NONE_IN_SYSTEM: i32 = 23;
 

@@ -1,4 +1,4 @@
-//! The end of a TCP connection.
+//! Ends a TCP connection so that its client can read the last reply.
 
 use crate::deadline::{Deadline, Timed};
 use std::io::Read;

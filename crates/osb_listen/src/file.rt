@@ -1,4 +1,4 @@
-//! The broker over a database file.
+//! Opens a database file, listens, and serves from the lives in it.
 
 ghost use Rattle.std.specs.Prelude.{◌≡◌, ◌≤◌, ◌<◌, ◌++◌, Err, IfOk, IfErr, IfSome, IfNone, OnOk, IsOkUnless};
 ghost use Rattle.sqlite_trees.specs.Tree.{Trees};
@@ -67,13 +67,13 @@ fn broker_over<'s, S: Start>(
 }
 
 /// Serves connections at an address from a broker over these settings and a database file, up to
-/// `per_connection` requests of each, and tells on `output` that they are taken. The connection to
-/// the file comes back, where it was opened.
+/// `per_connection` requests of each, and reports on `output` that they are taken. The connection
+/// to the file comes back, where it was opened.
 ///
 /// The database is opened, and its plans are looked for in the catalog, before the address is
 /// listened at. A connection that isn't done within the time limit ends as one whose read or write
-/// failed. Before each one is answered, it is looked whether the database file is there still; where
-/// it was taken away, the fault is `FileTaken`.
+/// failed. Before each one is answered, the database file is looked for; where it was taken away,
+/// the fault is `FileTaken`.
 ///
 /// `start` stands for what the file holds: what is said of lives is said of each database that it may
 /// hold.

@@ -157,8 +157,8 @@ fn standard_buffer(alloc: Global) -> Result<Buffer, AllocError>
     Buffer::new(alloc, &Limits::STANDARD)
 }
 
-/// Listens at an address, tells so, and serves connections. What is said of lives is said where the
-/// store works still.
+/// Listens at an address, reports it, and serves connections. What is said of lives is said where
+/// the store works still.
 pub(crate) fn serve_at<S: Alter, W: Sink, E: Sink>(
     rt: &HostRuntime,
     broker: &mut Broker<'_, S>,
@@ -172,7 +172,7 @@ pub(crate) fn serve_at<S: Alter, W: Sink, E: Sink>(
     ensures accepted { Works (store_of S.Store broker.new) → IfErr result (λ fault. IsOfServing fault → (limits : Limits) × AreStandard limits
         × AfterFewer (rules_of broker.old) limits (most_of broker.old) place.now.connections (lives_of S.Store broker.old) (lives_of S.Store broker.new) (E.taken errors.old) (E.taken errors.new)) }
 
-    // Before connections are taken nothing is changed and nothing is told on `errors`.
+    // Before connections are taken nothing is changed and nothing is reported on `errors`.
     ensures same { IfErr result (λ fault. ¬ IsOfServing fault → lives_of S.Store broker.new ≡ lives_of S.Store broker.old) }
     ensures quiet { IfErr result (λ fault. ¬ IsOfServing fault → E.taken errors.new ≡ E.taken errors.old) }
 

@@ -1,4 +1,4 @@
-//! One TCP connection.
+//! Serves one TCP connection and reports how that ended.
 
 ghost use Rattle.std.specs.Prelude.{◌≡◌, ◌<◌, List};
 ghost use Rattle.osb_frames.specs.Calls.{Call, all_bytes};
@@ -15,7 +15,7 @@ use sqlite::Alter;
 use std::net::TcpStream;
 use std::time::Duration;
 
-/// Tells how serving a connection ended. Standard error that can't be written is passed over.
+/// Reports how serving a connection ended. Standard error that can't be written is passed over.
 #[tactic(auto, using(crate::proofs::PartLemmas::sent_in_part, crate::proofs::PartLemmas::nothing_sent))]
 fn tell_end<E: Sink>(ended: Result<(), ServeFault>, errors: &mut E)
     ensures { IsWrittenInPart (line_of ended) (E.taken errors.old) (E.taken errors.new) }
@@ -27,8 +27,8 @@ fn tell_end<E: Sink>(ended: Result<(), ServeFault>, errors: &mut E)
     };
 }
 
-/// Serves a connection, and tells how that ended. What is said of lives is said where the store works
-/// still.
+/// Serves a connection, and reports how that ended. What is said of lives is said where the store
+/// works still.
 fn serve_connection<S: Alter, R: Source, W: Sink, E: Sink>(
     broker: &mut Broker<'_, S>,
     buffer: &mut Buffer,

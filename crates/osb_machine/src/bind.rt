@@ -1,4 +1,4 @@
-//! A new binding.
+//! The rules of Bind, which makes a binding.
 
 ghost use Rattle.std.specs.Prelude.{◌≡◌, IfOk};
 ghost use Rattle.osb_catalog.specs.Rules.{rules_of};

@@ -1,4 +1,4 @@
-//! The end of an instance.
+//! The rules of Deprovision, which ends an instance.
 
 ghost use Rattle.std.specs.Prelude.{◌≡◌, IfOk};
 ghost use Rattle.osb_catalog.specs.Rules.{rules_of};

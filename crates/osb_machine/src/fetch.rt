@@ -1,4 +1,4 @@
-//! What an instance is.
+//! The rules of Fetch, which shows an instance.
 
 ghost use Rattle.std.specs.Prelude.{◌≡◌, IfOk};
 ghost use Rattle.osb_machine.specs.Fetch.{fetch};

@@ -1,4 +1,4 @@
-//! What a binding is.
+//! The rules of FetchBinding, which shows a binding.
 
 ghost use Rattle.std.specs.Prelude.{◌≡◌, IfOk};
 ghost use Rattle.osb_machine.specs.FetchBinding.{fetch_binding};

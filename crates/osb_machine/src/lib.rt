@@ -1,6 +1,6 @@
 //! What the broker answers to an ask, and the order that it opens or ends.
 //!
-//! `decide` goes by the table of answers: `specs/Answer.antt` has a definition for each ask, with
+//! `decide` goes by the answer table: `specs/Answer.antt` has a definition for each ask, with
 //! its rules in the order in which they are tried, and there is a module for each here.
 #![tactic(auto)]
 

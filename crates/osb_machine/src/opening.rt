@@ -1,3 +1,5 @@
+//! Opens an order, or refuses it, and answers for one that runs already.
+
 ghost use Rattle.std.specs.Prelude.{if◌then◌else◌, ◌≡◌, IfOk};
 ghost use Rattle.osb_catalog.specs.Rules.{rules_of};
 ghost use Rattle.osb_orders.specs.Facts.{facts};
@@ -64,7 +66,7 @@ fn open_numbered<'a>(
     }
 }
 
-/// Says that the order begins.
+/// Begins the order of that number, which then runs.
 fn begin<'a>(alloc: Global, number: u32, opening: Opening<'_>) -> Result<Step<'a>, AllocError>
     ensures { IfOk result (λ step. reaction step ≡ begins (numbered number (opening_of opening.entry) running)) }
 {
@@ -90,7 +92,7 @@ fn numbered(number: u32, opening: Opening<'_>, outcome: Outcome) -> Order
     }
 }
 
-/// Says of an order that it begins.
+/// Answers 202 of an order, and appends it.
 fn begun<'a>(alloc: Global, order: Order) -> Result<Step<'a>, AllocError>
     ensures { IfOk result (λ step. reaction step ≡ begins order) }
 {
@@ -109,7 +111,7 @@ fn begun<'a>(alloc: Global, order: Order) -> Result<Step<'a>, AllocError>
     }
 }
 
-/// Says what the opening does, of its order, which is carried out at once.
+/// Answers as the opening says, and appends its order, which is carried out at once.
 fn carried_out<'a>(alloc: Global, number: u32, opening: Opening<'a>) -> Step<'a>
     ensures { reaction result ≡ carried_out number (opening_of opening.entry) }
 {
@@ -146,7 +148,7 @@ fn succeeded_with(alloc: Global, credentials: Text) -> Outcome
     }
 }
 
-/// Says which order goes on, where the request accepts that.
+/// Answers 202 of the order that runs, where the request accepts that.
 pub(crate) fn accepted<'a>(
     alloc: Global,
     accepts_incomplete: bool,

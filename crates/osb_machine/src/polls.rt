@@ -1,4 +1,4 @@
-//! How an operation stands.
+//! The rules of InstanceOp and BindingOp, which show how an operation stands.
 
 ghost use Rattle.std.specs.Prelude.{◌≡◌, IfOk};
 ghost use Rattle.osb_orders.specs.Facts.{facts};
@@ -12,8 +12,8 @@ use osb_replies::{FixedError, Status};
 use osb_text::Text;
 use std::alloc::{AllocError, Global};
 
-/// By the operation that is asked for, otherwise by the last. `removal` is the kind of the orders
-/// that remove the resource.
+/// The answer by the operation that is asked for, or by the last where none is. `removal` is the
+/// kind of the orders that remove the resource.
 pub(crate) fn poll<'a>(
     alloc: Global,
     removal: OrderKind,

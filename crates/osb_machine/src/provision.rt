@@ -1,4 +1,4 @@
-//! A new instance.
+//! The rules of Provision, which makes an instance.
 
 ghost use Rattle.std.specs.Prelude.{◌≡◌, IfOk};
 ghost use Rattle.osb_catalog.specs.Rules.{rules_of};

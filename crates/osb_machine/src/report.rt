@@ -1,4 +1,4 @@
-//! The backend's word on an order.
+//! The rules of Report, by which the backend ends an order.
 
 ghost use Rattle.std.specs.Prelude.{◌≡◌, IfOk};
 ghost use Rattle.osb_machine.specs.Report.{reported_state, kept_credentials, kept_outcome, is_outcome, ends, report_of, report};

@@ -6,7 +6,7 @@ ghost use Rattle.osb_machine.specs.Same.{are_same, is_same_instance, app_guid_of
 use osb_asks::{Bind, Provision};
 use osb_orders::Attributes;
 
-/// Equal in all seven.
+/// Whether all seven attributes are equal.
 pub(crate) fn are_same(one: &Attributes, other: &Attributes) -> bool
     ensures { result ≡ are_same one.now other.now }
 {
@@ -19,7 +19,7 @@ pub(crate) fn are_same(one: &Attributes, other: &Attributes) -> bool
         && one.context == other.context
 }
 
-/// The instance that is asked for is the one that is there.
+/// Whether the instance that is asked for is the one that is there.
 pub(crate) fn is_same_instance(ask: &Provision, there: &Attributes) -> bool
     ensures { result ≡ is_same_instance ask.now there.now }
 {
@@ -40,7 +40,7 @@ pub(crate) fn app_guid_of(ask: &Bind) -> &str
     }
 }
 
-/// The binding that is asked for is the one that is there.
+/// Whether the binding that is asked for is the one that is there.
 pub(crate) fn is_same_binding(ask: &Bind, there: &Attributes) -> bool
     ensures { result ≡ is_same_binding ask.now there.now }
 {

@@ -1,3 +1,5 @@
+//! What an ask gets: an answer, and a change of the life that it names.
+
 ghost use Rattle.std.specs.Prelude.{◌≡◌, string_bytes};
 
 use osb_orders::Change;
@@ -22,7 +24,7 @@ impl<'a> Step<'a> {
     ghost use Rattle.osb_machine.specs.Reaction.{says, refuses, empty_object};
     ghost use Rattle.osb_machine.specs.Steps.{reaction};
 
-    /// Tells a text, and changes nothing.
+    /// Answers a text, and changes nothing.
     pub(crate) fn says(status: Status, text: String) -> Step<'a>
         ensures { reaction result ≡ says status (string_bytes text) }
     {
@@ -35,7 +37,7 @@ impl<'a> Step<'a> {
         }
     }
 
-    /// Tells a status alone, and changes nothing.
+    /// Answers a status alone, and changes nothing.
     pub(crate) fn of_status(status: Status) -> Step<'a>
         ensures { reaction result ≡ says status empty_object }
     {
@@ -48,7 +50,7 @@ impl<'a> Step<'a> {
         }
     }
 
-    /// Tells an error, and changes nothing.
+    /// Answers an error, and changes nothing.
     pub(crate) fn refuses(error: FixedError) -> Step<'a>
         ensures { reaction result ≡ refuses error }
     {

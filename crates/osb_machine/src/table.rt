@@ -1,3 +1,5 @@
+//! The answer table: each kind of ask is handed to the module that has its rules.
+
 ghost use Rattle.std.specs.Prelude.{◌≡◌, ◌≢◌, IfOk, OnErr};
 ghost use Rattle.osb_asks.specs.declared.ask.Ask.TheVariants.{Catalog};
 ghost use Rattle.osb_catalog.specs.Rules.{rules_of};
@@ -34,7 +36,7 @@ pub fn decide<'a>(
     view: &View,
     ask: &Ask,
 ) -> Result<Step<'a>, AllocError>
-    // The table of answers, by what the view tells.
+    // The answer table, by what the view shows.
     ensures table { IfOk result (λ step. reaction step ≡ answer (rules_of settings.now) (facts view.now) ask.now) }
     // So it is the machine's step from all lives that have this view.
     ensures machine { (lives : Lives) → facts view.now ≡ view_of lives ask.now →

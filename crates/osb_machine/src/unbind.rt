@@ -1,4 +1,4 @@
-//! The end of a binding.
+//! The rules of Unbind, which ends a binding.
 
 ghost use Rattle.std.specs.Prelude.{◌≡◌, IfOk};
 ghost use Rattle.osb_catalog.specs.Rules.{rules_of};

@@ -1,4 +1,4 @@
-//! A change of an instance.
+//! The rules of Update, which changes an instance.
 
 ghost use Rattle.std.specs.Prelude.{◌≡◌, IfOk};
 ghost use Rattle.osb_catalog.specs.Rules.{rules_of};

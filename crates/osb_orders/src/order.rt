@@ -1,3 +1,5 @@
+//! Orders with their attributes and outcomes, and the changes that a life may get.
+
 ghost use Rattle.std.specs.Prelude.{◌≡◌, IfOk};
 
 use osb_text::Text;

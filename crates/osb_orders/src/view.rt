@@ -1,3 +1,5 @@
+//! The view: what an ask needs to know of the lives.
+
 use crate::order::{Attributes, Order};
 use osb_text::Text;
 

@@ -1,4 +1,4 @@
-//! Taking over a database.
+//! Takes over a database: makes its tables, brings it to version 2, or leaves it as it was.
 
 ghost use Rattle.std.specs.Prelude.{◌≡◌, ◌≢◌, ◌↔◌, true, false, Err, IsTrue, IfOk};
 ghost use Rattle.std.specs.FinMap.{empty};

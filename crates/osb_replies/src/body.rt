@@ -1,4 +1,4 @@
-//! The body of a reply.
+//! The body of a reply, which is lent or its own.
 
 ghost use Rattle.std.specs.Prelude.{◌≡◌, string_bytes};
 

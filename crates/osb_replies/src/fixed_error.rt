@@ -6,7 +6,7 @@ use crate::body::Body;
 use crate::reply::Reply;
 use crate::status::Status;
 
-/// An error that is always told by the same status and body.
+/// An error that is always answered by the same status and body.
 #[derive(Clone, Copy, Debug, PartialEq, Eq, Hash)]
 pub enum FixedError {
     // What was sent is no request (RFC 9112).
@@ -60,7 +60,7 @@ impl FixedError {
     ghost use Rattle.osb_replies.specs.FixedError.{fixed_status, fixed_body, fixed_reply};
     ghost use Rattle.osb_replies.specs.Parts.{parts};
 
-    /// The reply that tells it.
+    /// The reply that reports it.
     pub fn reply<'a>(self, echo: Option<&'a [u8]>, close: bool) -> Reply<'a>
         ensures { parts result ≡ fixed_reply self (option_copied echo.entry) close }
     {

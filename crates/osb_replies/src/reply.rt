@@ -1,4 +1,4 @@
-//! A reply.
+//! A reply with the length of its text, and the lines that not every reply has.
 
 ghost use Rattle.std.specs.Prelude.{◌≡◌, ◌-◌, ◌^◌, ◌++◌, ℕ, List, length, min, option_copied};
 

@@ -1,4 +1,4 @@
-//! The length of a text that is told piece by piece.
+//! Counts the length of a text whose pieces come one after the other.
 
 ghost use Rattle.std.specs.Prelude.{◌≡◌, ◌++◌, ℕ, List, []};
 

@@ -1,4 +1,4 @@
-//! Writing a reply.
+//! Writes the text of a reply to a sink.
 
 ghost use Rattle.std.specs.Prelude.{◌≡◌, ◌≤◌, ◌<◌, ◌+◌, ◌-◌, ◌^◌, ◌++◌, ℕ, List, length, min, take, IsOk, OnOk, OnErr, IfErr, option_copied};
 ghost use Rattle.osb_replies.specs.Parts.{parts};
@@ -22,7 +22,7 @@ pub struct WriteFault {
     pub written: usize,
 }
 
-/// Adds the lines with which a reply begins, up to the one that tells its body's length.
+/// Adds the lines with which a reply begins, up to the one with its body's length.
 fn put_front<W: Sink>(stage: &mut Stage, sink: &mut W, status: Status, size: usize)
     ensures { let old = seen (W.taken sink.old) (W.writes sink.old) (W.fruitless sink.old) (W.room sink.old) in
         let new = seen (W.taken sink.new) (W.writes sink.new) (W.fruitless sink.new) (W.room sink.new) in

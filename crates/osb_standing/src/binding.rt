@@ -1,3 +1,5 @@
+//! What an order that is written does to the rows of its instance's bindings.
+
 ghost use Rattle.std.specs.Prelude.{◌≡◌, IfOk, option_copied};
 ghost use Rattle.std.specs.FinMap.{get};
 ghost use Rattle.osb_orders.specs.declared.order.Change.{Change};

@@ -1,3 +1,5 @@
+//! The row of an instance once an order is written.
+
 ghost use Rattle.std.specs.Prelude.{◌≡◌, true, IfOk, Some, option_copied, option_map};
 ghost use Rattle.osb_orders.specs.declared.order.Change.{Change};
 ghost use Rattle.osb_orders.specs.Life.{Life};
@@ -11,7 +13,7 @@ use osb_orders::{Attributes, InstancePhase, Order, OrderKind, OrderState, Standi
 use std::alloc::AllocError;
 
 /// The row of the instance once the order is written, from the row before. `birth_failed` says
-/// whether the last creation of the instance failed, which no row tells. It matters where a
+/// whether the last creation of the instance failed, which no row says. It matters where a
 /// deletion fails, and nowhere else.
 pub fn instance_row_after(
     birth_failed: bool,

@@ -1,4 +1,4 @@
-//! What the rows tell of the lives, over the definitions alone.
+//! Laws of what the rows say of the lives, over the definitions alone.
 
 ghost use Rattle.osb_standing.specs.Laws.{StandingIsInTheRow, CountIsTheLastNumber, BindingsAre, BindingsRemain, ListedByRows};
 

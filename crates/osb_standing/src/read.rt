@@ -1,3 +1,5 @@
+//! What is read of rows and orders for an ask, and the view that it gives.
+
 ghost use Rattle.std.specs.Prelude.{◌≡◌};
 ghost use Rattle.osb_asks.specs.declared.ask.Ask.{Ask};
 ghost use Rattle.osb_orders.specs.Lives.{Lives};

@@ -1,3 +1,5 @@
+//! The rows of the current state, and what an order does to those of bindings.
+
 use osb_orders::{BindingNow, Standing};
 
 /// The row of an instance that has or had orders: how it stands unless it is absent, whether its

@@ -1,3 +1,5 @@
+//! The order that a change writes.
+
 ghost use Rattle.std.specs.Prelude.{◌≡◌};
 ghost use Rattle.osb_standing.specs.Written as spec;
 

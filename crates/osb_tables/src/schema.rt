@@ -1,3 +1,5 @@
+//! The tables and indexes of both versions, and which of them a schema has.
+
 ghost use Rattle.std.specs.Prelude.{◌≡◌, ◌≢◌, ◌<◌, true, false, [], ◌∷◌, ◌++◌, None, IfSome};
 ghost use Rattle.osb_tables.specs.Tables as spec;
 ghost use Rattle.osb_tables.specs.Tables.{column_of, columns_of, plain_table, index_of, key_indexes, contexts_table, contexts_index, busy_at, subject_at, indexes_at, made, no_schema, tables_schema, five_tables};

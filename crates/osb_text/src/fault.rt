@@ -1,8 +1,10 @@
+//! The faults of reading a text and of looking up its members.
+
 use std::alloc::AllocError;
 use thiserror::Error;
 
 /// Why a text gave no object, or a look-up no member. Of a text the first fault that stands is
-/// told, in the order of the variants.
+/// given, in the order of the variants.
 #[derive(Clone, Copy, Debug, Drop, PartialEq, Eq, Error)]
 pub enum TextFault {
     /// The bytes aren't UTF-8 or no JSON text, or they nest deeper than 127 arrays and objects.

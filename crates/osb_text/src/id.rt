@@ -1,3 +1,5 @@
+//! Which texts may be an id.
+
 ghost use Rattle.std.specs.Prelude.{◌≡◌};
 ghost use Rattle.osb_text.specs.Id.{has_no_controls, is_id};
 

@@ -1,3 +1,5 @@
+//! JSON objects, owned or borrowed, with look-ups of their members.
+
 ghost use Rattle.std.specs.Prelude.{◌≡◌, ◌↔◌, true, is_some, IfOk, IfSome, IsSome, IsOkUnless, string_bytes};
 ghost use Rattle.serde_json.specs.Find.{as_array, as_bool, as_object, as_str};
 ghost use Rattle.serde_json.specs.View.{view, items_view};

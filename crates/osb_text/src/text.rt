@@ -1,3 +1,5 @@
+//! A text whose contents contracts see as a list of bytes.
+
 ghost use Rattle.std.specs.Prelude.{◌≡◌, ◌↔◌, ◌++◌, [], length, IfOk, IsTrue, OnErr};
 
 use std::alloc::{AllocError, Global};

@@ -1,3 +1,5 @@
+//! How a binding is, read off all orders of its instance.
+
 ghost use Rattle.std.specs.Prelude.{◌≡◌, ◌&&◌, ◌∷◌, IfOk, Some, is_some};
 ghost use Rattle.std.specs.List.{list_any};
 ghost use Rattle.osb_orders.specs.declared.order.OrderKind.TheVariants.{Bind, Unbind};

@@ -1,3 +1,5 @@
+//! How an instance is, read off all its orders.
+
 ghost use Rattle.std.specs.Prelude.{◌≡◌, ◌∷◌, IfOk, Some};
 ghost use Rattle.std.specs.List.{list_any};
 ghost use Rattle.osb_orders.specs.declared.order.OrderKind.TheVariants.{Create, Update, Delete};

@@ -1,3 +1,5 @@
+//! The map of lives: the life of an id, and a life with an order more or with its last one ended.
+
 ghost use Rattle.std.specs.Prelude.{◌≡◌, ◌∷◌, ◌++◌, [], IfOk, OnOk, OnErr};
 ghost use Rattle.std.specs.FinMap.{insert};
 ghost use Rattle.osb_orders.specs.Lives.{life_of};

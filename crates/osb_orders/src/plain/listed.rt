@@ -1,3 +1,5 @@
+//! The running orders of all lives, for the listing.
+
 ghost use Rattle.std.specs.Prelude.{◌≡◌, ◌++◌, ◌∷◌, [], IfOk, OnOk, filter, filter_map};
 ghost use Rattle.osb_orders.specs.Listing.{with_last, is_listed};
 ghost use Rattle.osb_orders.specs.Plain.{lives_in};

@@ -1,3 +1,5 @@
+//! The order that an ask names in a life, and the orders that a poll is about.
+
 ghost use Rattle.std.specs.Prelude.{◌≡◌, IfOk, filter, option_map};
 ghost use Rattle.osb_orders.specs.Lists.{last_of, last_from};
 ghost use Rattle.osb_orders.specs.Orders.{is_of_instance, is_of_binding};

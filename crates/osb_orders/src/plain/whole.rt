@@ -1,3 +1,5 @@
+//! Puts together the view for an ask from the whole life that it names.
+
 ghost use Rattle.std.specs.Prelude.{◌≡◌, ◌≤◌, ◌^◌, [], length, IfOk, OnErr, option_and_then};
 ghost use Rattle.osb_orders.specs.Bindings.{binding_of};
 ghost use Rattle.osb_orders.specs.Lists.{last_of};
