@@ -1,4 +1,4 @@
--- What a reader answers: what is found, unless memory was refused.
+-- What a reader of a request answers: what is found, or the first fault, unless memory was refused.
 use Rattle.std.specs.Prelude.{◌≡◌, ◌≢◌, Option, Some, None, option_map, Result, Ok, Err}
 use Rattle.osb_asks.specs.declared.ask_fault.AskFault.{AskFault}
 use Rattle.osb_asks.specs.declared.ask_fault.AskFault.TheVariants.{Memory}

@@ -11,7 +11,7 @@ pub data Routed : Type 0 where
   Provision Fetch Update Deprovision InstanceOp : List ℕ → Routed
   Bind FetchBinding Unbind BindingOp Report : List ℕ → List ℕ → Routed
 
--- methods are told by case (RFC 9110, section 9.1)
+-- the case of a method matters (RFC 9110, section 9.1)
 abbrev pub method_of : List ℕ → Option Method
 method_of name =
     if bytes_eq name (codes "GET") then Some Get

@@ -1,4 +1,4 @@
--- Entries, places and routes without where their segments lie in memory.
+-- Entries, places and routes without where their segments lie in memory. For contracts inside the crate.
 use Rattle.osb_asks.specs.declared.door.Entry.{Entry}
 use Rattle.osb_asks.specs.declared.place.Place.{Place}
 use Rattle.osb_asks.specs.declared.place.Place.TheVariants as place

@@ -1,4 +1,4 @@
--- The segments that are left to a reader of them.
+-- The segments that are left to a reader of them. For contracts inside the crate.
 use Rattle.std.specs.Prelude.{ℕ, List, [], Option, Some, None}
 use Rattle.osb_asks.specs.declared.target.Segments.{Segments}
 use Rattle.osb_asks.specs.Targets.{segments}

@@ -1,4 +1,4 @@
--- Texts as ids and as objects, where they are some.
+-- A text as an id, and as the compact text of an object, where it is one.
 use Rattle.std.specs.Prelude.{ℕ, List, Option, Some, None, if◌then◌else◌}
 use Rattle.osb_text.specs.Id.{is_id}
 use Rattle.osb_text.specs.ObjectText.{is_object_text}

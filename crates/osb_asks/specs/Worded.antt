@@ -1,4 +1,4 @@
--- Which texts an ask has, and what the catalog has of it.
+-- That the texts of an ask are id texts and compact texts, and that the catalog has its service and its plan.
 use Rattle.std.specs.Prelude.{◌≡◌, ℕ, ◌≤◌, List, length, true, IsSome, IfSome, ⊤}
 use Rattle.osb_text.specs.Id.{is_id, has_no_controls}
 use Rattle.osb_text.specs.ObjectText.{is_object_text}

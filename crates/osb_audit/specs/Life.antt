@@ -1,4 +1,4 @@
--- What a pass over the orders of one instance has found.
+-- What a pass over the orders of one instance has found. For contracts inside the crate.
 use Rattle.std.specs.Prelude.{ℕ, ◌≡◌, List, Some, true, map}
 use Rattle.std.specs.Ordering.{nat_cmp}
 use Rattle.std.specs.Cmp.Lexicographic.{slice_cmp}

@@ -1,4 +1,4 @@
--- The front of a list, up to the first item that fails a test, and what follows.
+-- The front of a list, up to the first item that fails a test, and what follows. For contracts inside the crate.
 use Rattle.std.specs.Prelude.{Bool, List, [], ◌∷◌, if◌then◌else◌}
 
 abbrev pub run : {A : Type 0} → (A → Bool) → List A → List A

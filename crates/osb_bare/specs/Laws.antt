@@ -41,7 +41,7 @@ LifeOfBare = (lives : Lives) (id : List ℕ) → life_of (bare_lives lives) id �
 abbrev pub LivesInBare : Type 0
 LivesInBare = (entries : List Entry) → lives_in (map bare_entry entries) ≡ bare_lives (lives_in entries)
 
--- ---- what the rows tell
+-- ---- what the rows say
 
 abbrev pub StandingOfBare : Type 0
 StandingOfBare = (life : Life) → standing_of (bare_life life) ≡ option_map bare_standing (standing_of life)

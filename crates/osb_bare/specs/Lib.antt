@@ -1,3 +1,7 @@
+-- What public contracts cite, in the order in which to read it.
+
+-- Lives without contexts, and the context that stands.
 pub mod Bare
 pub mod Context
+-- Laws of both.
 pub mod Laws

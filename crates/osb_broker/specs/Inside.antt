@@ -1,4 +1,4 @@
--- What the contracts of functions inside this crate say. No public contract cites it.
+-- What a call does to records that are lent to it, for each kind of call. For contracts inside the crate.
 use Rattle.std.specs.Prelude.{◌≡◌, ◌≢◌, ℕ, Bool, true, false, Option, None, Result, IfOk, OnOk, OnErr, IsTrue}
 use Rattle.sqlite.specs.Tree.{Trees}
 use Rattle.sqlite.specs.Held.{Held, state}

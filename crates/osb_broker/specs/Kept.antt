@@ -1,4 +1,4 @@
--- What a broker keeps.
+-- The store, the lives and the settings of a broker, and whether its store works.
 use Rattle.std.specs.Prelude.{◌≡◌, ◌⊎◌, ℕ, false, IsTrue}
 use Rattle.osb_broker.specs.declared.broker.Broker.{Broker}
 use Rattle.osb_replies.specs.Body.{body_bytes}

@@ -1,17 +1,23 @@
+-- What public contracts cite, in the order in which to read it.
+
+-- The broker's machine: an answer for each request, by the answer table or by its fault.
 pub mod Machine
+pub mod Steps
+pub mod Faults
+-- The texts that answer a connection, and those of one connection after another.
 pub mod Connection
+-- What serving did: what was written, how it ended, and which reads were made.
 pub mod Served
 pub mod Serving
 pub mod Answering
-pub mod Faults
-pub mod Steps
+-- What a broker keeps, its plans in use, and the room that it reads into.
 pub mod Kept
-pub mod Prepared
-pub mod Inside
 pub mod Plans
 pub mod Room
+-- Texts are determined by the cut and the marks, and outputs show what was refused.
 pub mod Laws
 pub mod Refusals
+-- A request that is sent again acts once: in runs, then over stops and starts.
 pub mod Repeats
 pub mod Resend
 pub mod Apart
@@ -19,3 +25,6 @@ pub mod Once
 pub mod Attempts
 pub mod Histories
 pub mod ActsOnce
+-- For contracts inside the crate.
+pub mod Inside
+pub mod Prepared

@@ -19,7 +19,7 @@ first_lacking rules pairs = find (λ pair. not (offers rules pair)) pairs
 abbrev pub OffersInUse : Rules → Lives → Type 0
 OffersInUse rules lives = first_lacking rules (plans_in_use lives) ≡ None
 
--- a plan that is in use is told as the first that the catalog lacks
+-- a plan that is in use is named as the first that the catalog lacks
 abbrev pub Tells : NewFault → Option Pair → Type 0
 Tells (PlanInUse service plan) lacking = lacking ≡ Some (service, plan)
 Tells Refused lacking = ⊤

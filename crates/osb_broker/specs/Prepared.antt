@@ -1,4 +1,4 @@
--- An answer that is ready, before its change is made.
+-- An answer that is ready, before its change is made. For contracts inside the crate.
 use Rattle.std.specs.Prelude.{◌≡◌, ◌⊎◌, ℕ, List, Option, None, Some, IsTrue}
 use Rattle.sqlite.specs.Tree.{Trees}
 use Rattle.sqlite.specs.State.{State}

@@ -1,4 +1,4 @@
--- The broker's machine: it answers by the table of answers, from the lives of all instances.
+-- The broker's machine: it answers by the answer table, from the lives of all instances.
 use Rattle.std.specs.Prelude.{Bool, true, false, not, Result, Ok, Err}
 use Rattle.osb_catalog.specs.Rules.{Rules}
 use Rattle.osb_asks.specs.declared.ask.Ask.{Ask}
@@ -19,7 +19,7 @@ told reaction = record { status = reaction.status; body = reaction.body }
 abbrev pub step_of : Rules → Lives → Ask → Answer × Lives
 step_of rules lives ask = (told (answer_to rules lives ask), after_step rules lives ask)
 
--- a fault that stands is told, and the lives stay
+-- a fault that stands is answered, and the lives stay
 abbrev pub step_for : Rules → Lives → Result Ask AskFault → Answer × Lives
 step_for rules lives (Ok ask) = step_of rules lives ask
 step_for rules lives (Err fault) = (fault_answer fault, lives)

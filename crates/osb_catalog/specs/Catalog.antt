@@ -1,4 +1,5 @@
--- The catalog that a platform is shown: of each object the listed fields that the file gives, and no others.
+-- The catalog that a platform is shown (OSB API 2.17, "Catalog Management"): of each object the listed fields that the file
+-- gives, and no others.
 use Rattle.std.specs.Prelude.{ℕ, List, [], ◌∷◌, Option, Some, None, unwrap_or}
 use Rattle.serde_json.specs.Data.{Data, null, array, object, Items, no_items, item, Members, no_members, member}
 use Rattle.serde_json.specs.Find.{as_array}

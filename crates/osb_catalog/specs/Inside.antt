@@ -1,4 +1,4 @@
--- What `Settings` keeps, and how contracts see it.
+-- What `Settings` keeps, and how contracts see it: for its `Model`, inside the crate.
 use Rattle.std.specs.Prelude.{map}
 use Rattle.osb_catalog.specs.declared.plan.Plan.{Plan}
 use Rattle.osb_catalog.specs.declared.plan.Service.{Service}

@@ -1,22 +1,30 @@
-pub mod Fields
-pub mod Kinds
-pub mod Tables
-pub mod Items
+-- What public contracts cite, in the order in which to read it.
+
+-- The settings as the broker decides by them, and what holds of all settings.
+pub mod Rules
+pub mod SettingsData
+pub mod Sound
+-- Which settings a file has, or the first fault that stands anywhere in it.
+pub mod Faults
+pub mod Order
+pub mod FaultNames
+-- Each fault: fields that are missing or left out, ids, versions, modes, logins.
 pub mod Missing
+pub mod Tables
+pub mod Kinds
+pub mod Fields
+pub mod Items
 pub mod Ids
-pub mod IdSet
 pub mod Versions
 pub mod Modes
 pub mod Logins
-pub mod Catalog
-pub mod Pieces
-pub mod SettingsData
+-- The settings of a file without faults, and the catalog that a platform is shown.
 pub mod Contents
-pub mod FaultNames
-pub mod Faults
+pub mod Catalog
+-- Where in a file a fault is.
 pub mod Found
-pub mod Places
-pub mod Rules
-pub mod Sound
-pub mod Order
+-- For contracts inside the crate.
 pub mod Inside
+pub mod Places
+pub mod IdSet
+pub mod Pieces

@@ -1,4 +1,4 @@
--- How the catalog's text is put together: for private clauses alone.
+-- How the catalog's text is put together. For contracts inside the crate.
 use Rattle.std.specs.Prelude.{ℕ, List, [], ◌∷◌, ◌++◌, codes, Bool, true, false, Option, Some, None}
 use Rattle.serde_json.specs.Data.{Data, Items, no_items, item}
 use Rattle.serde_json.specs.Written.{compact_text, comma_if}

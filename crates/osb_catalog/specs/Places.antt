@@ -1,4 +1,4 @@
--- The places of ids in a list.
+-- The places of ids in a list. For contracts inside the crate.
 use Rattle.std.specs.Prelude.{◌≡◌, ℕ, List, Option, bytes_eq}
 use Rattle.std.specs.List.{position_from}
 use Rattle.std.specs.BTreeMap.{get_by_text}

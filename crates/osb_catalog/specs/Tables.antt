@@ -1,4 +1,5 @@
--- The tables of the fields: what each object of a file must have, may have, and must leave out.
+-- The tables of the fields: what each object of a file must have, may have, and must leave out. Those of services and plans
+-- are OSB API 2.17, "Catalog Management"; what is left out, and the rest, is this project's own.
 use Rattle.std.specs.Prelude.{List, [], ◌∷◌, Bool, true, false, not, Option, Some, None, option_map}
 use Rattle.std.specs.List.{find}
 use Rattle.serde_json.specs.Data.{Data}

@@ -1,4 +1,4 @@
--- Why an input wasn't read.
+-- Why an input wasn't read. For contracts inside the crate.
 use Rattle.std.specs.Prelude.{⊤}
 use Rattle.osb_cli.specs.declared.input.ReadFault.{ReadFault}
 use Rattle.osb_cli.specs.declared.input.ReadFault.TheVariants.{Failed, TooLarge, Memory}

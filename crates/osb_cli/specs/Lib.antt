@@ -1,8 +1,15 @@
-pub mod BuiltIn
-pub mod Done
-pub mod Grammar
-pub mod Input
-pub mod Replay
-pub mod Serve
-pub mod Settings
+-- What public contracts cite, in the order in which to read it.
+
+-- What the words ask for, by the commands as clap reads them.
 pub mod Words
+pub mod Grammar
+-- What `check` and `replay` write with status 0.
+pub mod Done
+pub mod Replay
+-- What `serve` leaves of a database file.
+pub mod Serve
+-- The settings that a command is given.
+pub mod Settings
+pub mod BuiltIn
+-- For contracts inside the crate.
+pub mod Input

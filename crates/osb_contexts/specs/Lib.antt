@@ -1,8 +1,13 @@
+-- What public contracts cite, in the order in which to read it.
+
+-- What a call inside a transaction finds or does, and what stays.
+pub mod Reads
+pub mod Inside
+-- The tables of contexts and of the format, and what calls do to them.
+pub mod Steps
 pub mod Contexts
 pub mod Format
-pub mod Inside
+pub mod Ended
+-- For contracts inside the crate.
 pub mod Made
 pub mod Read
-pub mod Reads
-pub mod Steps
-pub mod Ended

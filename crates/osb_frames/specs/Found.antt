@@ -1,4 +1,4 @@
--- What the head at the front of a buffer is.
+-- What the head at the front of a buffer is. For contracts inside the crate.
 use Rattle.std.specs.Prelude.{◌≡◌, ℕ, ◌<◌, ◌≤◌, List, ◌++◌, length, drop}
 use Rattle.httparse.specs.Grammar.{RequestHead, print_request, MayBecomeRequest}
 use Rattle.httparse.specs.Spans.{RequestExceeds}

@@ -1,4 +1,4 @@
--- What a writer that keeps its bytes has.
+-- The bytes, the writes and the room of a writer that keeps what it takes.
 use Rattle.std.specs.Prelude.{ℕ, ◌-◌, List, vec_len, vec_capacity}
 use Rattle.osb_frames.specs.declared.kept.Kept.{Kept}
 use Rattle.osb_frames.specs.Calls.{Call}

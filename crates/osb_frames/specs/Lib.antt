@@ -1,10 +1,17 @@
-pub mod Fields
+-- What public contracts cite, in the order in which to read it.
+
+-- A request head, and what its field lines say.
 pub mod Heads
+pub mod Fields
+-- How the bytes of a connection are cut into requests, and how they end.
 pub mod Cuts
-pub mod Line
+-- What `next` says of bytes of which more may come.
 pub mod Steps
-pub mod Found
+pub mod Line
+-- The calls that are made of a source or a sink.
 pub mod Calls
 pub mod Counted
 pub mod Kept
 pub mod Writers
+-- For contracts inside the crate.
+pub mod Found

@@ -20,7 +20,7 @@ message q = record {
   body = q.body.now;
 }
 
--- the fault f is told: NoHead where no bytes that follow mend it, or none will come; Cut where none will come
+-- the fault f is reported: NoHead where no bytes that follow mend it, or none will come; Cut where none will come
 abbrev pub Tells : Limits → List ℕ → Bool → StopKind → Type 0
 Tells limits bytes over NoHead =
     (IsTrue over × IsFront limits bytes (fault NoHead))
@@ -33,7 +33,7 @@ abbrev pub Waits : Limits → List ℕ → Type 0
 Waits limits bytes =
     HasNoHead limits bytes × (length bytes < limits.head) × ((bytes ≡ []) ⊎ MayBecomeHead limits bytes)
 
--- a step tells what stands at the front of the bytes, or wants more of them: a body lacks a part, or a head may come
+-- a step says what stands at the front of the bytes, or wants more of them: a body lacks a part, or a head may come
 abbrev pub Says : Limits → List ℕ → Bool → Step Request → Type 0
 Says limits bytes over (Whole q n) = IsFront limits bytes (whole (message q) n)
 Says limits bytes over (Stop f) = Tells limits bytes over f
@@ -45,7 +45,7 @@ abbrev pub FaultStays : Limits → List ℕ → Bool → StopKind → Type 0
 FaultStays limits bytes over f =
     ((more : List ℕ) → IsFront limits (bytes ++ more) (fault f)) ⊎ (IsFront limits bytes (fault f) × IsTrue over)
 
--- what is told stands there whatever follows
+-- what is said stands there whatever follows
 abbrev pub Stays : Limits → List ℕ → Bool → Step Request → Type 0
 Stays limits bytes over (Whole q n) = (more : List ℕ) → IsFront limits (bytes ++ more) (whole (message q) n)
 Stays limits bytes over (Stop f) = FaultStays limits bytes over f

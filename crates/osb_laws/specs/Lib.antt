@@ -1,3 +1,5 @@
+-- What public contracts cite, in the order in which to read it: each file has one law, or a few.
+
 pub mod Exclusive
 pub mod AskedAgain
 pub mod Apart

@@ -15,19 +15,19 @@ pub record IsWrittenInPart (text old new : List ℕ) : Type 0 where
   pub parts : front ++ rest ≡ text
   pub written : new ≡ old ++ front
 
--- the line that tells how serving a connection ended
+-- the line that reports how serving a connection ended
 abbrev pub line_of : Result (Unit {0}) ServeFault → List ℕ
 line_of (Ok x) = []
 line_of (Err Read) = codes "connection: read\n"
 line_of (Err Write) = codes "connection: write\n"
 
--- what was told has its cause: a read failed, or a write failed or took nothing
+-- what was reported has its cause: a read failed, or a write failed or took nothing
 abbrev pub TellsCause : Type 0 → Type 0 → List ℕ → List ℕ → Type 0
 TellsCause read write told_old told_new =
     (ended : Result (Unit {0}) ServeFault) × HasCause ended read write × IsWrittenInPart (line_of ended) told_old told_new
 
 -- A connection that gave these bytes was served: what was sent is what the machine says of them, as are the lives that
--- are left, and how that ended was told, or a part of that line.
+-- are left, and how that ended was reported, or a part of that line.
 pub record Serves (rules : Rules) (limits : Limits) (k : ℕ) (old new : Lives) (got : List ℕ) (known : Option (List ℕ)) (sent_old sent_new told_old told_new : List ℕ) : Type 0 where
   pub ended : Result (Unit {0}) ServeFault
   pub outcome : Outcome ended (machine rules) limits k old got known sent_old sent_new new

@@ -1,4 +1,4 @@
--- Which fault comes when, and what was told before it.
+-- Which fault comes when, and what was reported before it.
 use Rattle.std.specs.Prelude.{◌≡◌, ℕ, List, ◌++◌, codes, None, ⊤}
 use Rattle.std.specs.declared.net.socket_addr.SocketAddr.{SocketAddr}
 use Rattle.std.specs.Net.Grammar.{IsSocketText}
@@ -59,7 +59,7 @@ NamesLacking rules FileTaken = ⊤
 abbrev pub IsAddress : List ℕ → Type 0
 IsAddress text = (at : SocketAddr) × IsSocketText text at
 
--- the line that tells that connections are taken
+-- the line that reports that connections are taken
 abbrev pub listening_line : List ℕ → List ℕ
 listening_line address = codes "listening on " ++ (address ++ codes "\n")
 

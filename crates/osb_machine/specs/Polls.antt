@@ -11,7 +11,7 @@ use Rattle.osb_orders.specs.Facts.{Facts}
 use Rattle.osb_machine.specs.Reaction.{Reaction, says, refuses, not_found, gone}
 use Rattle.osb_machine.specs.Texts.{state_body}
 
--- a removal that succeeded is told by 410
+-- a removal that succeeded is answered 410
 abbrev pub told : Bool → Order → Reaction
 told is_removal order = if is_removal && is_now Succeeded order then gone else says status.Ok (state_body order.outcome)
 

@@ -12,7 +12,7 @@ pub record Reaction : Type 0 where
   pub body : List ℕ
   pub change : Change
 
--- the body of an answer that has nothing to tell (OSB API 2.17 asks for a JSON object)
+-- the body of an answer that has nothing to say (OSB API 2.17 asks for a JSON object)
 abbrev pub empty_object : List ℕ
 empty_object = codes "{}"
 

@@ -1,4 +1,4 @@
--- The backend's word on an order: it ends the order once. All of it is this project's own.
+-- The backend's report of an order, which ends the order once. All of it is this project's own.
 use Rattle.std.specs.Prelude.{ℕ, Bool, ◌&&◌, ◌==◌, List, bytes_eq, Option, None, Some, if◌then◌else◌}
 use Rattle.osb_replies.specs.declared.status.Status.TheVariants as status
 use Rattle.osb_asks.specs.declared.ask.Report.{Report}

@@ -1,4 +1,4 @@
--- What a step tells, wherever the bytes of its body lie.
+-- The answer and the change of a step of the code, wherever the bytes of its body lie.
 use Rattle.osb_replies.specs.Body.{body_bytes}
 use Rattle.osb_machine.specs.declared.step.Step.{Step}
 use Rattle.osb_machine.specs.declared.opening.Opening as declared

@@ -1,5 +1,5 @@
 -- A change of an instance (OSB API 2.17, "Updating a Service Instance"; that an instance that isn't there, or failed, isn't
--- found, that a change to what is there already is done, and that the same change again is told the running order, is this
+-- found, that a change to what is there already is done, and that the same change again gets the running order, is this
 -- project's own).
 use Rattle.std.specs.Prelude.{ℕ, Bool, false, not, ◌&&◌, List, [], bytes_eq, Option, None, Some, unwrap_or, if◌then◌else◌}
 use Rattle.std.specs.Option.{option_map_or}

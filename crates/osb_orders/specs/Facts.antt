@@ -24,7 +24,7 @@ pub record Facts : Type 0 where
   pub bound : Bool
   pub listing : List (List ℕ × Order)
 
--- the facts that a view tells
+-- the facts that a view has
 abbrev pub facts : View → Facts
 facts view = record { standing = view.standing; last = view.last; binding = view.binding; named = view.named; subject_last = view.subject_last; count = view.count; bound = view.bound; listing = view.listing.items }
 

@@ -1,4 +1,4 @@
--- The lives that a map of the program keeps.
+-- The lives that a map of the program keeps, as `PlainLives` is seen. For contracts inside the crate.
 use Rattle.std.specs.Prelude.{ℕ, List, map}
 use Rattle.std.specs.BTreeMap.{BTreeMap}
 use Rattle.std.specs.FinMap.{from_entries}

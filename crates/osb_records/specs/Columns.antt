@@ -1,4 +1,4 @@
--- What single columns tell, and what reading them gives.
+-- What single columns mean, and what reading them gives.
 use Rattle.std.specs.Prelude.{ℕ, pos}
 use Rattle.sqlite.specs.declared.types.Value.{Value}
 use Rattle.sqlite.specs.declared.types.Value.TheVariants.{Int}

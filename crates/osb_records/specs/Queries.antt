@@ -1,4 +1,4 @@
--- What a connection shows to queries, and what the rows of an answer tell. For contracts inside the crate.
+-- What a connection shows to queries, and what the rows of an answer mean. For contracts inside the crate.
 use Rattle.std.specs.Prelude.{◌≡◌, IsTrue, ℕ, pos, Bool, false, ◌&&◌, ◌||◌, nat_lt, List, [], ◌∷◌, bytes_eq, Option, None, Some, option_map, slice_get, if◌then◌else◌}
 use Rattle.sqlite.specs.declared.types.Value.TheVariants.{Int, Text as Words}
 use Rattle.sqlite.specs.Order.{Row, column, bytes}

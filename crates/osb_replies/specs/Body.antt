@@ -1,4 +1,4 @@
--- The bytes of a body.
+-- The bytes of a reply's body, wherever they lie.
 use Rattle.std.specs.Prelude.{ℕ, List}
 use Rattle.osb_replies.specs.declared.body.Body.{Body}
 use Rattle.osb_replies.specs.declared.body.Body.TheVariants.{Lent, Built}

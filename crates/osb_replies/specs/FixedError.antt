@@ -1,4 +1,4 @@
--- The errors that are always told by the same status and body: a JSON object with a description, and with a code
+-- The errors that are always answered by the same status and body: a JSON object with a description, and with a code
 -- where the standard defines one (OSB API 2.17, "Service Broker Errors").
 use Rattle.std.specs.Prelude.{ℕ, Bool, List, [], ◌++◌, Option, Some, None, codes}
 use Rattle.osb_replies.specs.declared.status.Status.{Status}

@@ -1,4 +1,4 @@
--- What a reply says.
+-- The parts of a reply of the code, and those of the reply to a refusal.
 use Rattle.std.specs.Prelude.{true, None, codes, option_copied}
 use Rattle.osb_replies.specs.declared.reply.Reply.{Reply}
 use Rattle.osb_replies.specs.declared.status.Status.TheVariants.{InternalServerError}

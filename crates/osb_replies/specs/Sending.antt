@@ -1,4 +1,4 @@
--- How far a text has come through a sink.
+-- How far a text has come through a sink. For contracts inside the crate.
 use Rattle.std.specs.Prelude.{◌≡◌, ℕ, ◌+◌, ◌-◌, ◌^◌, ◌<◌, ◌≤◌, min, Bool, true, false, List, [], ◌++◌, length, take}
 use Rattle.osb_replies.specs.declared.sender.Sender.{Sender}
 

@@ -1,4 +1,4 @@
--- A text of which the last bytes are still gathered.
+-- A text of which the last bytes are still gathered. For contracts inside the crate.
 use Rattle.std.specs.Prelude.{◌≡◌, ℕ, ◌≤◌, List, [], ◌++◌, length, take}
 use Rattle.osb_replies.specs.declared.stage.Stage.{Stage}
 use Rattle.osb_replies.specs.Sending.{Seen, Out}

@@ -1,4 +1,4 @@
--- The length of a text, as a `usize` that stops at its greatest value.
+-- The length of a text, as a `usize` that stops at its greatest value. For contracts inside the crate.
 use Rattle.std.specs.Prelude.{◌≡◌, ℕ, ◌-◌, ◌^◌, min, List, length}
 use Rattle.osb_replies.specs.declared.tally.Tally.{Tally}
 

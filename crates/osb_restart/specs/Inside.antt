@@ -1,4 +1,4 @@
--- What the contracts of functions inside this crate say. No public contract cites it.
+-- What became of one connection, and of a history so far. For contracts inside the crate.
 use Rattle.std.specs.Prelude.{ℕ, ◌≡◌, ◌⊎◌, List, ◌++◌, IsTrue}
 use Rattle.std.specs.List.{concat}
 use Rattle.sqlite.specs.Tree.{Trees}

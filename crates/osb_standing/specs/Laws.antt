@@ -1,4 +1,4 @@
--- What the rows tell of the lives.
+-- What the rows say of the lives.
 use Rattle.std.specs.Prelude.{ℕ, ◌≡◌, Bool, not, List, length, Option, None, Some}
 use Rattle.std.specs.FinMap.{get, entries}
 use Rattle.osb_orders.specs.Life.{Life, standing_of}

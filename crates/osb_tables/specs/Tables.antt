@@ -1,4 +1,4 @@
--- The tables of the database.
+-- The tables and indexes of the database as schemas, those of version 1 and of version 2 (this project's own).
 use Rattle.std.specs.Prelude.{Bool, true, false, [], ◌∷◌, List, ℕ, ◌+◌, map, codes}
 use Rattle.std.specs.Prelude as std
 use Rattle.std.specs.Borrow.{Bor}

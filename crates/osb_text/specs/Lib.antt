@@ -1,7 +1,13 @@
-pub mod Whole
-pub mod Member
+-- What public contracts cite, in the order in which to read it.
+
+-- The object that a text has, or its first fault; and which numbers it may have.
 pub mod Reading
+pub mod Whole
+-- Objects as values, and what a look-up of a member gives.
 pub mod Object
+pub mod Member
+-- Compact texts, and the order of names in them.
 pub mod ObjectText
 pub mod Order
+-- Which texts may be an id.
 pub mod Id
