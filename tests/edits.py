@@ -319,7 +319,7 @@ class Told:
             if found.group(2) != "proved":
                 self.kept.add(found.group(1))
             self.crates[found.group(1)].set()
-        if re.search(r"\bmust-fail \S+: (?!refused)|\bmust-fail \S+: refused, as it must be \(only ", line):
+        if re.search(r"\bmust-fail \w+/\S+: (?!refused, as it must be(?! \(only ))", line):
             self.wrong.append(line.strip())
 
     def end(self, failed):
@@ -356,14 +356,21 @@ def build_missing(crate, told):
             subprocess.run([RT, "lib"], cwd=ROOT / "crates" / name, stdout=subprocess.DEVNULL, check=True)
 
 
-def try_crate(crate, edits, told):
-    """The edits of a crate that weren't refused, tried once the libraries below it are proved."""
+def try_crate(crate, edits, told, places):
+    """The edits of a crate that weren't refused, tried once the libraries below it are proved and one of so many
+    places is free."""
     for name in below(crate):
         told.crates[name].wait()
     kept = are_kept(crate, told)
     if kept or told.failed:
         print(f"{crate}: {len(edits)} edits, {'refused before' if kept else 'not tried'}", flush=True)
         return []
+    with places:
+        return try_proved(crate, edits, told)
+
+
+def try_proved(crate, edits, told):
+    """The edits of a crate over proved libraries that weren't refused."""
     build_missing(crate, told)
     with tempfile.TemporaryDirectory() as kept:
         names, wrong = pass_unedited(crate, {edit.refused for edit in edits}, kept)
@@ -422,8 +429,9 @@ def try_all(edits, words):
     told, status = Told(), 0
     jobs = lanes(BYTES_OF_CRATE) if words else 0
     at_once = max(1, min(2, (free_memory() - jobs * BYTES_OF_CRATE) // BYTES_OF_EDITS))
-    with concurrent.futures.ThreadPoolExecutor(at_once) as pool:
-        results = [pool.submit(try_crate, crate, found, told) for crate, found in edits.items()]
+    places = threading.Semaphore(at_once)
+    with concurrent.futures.ThreadPoolExecutor(len(LIBRARIES)) as pool:
+        results = [pool.submit(try_crate, crate, found, told, places) for crate, found in edits.items()]
         if words:
             status = beside(words, told, jobs)
         told.end(failed=status != 0)

@@ -106,13 +106,17 @@ def try_files(room):
 
 def try_proofs(room):
     """What the prover finds, beside a command that reports of an edit under must-fail/."""
-    status, said = Small(room, {"two_more": TWO_MORE}).judged("--beside", "true")
+    good = "echo 'rt: must-fail small/x.edit: refused, as it must be'; echo 'rt: ok; must-fail edits: 1 refused'"
+    status, said = Small(room, {"two_more": TWO_MORE}).judged("--beside", "sh", "-c", good)
     yield "a good edit", (status, "small/edits/two_more: refused in next: returns: " in said), (0, True)
     bad = "echo 'rt: small proved'; echo 'rt: must-fail small/x.edit: BAD EDIT: it has no pair'"
     status, said = Small(room, {"two_more": TWO_MORE, **WRONG}).judged("--beside", "sh", "-c", bad)
     found = {name for name in WRONG if f"small/edits/{name}: " in said and f"small/edits/{name}: refused" not in said}
     yield "edits that show nothing", (status, found, "4 to be tried, 4 faults" in said), (1, set(WRONG), True)
     yield "one under must-fail/ that can't be tried", "\nrt: must-fail small/x.edit: BAD EDIT" in said, True
+    limit = "echo 'rt: must-fail small/x.edit: refused, as it must be (only by a limit of the prover)'"
+    status, said = Small(room, {"two_more": TWO_MORE}).judged("--beside", "sh", "-c", limit)
+    yield "one under must-fail/ that met a limit", (status, "1 faults" in said), (1, True)
 
 
 def tries():
