@@ -29,7 +29,8 @@ MINUTES = {
     "osb_bare": 1,
     "osb_joined": 1,
     "osb_contexts": 3,
-    "osb_records": 18,
+    "osb_statements": 17,
+    "osb_records": 3,
     "osb_file": 3,
     "osb_broker": 8,
     "osb_listen": 5,
@@ -162,8 +163,8 @@ def prove_all(crates, progress):
             for crate in ready[: at_once - len(running)]:
                 left.remove(crate)
                 progress.begin(crate)
-                alone = at_once > 1 and len(ready) == 1 and not running
-                running[pool.submit(prove, crate, 2 if alone else 1)] = crate, time.monotonic()
+                jobs = min(2, at_once) if len(ready) == 1 and not running else 1
+                running[pool.submit(prove, crate, jobs)] = crate, time.monotonic()
             for it in concurrent.futures.wait(running, return_when=concurrent.futures.FIRST_COMPLETED).done:
                 crate, begun = running.pop(it)
                 status, said = it.result()

@@ -15,7 +15,7 @@ use Rattle.osb_asks.specs.declared.ask.Bind.{Bind}
 use Rattle.osb_asks.specs.declared.ask.Report.{Report}
 use Rattle.osb_asks.specs.declared.ask.Ask.{Ask}
 use Rattle.osb_asks.specs.declared.ask.Ask.TheVariants as ask
-use Rattle.osb_asks.specs.Reads.{Reads, ◌>>=◌, needed}
+use Rattle.osb_asks.specs.Reads.{Meets, ◌>>=◌, needed}
 use Rattle.osb_asks.specs.Ids as id
 use Rattle.osb_asks.specs.Queries as query
 use Rattle.osb_asks.specs.Bodies as body
@@ -32,7 +32,7 @@ use Rattle.osb_asks.specs.Instances.{provision_in, provision_of, fetch_of, updat
 use Rattle.osb_asks.specs.Bindings.{bind_in, bind_of, fetch_binding_of, unbind_of, binding_op_of}
 use Rattle.osb_asks.specs.Backend.{orders_of, report_in, report_of}
 use Rattle.osb_asks.specs.Asks as asks
-use Rattle.osb_asks.specs.Worded.{IsId, IsObject, IsWorded, HasPlan, IsOffered}
+use Rattle.osb_asks.specs.ValidTexts.{IsId, IsObject, AskHasValidTexts, HasPlan, IsOffered}
 use Rattle.osb_asks.proofs.Finds.{is_late, Finds, then_finds, tested_finds, Anything, id_finds, number_finds, IsGivenId, accepts_finds, id_in_finds, after_finds, body_finds, id_at_finds, given_id_finds, app_finds, IsDescription, description_finds, state_finds, IsGivenObject, object_finds, or_empty_finds, maintenance_finds}
 
 -- ---- the objects of bodies
@@ -119,7 +119,7 @@ report_in_finds i n v hi w =
 
 -- its texts, its offer, and that it isn't the catalog's
 record IsGoodFor (rules : Rules) (a : Ask) : Type 0 where
-  its_words : IsWorded a
+  its_words : AskHasValidTexts a
   its_offer : IsOffered rules a
   late : asks.is_catalog a ≡ false
 
@@ -140,7 +140,7 @@ not_early rules (Err e) f = late_fault e f.found
 
 -- an ask that is worded and offered, or a fault that isn't Memory
 abbrev Told : Rules → Result Ask AskFault → Type 0
-Told rules (Ok a) = IsWorded a × IsOffered rules a
+Told rules (Ok a) = AskHasValidTexts a × IsOffered rules a
 Told rules (Err e) = e ≢ fault.Memory
 
 record IsTold (rules : Rules) (r : Result Ask AskFault) : Type 0 where
@@ -185,8 +185,8 @@ module _ (rules : Rules) (q b : List ℕ) where
   good_at (route.Deprovision i) =
       inr (then_finds IsId IsGood (id.id_of i) _ (id_finds i)
       (λ i hi. then_finds Anything IsGood (query.accepts_incomplete_in q) _ (accepts_finds q)
-      (λ a _. then_finds IsId IsGood (query.id_in (codes "service_id") q) _ (id_in_finds (codes "service_id") q)
-      (λ s hs. then_finds IsId IsGood (query.id_in (codes "plan_id") q) _ (id_in_finds (codes "plan_id") q)
+      (λ a _. then_finds IsId IsGood (query.query_id (codes "service_id") q) _ (id_in_finds (codes "service_id") q)
+      (λ s hs. then_finds IsId IsGood (query.query_id (codes "plan_id") q) _ (id_in_finds (codes "plan_id") q)
       (λ p hp. tested_finds IsGood (has_plan rules s p) _ fault.NotInCatalog refl (λ h. record { its_words = (hi, hs, hp); its_offer = there s p h; late = refl }))))))
   good_at (route.InstanceOp i) =
       inr (then_finds IsId IsGood (id.id_of i) _ (id_finds i) (λ i hi. record { found = record { its_words = hi; its_offer = tt; late = refl } }))
@@ -204,8 +204,8 @@ module _ (rules : Rules) (q b : List ℕ) where
       inr (then_finds IsId IsGood (id.id_of i) _ (id_finds i)
       (λ i hi. then_finds IsId IsGood (id.id_of j) _ (id_finds j)
       (λ j hj. then_finds Anything IsGood (query.accepts_incomplete_in q) _ (accepts_finds q)
-      (λ a _. then_finds IsId IsGood (query.id_in (codes "service_id") q) _ (id_in_finds (codes "service_id") q)
-      (λ s hs. then_finds IsId IsGood (query.id_in (codes "plan_id") q) _ (id_in_finds (codes "plan_id") q)
+      (λ a _. then_finds IsId IsGood (query.query_id (codes "service_id") q) _ (id_in_finds (codes "service_id") q)
+      (λ s hs. then_finds IsId IsGood (query.query_id (codes "plan_id") q) _ (id_in_finds (codes "plan_id") q)
       (λ p hp. tested_finds IsGood (has_plan rules s p) _ fault.NotInCatalog refl (λ h. record { its_words = (hi, hj, hs, hp); its_offer = there s p h; late = refl })))))))
   good_at (route.BindingOp i j) =
       inr (then_finds IsId IsGood (id.id_of i) _ (id_finds i)
@@ -214,7 +214,7 @@ module _ (rules : Rules) (q b : List ℕ) where
       inr (then_finds IsGivenId IsGood (query.after_in q) _ (after_finds q) (λ a ha. record { found = record { its_words = ha; its_offer = tt; late = refl } }))
   good_at (route.Report i n) =
       inr (then_finds IsId IsGood (id.id_of i) _ (id_finds i)
-      (λ i hi. then_finds Anything IsGood (id.number_of n) _ (number_finds n)
+      (λ i hi. then_finds Anything IsGood (id.order_number_of n) _ (number_finds n)
       (λ n _. then_finds IsReadable IsGood (body.body_of b) _ (body_finds b)
       (λ v hv. then_finds IsReport IsGood (report_in i n v) _ (report_in_finds i n v hi hv) (λ r hr. record { found = record { its_words = hr; its_offer = tt; late = refl } })))))
 
@@ -271,17 +271,17 @@ told_of rules m = told_by rules (query_of m.target) m.body (admit_of rules m) (a
 pub never_memory : (rules : Rules) (m : Message) → asks.ask_of rules m ≢ Err fault.Memory
 never_memory rules m is = (subst (λ r. IsTold rules r) is (told_of rules m)).told refl
 
-pub worded : (rules : Rules) (m : Message) (a : Ask) → asks.ask_of rules m ≡ Ok a → IsWorded a
-worded rules m a is = (subst (λ r. IsTold rules r) is (told_of rules m)).told.0
+pub valid_texts : (rules : Rules) (m : Message) (a : Ask) → asks.ask_of rules m ≡ Ok a → AskHasValidTexts a
+valid_texts rules m a is = (subst (λ r. IsTold rules r) is (told_of rules m)).told.0
 
 pub offered : (rules : Rules) (m : Message) (a : Ask) → asks.ask_of rules m ≡ Ok a → IsOffered rules a
 offered rules m a is = (subst (λ r. IsTold rules r) is (told_of rules m)).told.1
 
 -- the same of what a reader of the request answers
-pub worded_result : (rules : Rules) (m : Message) (r : Result Ask AskFault) → Reads r (asks.ask_of rules m) → IfOk r IsWorded
-worded_result rules m (Ok a) reads = worded rules m a reads
-worded_result rules m (Err e) reads = tt
+pub valid_texts_result : (rules : Rules) (m : Message) (r : Result Ask AskFault) → Meets r (asks.ask_of rules m) → IfOk r AskHasValidTexts
+valid_texts_result rules m (Ok a) reads = valid_texts rules m a reads
+valid_texts_result rules m (Err e) reads = tt
 
-pub offered_result : (rules : Rules) (m : Message) (r : Result Ask AskFault) → Reads r (asks.ask_of rules m) → IfOk r (IsOffered rules)
+pub offered_result : (rules : Rules) (m : Message) (r : Result Ask AskFault) → Meets r (asks.ask_of rules m) → IfOk r (IsOffered rules)
 offered_result rules m (Ok a) reads = offered rules m a reads
 offered_result rules m (Err e) reads = tt

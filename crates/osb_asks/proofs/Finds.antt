@@ -24,7 +24,7 @@ use Rattle.osb_asks.specs.Reads.{◌>>=◌, needed, given}
 use Rattle.osb_asks.specs.Ids as id
 use Rattle.osb_asks.specs.Queries as query
 use Rattle.osb_asks.specs.Bodies as body
-use Rattle.osb_asks.specs.Worded.{IsId, IsObject}
+use Rattle.osb_asks.specs.ValidTexts.{IsId, IsObject}
 use Rattle.osb_asks.proofs.ContentLemmas.{object_found, readable_object}
 
 abbrev pub is_late : AskFault → Bool
@@ -69,8 +69,8 @@ id_finds segment = by (is_utf8 (percent_decode segment)) (percent_decode segment
     by true text = id_or_finds fault.Id text refl
     by false text = record { found = refl }
 
-pub number_finds : (segment : List ℕ) → Finds ℕ Anything (id.number_of segment)
-number_finds segment = tested_finds Anything (id.is_number segment) (digits_value 10 segment) fault.Id refl (λ h. tt)
+pub number_finds : (segment : List ℕ) → Finds ℕ Anything (id.order_number_of segment)
+number_finds segment = tested_finds Anything (id.is_order_number segment) (digits_value 10 segment) fault.Id refl (λ h. tt)
 
 abbrev pub IsGivenId : Option (List ℕ) → Type 0
 IsGivenId o = IfSome o IsId
@@ -94,21 +94,21 @@ chosen_finds true c x y e late = record { found = tt }
 chosen_finds false c x y e late = tested_finds Anything c y e late (λ h. tt)
 
 pub accepts_finds : (q : List ℕ) → Finds Bool Anything (query.accepts_incomplete_in q)
-accepts_finds q = by (query.value_of (codes "accepts_incomplete") q)
+accepts_finds q = by (query.query_value (codes "accepts_incomplete") q)
   where
     by : (o : Option (List ℕ)) → Finds Bool Anything (query.accepts_incomplete_by o)
     by None = record { found = tt }
     by (Some text) = chosen_finds (bytes_eq text (codes "true")) (bytes_eq text (codes "false")) true false fault.Query refl
 
-pub id_in_finds : (name q : List ℕ) → Finds (List ℕ) IsId (query.id_in name q)
-id_in_finds name q = by (query.value_of name q)
+pub id_in_finds : (name q : List ℕ) → Finds (List ℕ) IsId (query.query_id name q)
+id_in_finds name q = by (query.query_value name q)
   where
-    by : (o : Option (List ℕ)) → Finds (List ℕ) IsId (query.id_by o)
+    by : (o : Option (List ℕ)) → Finds (List ℕ) IsId (query.query_id_by o)
     by None = record { found = refl }
     by (Some text) = id_or_finds fault.Query text refl
 
 pub after_finds : (q : List ℕ) → Finds (Option (List ℕ)) IsGivenId (query.after_in q)
-after_finds q = unless_empty_finds fault.Query (query.value_of (codes "after") q) refl
+after_finds q = unless_empty_finds fault.Query (query.query_value (codes "after") q) refl
 
 -- ---- bodies
 
@@ -123,31 +123,31 @@ body_finds bytes = by (object_of bytes) refl
     by (Ok v) is = record { found = readable bytes v is }
     by (Err e) is = record { found = refl }
 
-text_finds : (name : List ℕ) (v : Data) → Finds (Option (List ℕ)) Anything (body.text_at name v)
+text_finds : (name : List ℕ) (v : Data) → Finds (Option (List ℕ)) Anything (body.body_text_at name v)
 text_finds name v = or_body_finds (field as_str name v)
 
 pub id_at_finds : (name : List ℕ) (v : Data) → Finds (List ℕ) IsId (body.id_at name v)
-id_at_finds name v = then_finds Anything IsId (body.text_at name v) body.id_by (text_finds name v) (λ o _. by o)
+id_at_finds name v = then_finds Anything IsId (body.body_text_at name v) body.id_by (text_finds name v) (λ o _. by o)
   where
     by : (o : Option (List ℕ)) → Finds (List ℕ) IsId (body.id_by o)
     by None = record { found = refl }
     by (Some text) = id_or_finds fault.Body text refl
 
 pub given_id_finds : (name : List ℕ) (v : Data) → Finds (Option (List ℕ)) IsGivenId (body.given_id_at name v)
-given_id_finds name v = then_finds Anything IsGivenId (body.text_at name v) body.given_id_by (text_finds name v) (λ o _. by o)
+given_id_finds name v = then_finds Anything IsGivenId (body.body_text_at name v) body.given_id_by (text_finds name v) (λ o _. by o)
   where
     by : (o : Option (List ℕ)) → Finds (Option (List ℕ)) IsGivenId (body.given_id_by o)
     by None = record { found = tt }
     by (Some text) = given_finds (id.id_or fault.Body text) (id_or_finds fault.Body text refl)
 
 pub app_finds : (v : Data) → Finds (Option (List ℕ)) IsGivenId (body.app_guid_at v)
-app_finds v = then_finds Anything IsGivenId (body.text_at (codes "app_guid") v) _ (text_finds (codes "app_guid") v) (λ o _. unless_empty_finds fault.Body o refl)
+app_finds v = then_finds Anything IsGivenId (body.body_text_at (codes "app_guid") v) _ (text_finds (codes "app_guid") v) (λ o _. unless_empty_finds fault.Body o refl)
 
 abbrev pub IsDescription : List ℕ → Type 0
 IsDescription text = (length text ≤ 1000) × (has_no_controls text ≡ true)
 
 pub description_finds : (v : Data) → Finds (List ℕ) IsDescription (body.description_at v)
-description_finds v = then_finds Anything IsDescription (body.text_at (codes "description") v) body.description_by (text_finds (codes "description") v) (λ o _. by o)
+description_finds v = then_finds Anything IsDescription (body.body_text_at (codes "description") v) body.description_by (text_finds (codes "description") v) (λ o _. by o)
   where
     described : (text : List ℕ) → (nat_le (length text) 1000 && has_no_controls text) ≡ true → IsDescription text
     described text h = let both = and_parts (nat_le (length text) 1000) (has_no_controls text) h in (grind (arith, nat_tests), both.1)
@@ -157,7 +157,7 @@ description_finds v = then_finds Anything IsDescription (body.text_at (codes "de
     by (Some text) = tested_finds IsDescription (nat_le (length text) 1000 && has_no_controls text) text fault.Body refl (described text)
 
 pub state_finds : (v : Data) → Finds ReportState Anything (body.state_at v)
-state_finds v = then_finds Anything Anything (body.text_at (codes "state") v) body.state_by (text_finds (codes "state") v) (λ o _. by o)
+state_finds v = then_finds Anything Anything (body.body_text_at (codes "state") v) body.state_by (text_finds (codes "state") v) (λ o _. by o)
   where
     by : (o : Option (List ℕ)) → Finds ReportState Anything (body.state_by o)
     by None = record { found = refl }
@@ -202,4 +202,4 @@ maintenance_finds v = then_finds Anything Anything (body.or_body (field object_v
 
     by : (o : Option Data) → Finds (Option (List ℕ)) Anything (body.maintenance_by o)
     by None = record { found = tt }
-    by (Some info) = then_finds Anything Anything (body.text_at (codes "version") info) _ (text_finds (codes "version") info) (λ o _. text_by o)
+    by (Some info) = then_finds Anything Anything (body.body_text_at (codes "version") info) _ (text_finds (codes "version") info) (λ o _. text_by o)

@@ -8,7 +8,7 @@ use Rattle.std.proofs.lemmas.Bool.{and_parts, ltb-true, leb-true}
 use Rattle.std.proofs.lemmas.Fmt.{IsAscii-from_digits}
 use Rattle.std.proofs.lemmas.Str.{is_utf8-from_IsUtf8, IsUtf8-from_is_utf8, IsUtf8-from_ascii}
 use Rattle.std.proofs.lemmas.Str.Parse.{IsNumeralModel, numerals_by_value, digits_value_short, parse_gives}
-use Rattle.osb_asks.specs.Ids.{is_number}
+use Rattle.osb_asks.specs.Ids.{is_order_number}
 
 pub utf8_test : (bs : List ℕ) → IsUtf8 bs → is_utf8 bs ≡ true
 utf8_test = is_utf8-from_IsUtf8
@@ -27,17 +27,17 @@ AreDigits ds = list_all is_ascii_digit ds ≡ true
 numerals : IsNumeralModel AreDigits (digits_value 10)
 numerals = numerals_by_value AreDigits (search rules)
 
-parts : (v : List ℕ) → is_number v ≡ true → (0 < length v) × (length v ≤ 7) × AreDigits v
+parts : (v : List ℕ) → is_order_number v ≡ true → (0 < length v) × (length v ≤ 7) × AreDigits v
 parts v h =
     let some = and_parts (nat_lt 0 (length v)) _ h in
     let few = and_parts (nat_le (length v) 7) _ some.1 in
     (ltb-true _ _ some.0, leb-true _ _ few.0, (and_parts (not (slice_index v 0 == 48)) _ few.1).1)
 
-pub number_utf8 : (v : List ℕ) → is_number v ≡ true → IsUtf8 v
+pub number_utf8 : (v : List ℕ) → is_order_number v ≡ true → IsUtf8 v
 number_utf8 v h = IsUtf8-from_ascii v (IsAscii-from_digits v (numerals.to v (parts v h).2))
 
 -- 7 digits at most are read as the number that they write
-pub number_read : {E : Type 0} (v : List ℕ) (r : Result ℕ E) → is_number v ≡ true → ParsesUnsigned 32 10 v r → r ≡ Ok (digits_value 10 v)
+pub number_read : {E : Type 0} (v : List ℕ) (r : Result ℕ E) → is_order_number v ≡ true → ParsesUnsigned 32 10 v r → r ≡ Ok (digits_value 10 v)
 number_read v r h reads =
     let p = parts v h in
     parse_gives numerals 32 v r reads p.2 p.0 (omega (arith, digits_value_short numerals v 7 p.2 p.1))

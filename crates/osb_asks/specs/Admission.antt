@@ -11,15 +11,15 @@ use Rattle.osb_asks.specs.declared.ask_fault.AskFault.{AskFault}
 use Rattle.osb_asks.specs.declared.ask_fault.AskFault.TheVariants.{NoDoor, Auth, Version, NoRoute}
 use Rattle.osb_asks.specs.Reads.{◌>>=◌, needed}
 use Rattle.osb_asks.specs.Credentials.{is_login}
-use Rattle.osb_asks.specs.Versions.{is_version}
+use Rattle.osb_asks.specs.Versions.{is_api_version}
 use Rattle.osb_asks.specs.Doors.{Entrance, entry_of}
-use Rattle.osb_asks.specs.Places.{place_at}
+use Rattle.osb_asks.specs.Resources.{resource_at}
 use Rattle.osb_asks.specs.Routes.{Routed, method_of, route_at}
 
 -- the token of a door's login
-abbrev pub token_at : Rules → Door → List ℕ
-token_at rules Platform = rules.platform_token
-token_at rules Backend = rules.backend_token
+abbrev pub token_of_door : Rules → Door → List ℕ
+token_of_door rules Platform = rules.platform_token
+token_of_door rules Backend = rules.backend_token
 
 -- the first value of that field passes the test
 abbrev pub has_field : List ℕ → (List ℕ → Bool) → List Line → Bool
@@ -27,16 +27,16 @@ has_field name test lines = option_map_or test (first_value (values_of name line
 
 -- the request has the login of the door
 abbrev pub is_let_in : Rules → Door → List Line → Bool
-is_let_in rules door = has_field (codes "authorization") (is_login (token_at rules door))
+is_let_in rules door = has_field (codes "authorization") (is_login (token_of_door rules door))
 
 -- the platform alone names a version
 abbrev pub has_version : Door → List Line → Bool
-has_version Platform = has_field (codes "x-broker-api-version") is_version
+has_version Platform = has_field (codes "x-broker-api-version") is_api_version
 has_version Backend = λ lines. true
 
 -- the route of that method and what it leads to behind the door
 abbrev pub route_of : List ℕ → Entrance → Option Routed
-route_of name e = option_and_then (λ method. option_and_then (route_at method) (place_at e.door e.behind)) (method_of name)
+route_of name e = option_and_then (λ method. option_and_then (route_at method) (resource_at e.door e.behind)) (method_of name)
 
 abbrev pub admit_at : Rules → Message → Entrance → Result Routed AskFault
 admit_at rules q e =

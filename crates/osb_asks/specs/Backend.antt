@@ -6,7 +6,7 @@ use Rattle.osb_asks.specs.declared.ask.Ask.{Ask}
 use Rattle.osb_asks.specs.declared.ask.Ask.TheVariants as ask
 use Rattle.osb_asks.specs.declared.ask.Report.{Report}
 use Rattle.osb_asks.specs.Reads.{◌>>=◌}
-use Rattle.osb_asks.specs.Ids.{id_of, number_of}
+use Rattle.osb_asks.specs.Ids.{id_of, order_number_of}
 use Rattle.osb_asks.specs.Queries.{after_in}
 use Rattle.osb_asks.specs.Bodies.{body_of, state_at, description_at, object_or_empty}
 
@@ -25,7 +25,7 @@ report_in instance number v = do
 unfoldable pub report_of : List ℕ → List ℕ → List ℕ → Result Ask AskFault
 report_of i n body = do
   instance ← id_of i
-  number ← number_of n
+  number ← order_number_of n
   v ← body_of body
   r ← report_in instance number v
   Ok (ask.Report r)

@@ -47,8 +47,8 @@ unbind_of rules i b q = do
   instance ← id_of i
   binding ← id_of b
   accepts_incomplete ← query.accepts_incomplete_in q
-  service ← query.id_in (codes "service_id") q
-  plan ← query.id_in (codes "plan_id") q
+  service ← query.query_id (codes "service_id") q
+  plan ← query.query_id (codes "plan_id") q
   if_offered (has_plan rules service plan) (ask.Unbind (record { instance = instance; binding = binding; service = service; plan = plan; accepts_incomplete = accepts_incomplete }))
 
 -- ---- "Polling Last Operation for Service Bindings"

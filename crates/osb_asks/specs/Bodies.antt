@@ -31,8 +31,8 @@ body_of bytes = or_body (object_of bytes)
 -- ---- texts
 
 -- the text of the name, if it is there
-abbrev pub text_at : List ℕ → Data → Result (Option (List ℕ)) AskFault
-text_at name v = or_body (field as_str name v)
+abbrev pub body_text_at : List ℕ → Data → Result (Option (List ℕ)) AskFault
+body_text_at name v = or_body (field as_str name v)
 
 abbrev pub id_by : Option (List ℕ) → Result (List ℕ) AskFault
 id_by None = Err Body
@@ -40,7 +40,7 @@ id_by (Some text) = id_or Body text
 
 -- an id that has to be there
 abbrev pub id_at : List ℕ → Data → Result (List ℕ) AskFault
-id_at name v = text_at name v >>= id_by
+id_at name v = body_text_at name v >>= id_by
 
 abbrev pub given_id_by : Option (List ℕ) → Result (Option (List ℕ)) AskFault
 given_id_by None = Ok None
@@ -48,11 +48,11 @@ given_id_by (Some text) = given (id_or Body text)
 
 -- an id that may be there
 abbrev pub given_id_at : List ℕ → Data → Result (Option (List ℕ)) AskFault
-given_id_at name v = text_at name v >>= given_id_by
+given_id_at name v = body_text_at name v >>= given_id_by
 
 -- the app of a binding, of which an empty text counts as absent
 abbrev pub app_guid_at : Data → Result (Option (List ℕ)) AskFault
-app_guid_at v = text_at (codes "app_guid") v >>= id_unless_empty_or Body
+app_guid_at v = body_text_at (codes "app_guid") v >>= id_unless_empty_or Body
 
 abbrev pub description_by : Option (List ℕ) → Result (List ℕ) AskFault
 description_by None = Ok []
@@ -60,7 +60,7 @@ description_by (Some text) = if nat_le (length text) 1000 && has_no_controls tex
 
 -- the description of a report: at most 1,000 bytes without control characters, and empty where there is none
 abbrev pub description_at : Data → Result (List ℕ) AskFault
-description_at v = text_at (codes "description") v >>= description_by
+description_at v = body_text_at (codes "description") v >>= description_by
 
 abbrev pub state_by : Option (List ℕ) → Result ReportState AskFault
 state_by None = Err Body
@@ -70,7 +70,7 @@ state_by (Some text) =
 
 -- how an order ended, by its report
 abbrev pub state_at : Data → Result ReportState AskFault
-state_at v = text_at (codes "state") v >>= state_by
+state_at v = body_text_at (codes "state") v >>= state_by
 
 -- the plan that a body names, and its service
 unfoldable pub plan_at : Data → Result NamedPlan AskFault
@@ -105,7 +105,7 @@ details_at v = do
 
 abbrev pub maintenance_by : Option Data → Result (Option (List ℕ)) AskFault
 maintenance_by None = Ok None
-maintenance_by (Some info) = text_at (codes "version") info >>= λ text. given (needed Body text)
+maintenance_by (Some info) = body_text_at (codes "version") info >>= λ text. given (needed Body text)
 
 -- the version in `maintenance_info`, which may be absent as a whole (OSB API 2.17, "Maintenance Info Object")
 abbrev pub maintenance_at : Data → Result (Option (List ℕ)) AskFault

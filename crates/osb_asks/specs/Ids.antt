@@ -28,10 +28,10 @@ abbrev pub id_of : List ℕ → Result (List ℕ) AskFault
 id_of segment = id_in (percent_decode segment)
 
 -- 1 to 7 digits that don't begin with a 0
-abbrev pub is_number : List ℕ → Bool
-is_number segment =
+abbrev pub is_order_number : List ℕ → Bool
+is_order_number segment =
     nat_lt 0 (length segment) && (nat_le (length segment) 7 && (not (slice_index segment 0 == 48) && list_all is_ascii_digit segment))
 
 -- the number of an order, as it stands in a path
-abbrev pub number_of : List ℕ → Result ℕ AskFault
-number_of segment = if is_number segment then Ok (digits_value 10 segment) else Err Id
+abbrev pub order_number_of : List ℕ → Result ℕ AskFault
+order_number_of segment = if is_order_number segment then Ok (digits_value 10 segment) else Err Id

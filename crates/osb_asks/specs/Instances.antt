@@ -64,8 +64,8 @@ unfoldable pub deprovision_of : Rules → List ℕ → List ℕ → Result Ask A
 deprovision_of rules i q = do
   instance ← id_of i
   accepts_incomplete ← query.accepts_incomplete_in q
-  service ← query.id_in (codes "service_id") q
-  plan ← query.id_in (codes "plan_id") q
+  service ← query.query_id (codes "service_id") q
+  plan ← query.query_id (codes "plan_id") q
   if_offered (has_plan rules service plan) (ask.Deprovision (record { instance = instance; service = service; plan = plan; accepts_incomplete = accepts_incomplete }))
 
 -- ---- "Polling Last Operation for Service Instances"

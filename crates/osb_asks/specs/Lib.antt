@@ -10,7 +10,7 @@ pub mod Doors
 pub mod Credentials
 pub mod Versions
 pub mod Routes
-pub mod Places
+pub mod Resources
 -- What each route asks.
 pub mod Instances
 pub mod Bindings
@@ -22,9 +22,9 @@ pub mod Bodies
 pub mod Offers
 -- What is said of an ask once it was read.
 pub mod Subjects
-pub mod Worded
+pub mod ValidTexts
 pub mod Texts
--- The paths behind the doors once more, as a table, which a law holds against `Places`.
+-- The paths behind the doors once more, as a table, which a law holds against `Resources`.
 pub mod Paths
 -- For contracts inside the crate.
 pub mod Seen

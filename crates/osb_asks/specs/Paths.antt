@@ -3,7 +3,7 @@ use Rattle.std.specs.Prelude.{◌≡◌, ℕ, ◌<◌, List, [], ◌∷◌, ◌+
 use Rattle.std.specs.List.{AllByRecursion}
 use Rattle.osb_asks.specs.declared.door.Door.{Door}
 use Rattle.osb_asks.specs.declared.door.Door.TheVariants.{Platform, Backend}
-use Rattle.osb_asks.specs.Places.{Named, catalog, orders, instance, instance_operation, binding, binding_operation, order}
+use Rattle.osb_asks.specs.Resources.{Named, catalog, orders, instance, instance_operation, binding, binding_operation, order}
 
 -- the door of a place
 abbrev pub door_of : Named → Door

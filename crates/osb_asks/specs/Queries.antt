@@ -12,12 +12,12 @@ abbrev pub text_of : List ℕ → List ℕ
 text_of encoded = utf8_lossy (decode encoded)
 
 -- the text of the first pair of the name
-abbrev pub first_value : List ℕ → List (List ℕ × List ℕ) → Option (List ℕ)
-first_value name [] = None
-first_value name (pair ∷ pairs) = if bytes_eq (text_of pair.0) name then Some (text_of pair.1) else first_value name pairs
+abbrev pub first_pair_value : List ℕ → List (List ℕ × List ℕ) → Option (List ℕ)
+first_pair_value name [] = None
+first_pair_value name (pair ∷ pairs) = if bytes_eq (text_of pair.0) name then Some (text_of pair.1) else first_pair_value name pairs
 
-abbrev pub value_of : List ℕ → List ℕ → Option (List ℕ)
-value_of name query = first_value name (raw_pairs query)
+abbrev pub query_value : List ℕ → List ℕ → Option (List ℕ)
+query_value name query = first_pair_value name (raw_pairs query)
 
 abbrev pub accepts_incomplete_by : Option (List ℕ) → Result Bool AskFault
 accepts_incomplete_by None = Ok false
@@ -28,20 +28,20 @@ accepts_incomplete_by (Some text) =
 -- whether the platform takes an answer before the operation is done; absent is false (OSB API 2.17, "Asynchronous
 -- Operations")
 abbrev pub accepts_incomplete_in : List ℕ → Result Bool AskFault
-accepts_incomplete_in query = accepts_incomplete_by (value_of (codes "accepts_incomplete") query)
+accepts_incomplete_in query = accepts_incomplete_by (query_value (codes "accepts_incomplete") query)
 
-abbrev pub id_by : Option (List ℕ) → Result (List ℕ) AskFault
-id_by None = Err Query
-id_by (Some text) = id_or Query text
+abbrev pub query_id_by : Option (List ℕ) → Result (List ℕ) AskFault
+query_id_by None = Err Query
+query_id_by (Some text) = id_or Query text
 
 -- an id that has to be there
-abbrev pub id_in : List ℕ → List ℕ → Result (List ℕ) AskFault
-id_in name query = id_by (value_of name query)
+abbrev pub query_id : List ℕ → List ℕ → Result (List ℕ) AskFault
+query_id name query = query_id_by (query_value name query)
 
 -- the id after which orders are listed, which is this project's own
 abbrev pub after_in : List ℕ → Result (Option (List ℕ)) AskFault
-after_in query = id_unless_empty_or Query (value_of (codes "after") query)
+after_in query = id_unless_empty_or Query (query_value (codes "after") query)
 
 -- the operation that is polled (OSB API 2.17, "Polling Last Operation for Service Instances")
 abbrev pub operation_in : List ℕ → Option (List ℕ)
-operation_in query = value_of (codes "operation") query
+operation_in query = query_value (codes "operation") query

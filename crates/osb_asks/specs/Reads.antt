@@ -4,9 +4,9 @@ use Rattle.osb_asks.specs.declared.ask_fault.AskFault.{AskFault}
 use Rattle.osb_asks.specs.declared.ask_fault.AskFault.TheVariants.{Memory}
 
 -- what was returned is what is found, unless memory was refused
-abbrev pub Reads : {X : Type 0} → Result X AskFault → Result X AskFault → Type 0
-Reads (Ok x) found = found ≡ Ok x
-Reads (Err fault) found = fault ≢ Memory → found ≡ Err fault
+abbrev pub Meets : {X : Type 0} → Result X AskFault → Result X AskFault → Type 0
+Meets (Ok x) found = found ≡ Ok x
+Meets (Err fault) found = fault ≢ Memory → found ≡ Err fault
 
 -- the same of what was returned as `view` shows it
 abbrev pub ReadsAs : {X Y : Type 0} → (X → Y) → Result X AskFault → Result Y AskFault → Type 0

@@ -3,7 +3,7 @@
 use Rattle.std.specs.Prelude.{ℕ, List, Option, Some, None, codes, bytes_eq, if◌then◌else◌}
 use Rattle.osb_asks.specs.declared.route.Method.{Method}
 use Rattle.osb_asks.specs.declared.route.Method.TheVariants.{Get, Put, Patch, Delete}
-use Rattle.osb_asks.specs.Places.{Named, catalog, orders, instance, instance_operation, binding, binding_operation, order}
+use Rattle.osb_asks.specs.Resources.{Named, catalog, orders, instance, instance_operation, binding, binding_operation, order}
 
 -- a route, with the segments of its ids as they stand in the path
 pub data Routed : Type 0 where

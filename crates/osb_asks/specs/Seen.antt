@@ -1,25 +1,25 @@
 -- Entries, places and routes without where their segments lie in memory. For contracts inside the crate.
-use Rattle.osb_asks.specs.declared.door.Entry.{Entry}
-use Rattle.osb_asks.specs.declared.place.Place.{Place}
-use Rattle.osb_asks.specs.declared.place.Place.TheVariants as place
+use Rattle.osb_asks.specs.declared.door.DoorAndPath.{DoorAndPath}
+use Rattle.osb_asks.specs.declared.resource.Resource.{Resource}
+use Rattle.osb_asks.specs.declared.resource.Resource.TheVariants as place
 use Rattle.osb_asks.specs.declared.route.Route.{Route}
 use Rattle.osb_asks.specs.declared.route.Route.TheVariants as route
 use Rattle.osb_asks.specs.SegmentsLeft.{left}
 use Rattle.osb_asks.specs.Doors.{Entrance}
-use Rattle.osb_asks.specs.Places as named
+use Rattle.osb_asks.specs.Resources as named
 use Rattle.osb_asks.specs.Routes as routed
 
-abbrev pub seen_entry : Entry → Entrance
-seen_entry e = record { door = e.door; behind = left e.segments }
+abbrev pub seen_path : DoorAndPath → Entrance
+seen_path e = record { door = e.door; behind = left e.segments }
 
-abbrev pub seen_place : Place → named.Named
-seen_place place.Catalog = named.catalog
-seen_place (place.Instance i) = named.instance i.now
-seen_place (place.InstanceOperation i) = named.instance_operation i.now
-seen_place (place.Binding i b) = named.binding i.now b.now
-seen_place (place.BindingOperation i b) = named.binding_operation i.now b.now
-seen_place place.Orders = named.orders
-seen_place (place.Order i n) = named.order i.now n.now
+abbrev pub seen_resource : Resource → named.Named
+seen_resource place.Catalog = named.catalog
+seen_resource (place.Instance i) = named.instance i.now
+seen_resource (place.InstanceOperation i) = named.instance_operation i.now
+seen_resource (place.Binding i b) = named.binding i.now b.now
+seen_resource (place.BindingOperation i b) = named.binding_operation i.now b.now
+seen_resource place.Orders = named.orders
+seen_resource (place.Order i n) = named.order i.now n.now
 
 abbrev pub seen_route : Route → routed.Routed
 seen_route route.Catalog = routed.Catalog

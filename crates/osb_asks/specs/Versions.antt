@@ -10,5 +10,5 @@ is_minor digits =
     nat_lt 0 (length digits) && (nat_le (length digits) 3 && (list_all is_ascii_digit digits && ((length digits == 1) || not (slice_index digits 0 == 48))))
 
 -- `2.` and a minor
-abbrev pub is_version : List ℕ → Bool
-is_version value = bytes_eq (take 2 value) (codes "2.") && is_minor (drop 2 value)
+abbrev pub is_api_version : List ℕ → Bool
+is_api_version value = bytes_eq (take 2 value) (codes "2.") && is_minor (drop 2 value)

@@ -4,14 +4,14 @@ ghost use Rattle.std.specs.Prelude.{◌≡◌, option_map};
 ghost use Rattle.osb_frames.specs.Steps.{message};
 ghost use Rattle.osb_catalog.specs.Rules.{rules_of};
 ghost use Rattle.osb_asks.specs.Admission as spec;
-ghost use Rattle.osb_asks.specs.Seen.{seen_entry, seen_route};
+ghost use Rattle.osb_asks.specs.Seen.{seen_path, seen_route};
 
 use crate::ask_fault::AskFault;
 use crate::credentials::is_login;
-use crate::door::{Door, Entry, entry_of};
-use crate::place::place_at;
+use crate::door::{Door, DoorAndPath, entry_of};
+use crate::resource::resource_at;
 use crate::route::{Route, method_of, route_at};
-use crate::version::is_version;
+use crate::version::is_api_version;
 use osb_catalog::Settings;
 use osb_frames::Request;
 
@@ -35,17 +35,17 @@ fn has_version(request: &Request<'_>, door: Door) -> bool
     match door {
         Door::Platform => request
             .field(b"x-broker-api-version")
-            .is_some_and(|value| is_version(value)),
+            .is_some_and(|value| is_api_version(value)),
         Door::Backend => true,
     }
 }
 
 /// The route of that method and what it leads to behind the door.
-fn route_of<'a>(name: &[u8], entry: Entry<'a>) -> Option<Route<'a>>
-    ensures { option_map seen_route result ≡ spec.route_of name.now (seen_entry entry.entry) }
+fn route_of<'a>(name: &[u8], entry: DoorAndPath<'a>) -> Option<Route<'a>>
+    ensures { option_map seen_route result ≡ spec.route_of name.now (seen_path entry.entry) }
 {
     let method = method_of(name)?;
-    let place = place_at(entry.door, entry.segments)?;
+    let place = resource_at(entry.door, entry.segments)?;
     route_at(method, place)
 }
 

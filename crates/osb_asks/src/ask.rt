@@ -1,7 +1,7 @@
 //! The asks, a type for each kind of request, and which instance and binding each is about.
 
 ghost use Rattle.std.specs.Prelude.{◌≡◌, option_copied};
-ghost use Rattle.osb_asks.specs.Subjects.{instance_of, binding_of};
+ghost use Rattle.osb_asks.specs.Subjects.{instance_id_of, binding_id_of};
 
 use crate::id::Id;
 use crate::object_text::ObjectText;
@@ -156,7 +156,7 @@ pub enum Ask {
 impl Ask {
     /// The instance that the ask is about: all but Catalog and Orders have one.
     pub fn instance(&self) -> Option<&Id>
-        ensures { option_copied result ≡ instance_of self.now }
+        ensures { option_copied result ≡ instance_id_of self.now }
     {
         match self {
             Ask::Catalog | Ask::Orders(_) => None,
@@ -175,7 +175,7 @@ impl Ask {
 
     /// The binding that the ask is about, for those of bindings.
     pub fn binding(&self) -> Option<&Id>
-        ensures { option_copied result ≡ binding_of self.now }
+        ensures { option_copied result ≡ binding_id_of self.now }
     {
         match self {
             Ask::Bind(ask) => Some(&ask.binding),

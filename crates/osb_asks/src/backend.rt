@@ -3,7 +3,7 @@
 ghost use Rattle.osb_text.specs.ObjectText.{IsReadable};
 ghost use Rattle.osb_asks.specs.Backend as spec;
 ghost use Rattle.osb_asks.specs.Contents.{data_of};
-ghost use Rattle.osb_asks.specs.Reads.{Reads};
+ghost use Rattle.osb_asks.specs.Reads.{Meets};
 
 use crate::ask::{Ask, Orders, Report};
 use crate::ask_fault::AskFault;
@@ -15,7 +15,7 @@ use std::alloc::Global;
 
 #[tactic(auto, unfolding(crate::specs::Backend::orders_of))]
 pub(crate) fn orders(alloc: Global, query: &[u8]) -> Result<Ask, AskFault>
-    ensures { Reads result (spec.orders_of query.now) }
+    ensures { Meets result (spec.orders_of query.now) }
 {
     let after = after_in(alloc, query)?;
     Ok(Ask::Orders(Orders { after }))
@@ -29,7 +29,7 @@ fn report_in(
     content: &Content,
 ) -> Result<Report, AskFault>
     requires { IsReadable (data_of content.now) }
-    ensures { Reads result (spec.report_in instance number (data_of content.now)) }
+    ensures { Meets result (spec.report_in instance number (data_of content.now)) }
 {
     let state = content.state()?;
     let description = content.description(alloc)?;
@@ -50,7 +50,7 @@ pub(crate) fn report(
     number: &[u8],
     body: &[u8],
 ) -> Result<Ask, AskFault>
-    ensures { Reads result (spec.report_of instance.now number.now body.now) }
+    ensures { Meets result (spec.report_of instance.now number.now body.now) }
 {
     let instance = read_id(alloc, instance)?;
     let number = read_number(number)?;

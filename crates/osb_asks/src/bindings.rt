@@ -4,14 +4,14 @@ ghost use Rattle.osb_text.specs.ObjectText.{IsReadable};
 ghost use Rattle.osb_catalog.specs.Rules.{rules_of};
 ghost use Rattle.osb_asks.specs.Bindings as spec;
 ghost use Rattle.osb_asks.specs.Contents.{data_of};
-ghost use Rattle.osb_asks.specs.Reads.{Reads};
+ghost use Rattle.osb_asks.specs.Reads.{Meets};
 
 use crate::ask::{Ask, Bind, BindingOp, FetchBinding, Unbind};
 use crate::ask_fault::AskFault;
 use crate::content::Content;
 use crate::id::Id;
 use crate::offers::has_plan;
-use crate::query::{accepts_incomplete_in, id_in, value_of};
+use crate::query::{accepts_incomplete_in, query_id, query_value};
 use crate::segment::read_id;
 use osb_catalog::Settings;
 use std::alloc::Global;
@@ -25,7 +25,7 @@ fn bind_in(
     content: &Content,
 ) -> Result<Bind, AskFault>
     requires { IsReadable (data_of content.now) }
-    ensures { Reads result (spec.bind_in instance binding accepts_incomplete (data_of content.now)) }
+    ensures { Meets result (spec.bind_in instance binding accepts_incomplete (data_of content.now)) }
 {
     let named = content.plan(alloc)?;
     let app_guid = content.app_guid(alloc)?;
@@ -53,7 +53,7 @@ pub(crate) fn bind(
     query: &[u8],
     body: &[u8],
 ) -> Result<Ask, AskFault>
-    ensures { Reads result (spec.bind_of (rules_of settings.now) instance.now binding.now query.now body.now) }
+    ensures { Meets result (spec.bind_of (rules_of settings.now) instance.now binding.now query.now body.now) }
 {
     let instance = read_id(alloc, instance)?;
     let binding = read_id(alloc, binding)?;
@@ -68,7 +68,7 @@ pub(crate) fn bind(
 
 #[tactic(auto, unfolding(crate::specs::Bindings::fetch_binding_of))]
 pub(crate) fn fetch_binding(alloc: Global, instance: &[u8], binding: &[u8]) -> Result<Ask, AskFault>
-    ensures { Reads result (spec.fetch_binding_of instance.now binding.now) }
+    ensures { Meets result (spec.fetch_binding_of instance.now binding.now) }
 {
     let instance = read_id(alloc, instance)?;
     let binding = read_id(alloc, binding)?;
@@ -83,13 +83,13 @@ pub(crate) fn unbind(
     binding: &[u8],
     query: &[u8],
 ) -> Result<Ask, AskFault>
-    ensures { Reads result (spec.unbind_of (rules_of settings.now) instance.now binding.now query.now) }
+    ensures { Meets result (spec.unbind_of (rules_of settings.now) instance.now binding.now query.now) }
 {
     let instance = read_id(alloc, instance)?;
     let binding = read_id(alloc, binding)?;
     let accepts_incomplete = accepts_incomplete_in(alloc, query)?;
-    let service = id_in(alloc, "service_id", query)?;
-    let plan = id_in(alloc, "plan_id", query)?;
+    let service = query_id(alloc, "service_id", query)?;
+    let plan = query_id(alloc, "plan_id", query)?;
     if !has_plan(settings, &service, &plan) {
         return Err(AskFault::NotInCatalog);
     }
@@ -109,11 +109,11 @@ pub(crate) fn binding_op(
     binding: &[u8],
     query: &[u8],
 ) -> Result<Ask, AskFault>
-    ensures { Reads result (spec.binding_op_of instance.now binding.now query.now) }
+    ensures { Meets result (spec.binding_op_of instance.now binding.now query.now) }
 {
     let instance = read_id(alloc, instance)?;
     let binding = read_id(alloc, binding)?;
-    let operation = value_of(alloc, "operation", query)?;
+    let operation = query_value(alloc, "operation", query)?;
     Ok(Ask::BindingOp(BindingOp {
         instance,
         binding,

@@ -3,7 +3,7 @@
 ghost use Rattle.std.specs.Prelude.{◌≡◌, IfOk};
 ghost use Rattle.osb_text.specs.ObjectText.{IsReadable};
 ghost use Rattle.osb_asks.specs.Bodies as spec;
-ghost use Rattle.osb_asks.specs.Reads.{Gives, Reads, ReadsAs};
+ghost use Rattle.osb_asks.specs.Reads.{Gives, Meets, ReadsAs};
 
 use crate::ask::ReportState;
 use crate::ask_fault::AskFault;
@@ -58,7 +58,7 @@ impl Content {
 
     /// The text of that name.
     fn text(&self, name: &str) -> Result<Option<&str>, AskFault>
-        ensures { Gives (λ text. text.now) result (spec.text_at name.now (data_of self.now)) }
+        ensures { Gives (λ text. text.now) result (spec.body_text_at name.now (data_of self.now)) }
     {
         match self.object.text(name) {
             Ok(text) => Ok(text),
@@ -68,7 +68,7 @@ impl Content {
 
     /// The id of that name, which has to be there.
     pub(crate) fn id(&self, alloc: Global, name: &str) -> Result<Id, AskFault>
-        ensures { Reads result (spec.id_at name.now (data_of self.now)) }
+        ensures { Meets result (spec.id_at name.now (data_of self.now)) }
     {
         match self.text(name)? {
             Some(text) => id_or(AskFault::Body, Text::from_str(alloc, text)?),
@@ -78,7 +78,7 @@ impl Content {
 
     /// The id of that name, if it is there.
     pub(crate) fn given_id(&self, alloc: Global, name: &str) -> Result<Option<Id>, AskFault>
-        ensures { Reads result (spec.given_id_at name.now (data_of self.now)) }
+        ensures { Meets result (spec.given_id_at name.now (data_of self.now)) }
     {
         match self.text(name)? {
             Some(text) => Ok(Some(id_or(AskFault::Body, Text::from_str(alloc, text)?)?)),
@@ -88,7 +88,7 @@ impl Content {
 
     #[tactic(auto, unfolding(crate::specs::Bodies::plan_at))]
     pub(crate) fn plan(&self, alloc: Global) -> Result<NamedPlan, AskFault>
-        ensures { Reads result (spec.plan_at (data_of self.now)) }
+        ensures { Meets result (spec.plan_at (data_of self.now)) }
     {
         let service = self.id(alloc, "service_id")?;
         let plan = self.id(alloc, "plan_id")?;
@@ -97,7 +97,7 @@ impl Content {
 
     #[tactic(auto, unfolding(crate::specs::Bodies::space_at))]
     pub(crate) fn space(&self, alloc: Global) -> Result<NamedSpace, AskFault>
-        ensures { Reads result (spec.space_at (data_of self.now)) }
+        ensures { Meets result (spec.space_at (data_of self.now)) }
     {
         let organization = self.id(alloc, "organization_guid")?;
         let space = self.id(alloc, "space_guid")?;
@@ -109,7 +109,7 @@ impl Content {
 
     /// The app that is bound, if there is one.
     pub(crate) fn app_guid(&self, alloc: Global) -> Result<Option<Id>, AskFault>
-        ensures { Reads result (spec.app_guid_at (data_of self.now)) }
+        ensures { Meets result (spec.app_guid_at (data_of self.now)) }
     {
         match self.text("app_guid")? {
             Some(text) => id_unless_empty(AskFault::Body, Some(Text::from_str(alloc, text)?)),
@@ -119,7 +119,7 @@ impl Content {
 
     /// The description of a report, empty where there is none.
     pub(crate) fn description(&self, alloc: Global) -> Result<Text, AskFault>
-        ensures { Reads result (spec.description_at (data_of self.now)) }
+        ensures { Meets result (spec.description_at (data_of self.now)) }
     {
         match self.text("description")? {
             Some(text) => {
@@ -155,7 +155,7 @@ impl Content {
     #[tactic(auto, using(crate::proofs::ContentLemmas::readable_object))]
     pub(crate) fn object(&self, alloc: Global, name: &str) -> Result<Option<ObjectText>, AskFault>
         requires { IsReadable (data_of self.now) }
-        ensures { Reads result (spec.object_at name.now (data_of self.now)) }
+        ensures { Meets result (spec.object_at name.now (data_of self.now)) }
     {
         match self.object.object(name) {
             Ok(Some(found)) => Ok(Some(ObjectText::of(alloc, found)?)),
@@ -167,7 +167,7 @@ impl Content {
     /// The compact text of the object of that name, `{}` where it is absent.
     pub(crate) fn object_or_empty(&self, alloc: Global, name: &str) -> Result<ObjectText, AskFault>
         requires { IsReadable (data_of self.now) }
-        ensures { Reads result (spec.object_or_empty name.now (data_of self.now)) }
+        ensures { Meets result (spec.object_or_empty name.now (data_of self.now)) }
     {
         match self.object(alloc, name)? {
             Some(text) => Ok(text),
@@ -178,7 +178,7 @@ impl Content {
     #[tactic(auto, unfolding(crate::specs::Bodies::details_at))]
     pub(crate) fn details(&self, alloc: Global) -> Result<Details, AskFault>
         requires { IsReadable (data_of self.now) }
-        ensures { Reads result (spec.details_at (data_of self.now)) }
+        ensures { Meets result (spec.details_at (data_of self.now)) }
     {
         let context = self.object_or_empty(alloc, "context")?;
         let parameters = self.object_or_empty(alloc, "parameters")?;
@@ -190,7 +190,7 @@ impl Content {
 
     /// The maintenance version, if there is one.
     pub(crate) fn maintenance(&self, alloc: Global) -> Result<Option<Text>, AskFault>
-        ensures { Reads result (spec.maintenance_at (data_of self.now)) }
+        ensures { Meets result (spec.maintenance_at (data_of self.now)) }
     {
         match self.object.object("maintenance_info") {
             Ok(Some(info)) => match info.text("version") {

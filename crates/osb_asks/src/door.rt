@@ -2,7 +2,7 @@
 
 ghost use Rattle.std.specs.Prelude.{◌≡◌, option_map};
 ghost use Rattle.osb_asks.specs.Doors as spec;
-ghost use Rattle.osb_asks.specs.Seen.{seen_entry};
+ghost use Rattle.osb_asks.specs.Seen.{seen_path};
 
 use crate::target::{Segments, path_of};
 
@@ -15,7 +15,7 @@ pub(crate) enum Door {
 
 /// A door, and the segments of the path behind it.
 #[derive(Clone, Copy, Debug)]
-pub(crate) struct Entry<'a> {
+pub(crate) struct DoorAndPath<'a> {
     pub(crate) door: Door,
     pub(crate) segments: Segments<'a>,
 }
@@ -34,13 +34,13 @@ fn door_at(segment: &[u8]) -> Option<Door>
 }
 
 /// The door that a target leads to, and what is behind it.
-pub(crate) fn entry_of(target: &[u8]) -> Option<Entry<'_>>
-    ensures { option_map seen_entry result ≡ spec.entry_of target.now }
+pub(crate) fn entry_of(target: &[u8]) -> Option<DoorAndPath<'_>>
+    ensures { option_map seen_path result ≡ spec.entry_of target.now }
 {
     let [b'/', rest @ ..] = path_of(target) else {
         return None;
     };
     let mut segments = Segments::of(rest);
     let door = door_at(segments.take_next()?)?;
-    Some(Entry { door, segments })
+    Some(DoorAndPath { door, segments })
 }

@@ -4,14 +4,14 @@ ghost use Rattle.osb_text.specs.ObjectText.{IsReadable};
 ghost use Rattle.osb_catalog.specs.Rules.{rules_of};
 ghost use Rattle.osb_asks.specs.Instances as spec;
 ghost use Rattle.osb_asks.specs.Contents.{data_of};
-ghost use Rattle.osb_asks.specs.Reads.{Reads};
+ghost use Rattle.osb_asks.specs.Reads.{Meets};
 
 use crate::ask::{Ask, Deprovision, Fetch, InstanceOp, Provision, Update};
 use crate::ask_fault::AskFault;
 use crate::content::Content;
 use crate::id::Id;
 use crate::offers::{has_given_plan, has_plan};
-use crate::query::{accepts_incomplete_in, id_in, value_of};
+use crate::query::{accepts_incomplete_in, query_id, query_value};
 use crate::segment::read_id;
 use osb_catalog::Settings;
 use std::alloc::Global;
@@ -24,7 +24,7 @@ fn provision_in(
     content: &Content,
 ) -> Result<Provision, AskFault>
     requires { IsReadable (data_of content.now) }
-    ensures { Reads result (spec.provision_in instance accepts_incomplete (data_of content.now)) }
+    ensures { Meets result (spec.provision_in instance accepts_incomplete (data_of content.now)) }
 {
     let named = content.plan(alloc)?;
     let place = content.space(alloc)?;
@@ -51,7 +51,7 @@ fn update_in(
     content: &Content,
 ) -> Result<Update, AskFault>
     requires { IsReadable (data_of content.now) }
-    ensures { Reads result (spec.update_in instance accepts_incomplete (data_of content.now)) }
+    ensures { Meets result (spec.update_in instance accepts_incomplete (data_of content.now)) }
 {
     let service = content.id(alloc, "service_id")?;
     let plan = content.given_id(alloc, "plan_id")?;
@@ -77,7 +77,7 @@ pub(crate) fn provision(
     query: &[u8],
     body: &[u8],
 ) -> Result<Ask, AskFault>
-    ensures { Reads result (spec.provision_of (rules_of settings.now) segment.now query.now body.now) }
+    ensures { Meets result (spec.provision_of (rules_of settings.now) segment.now query.now body.now) }
 {
     let instance = read_id(alloc, segment)?;
     let accepts_incomplete = accepts_incomplete_in(alloc, query)?;
@@ -91,7 +91,7 @@ pub(crate) fn provision(
 
 #[tactic(auto, unfolding(crate::specs::Instances::fetch_of))]
 pub(crate) fn fetch(alloc: Global, segment: &[u8]) -> Result<Ask, AskFault>
-    ensures { Reads result (spec.fetch_of segment.now) }
+    ensures { Meets result (spec.fetch_of segment.now) }
 {
     let instance = read_id(alloc, segment)?;
     Ok(Ask::Fetch(Fetch { instance }))
@@ -105,7 +105,7 @@ pub(crate) fn update(
     query: &[u8],
     body: &[u8],
 ) -> Result<Ask, AskFault>
-    ensures { Reads result (spec.update_of (rules_of settings.now) segment.now query.now body.now) }
+    ensures { Meets result (spec.update_of (rules_of settings.now) segment.now query.now body.now) }
 {
     let instance = read_id(alloc, segment)?;
     let accepts_incomplete = accepts_incomplete_in(alloc, query)?;
@@ -124,12 +124,12 @@ pub(crate) fn deprovision(
     segment: &[u8],
     query: &[u8],
 ) -> Result<Ask, AskFault>
-    ensures { Reads result (spec.deprovision_of (rules_of settings.now) segment.now query.now) }
+    ensures { Meets result (spec.deprovision_of (rules_of settings.now) segment.now query.now) }
 {
     let instance = read_id(alloc, segment)?;
     let accepts_incomplete = accepts_incomplete_in(alloc, query)?;
-    let service = id_in(alloc, "service_id", query)?;
-    let plan = id_in(alloc, "plan_id", query)?;
+    let service = query_id(alloc, "service_id", query)?;
+    let plan = query_id(alloc, "plan_id", query)?;
     if !has_plan(settings, &service, &plan) {
         return Err(AskFault::NotInCatalog);
     }
@@ -143,10 +143,10 @@ pub(crate) fn deprovision(
 
 #[tactic(auto, unfolding(crate::specs::Instances::instance_op_of))]
 pub(crate) fn instance_op(alloc: Global, segment: &[u8], query: &[u8]) -> Result<Ask, AskFault>
-    ensures { Reads result (spec.instance_op_of segment.now query.now) }
+    ensures { Meets result (spec.instance_op_of segment.now query.now) }
 {
     let instance = read_id(alloc, segment)?;
-    let operation = value_of(alloc, "operation", query)?;
+    let operation = query_value(alloc, "operation", query)?;
     Ok(Ask::InstanceOp(InstanceOp {
         instance,
         operation,

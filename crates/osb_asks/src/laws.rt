@@ -6,8 +6,8 @@ ghost use Rattle.osb_catalog.specs.Rules.{Rules};
 ghost use Rattle.osb_asks.specs.Asks.{ask_of};
 ghost use Rattle.osb_asks.specs.Credentials.{is_login, IsLogin};
 ghost use Rattle.osb_asks.specs.Paths.{IsPathOf};
-ghost use Rattle.osb_asks.specs.Places.{Named, place_at};
-ghost use Rattle.osb_asks.specs.Worded.{IsWorded, IsOffered};
+ghost use Rattle.osb_asks.specs.Resources.{Named, resource_at};
+ghost use Rattle.osb_asks.specs.ValidTexts.{AskHasValidTexts, IsOffered};
 ghost use Rattle.osb_asks.specs.declared.ask.Ask.{Ask as TheAsk};
 ghost use Rattle.osb_asks.specs.declared.ask_fault.AskFault.TheVariants.{Memory};
 ghost use Rattle.osb_asks.specs.declared.door.Door.{Door as TheDoor};
@@ -15,7 +15,7 @@ ghost use Rattle.osb_asks.specs.declared.door.Door.{Door as TheDoor};
 /// The segments behind a door name a place exactly where they are its path.
 pub fn one_place()
     ensures { (door : TheDoor) (segments : List (List ℕ)) (named : Named)
-        → (place_at door segments ≡ Some named) ↔ IsPathOf door segments named }
+        → (resource_at door segments ≡ Some named) ↔ IsPathOf door segments named }
 {}
 
 /// A value is a login exactly where it is the scheme in any case, one or more spaces, and the
@@ -32,7 +32,7 @@ pub fn never_memory()
 
 /// Ids of an ask are id texts and its objects compact texts, and the catalog has its service and
 /// its plan.
-pub fn worded()
-    ensures worded { (rules : Rules) (q : Message) (ask : TheAsk) → ask_of rules q ≡ Ok ask → IsWorded ask }
+pub fn valid_texts()
+    ensures valid_texts { (rules : Rules) (q : Message) (ask : TheAsk) → ask_of rules q ≡ Ok ask → AskHasValidTexts ask }
     ensures offered { (rules : Rules) (q : Message) (ask : TheAsk) → ask_of rules q ≡ Ok ask → IsOffered rules ask }
 {}

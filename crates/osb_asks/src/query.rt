@@ -3,7 +3,7 @@
 ghost use Rattle.std.specs.Prelude.{◌≡◌, IfOk};
 ghost use Rattle.osb_asks.specs.Ids.{id_unless_empty_or};
 ghost use Rattle.osb_asks.specs.Queries as spec;
-ghost use Rattle.osb_asks.specs.Reads.{Reads};
+ghost use Rattle.osb_asks.specs.Reads.{Meets};
 
 use crate::ask_fault::AskFault;
 use crate::id::Id;
@@ -13,8 +13,12 @@ use osb_text::Text;
 use std::alloc::{AllocError, Global};
 
 /// The text of the query's first pair of that name.
-pub(crate) fn value_of(alloc: Global, name: &str, query: &[u8]) -> Result<Option<Text>, AllocError>
-    ensures { IfOk result (λ value. value ≡ spec.value_of name.now query.now) }
+pub(crate) fn query_value(
+    alloc: Global,
+    name: &str,
+    query: &[u8],
+) -> Result<Option<Text>, AllocError>
+    ensures { IfOk result (λ value. value ≡ spec.query_value name.now query.now) }
 {
     for pair in parse(alloc, query) {
         let (found, value) = pair?;
@@ -28,9 +32,9 @@ pub(crate) fn value_of(alloc: Global, name: &str, query: &[u8]) -> Result<Option
 
 /// Whether the platform takes an answer before the operation is done.
 pub(crate) fn accepts_incomplete_in(alloc: Global, query: &[u8]) -> Result<bool, AskFault>
-    ensures { Reads result (spec.accepts_incomplete_in query.now) }
+    ensures { Meets result (spec.accepts_incomplete_in query.now) }
 {
-    match value_of(alloc, "accepts_incomplete", query)? {
+    match query_value(alloc, "accepts_incomplete", query)? {
         None => Ok(false),
         Some(text) => {
             if text.as_str() == "true" {
@@ -45,10 +49,10 @@ pub(crate) fn accepts_incomplete_in(alloc: Global, query: &[u8]) -> Result<bool,
 }
 
 /// The id of that name, which has to be there.
-pub(crate) fn id_in(alloc: Global, name: &str, query: &[u8]) -> Result<Id, AskFault>
-    ensures { Reads result (spec.id_in name.now query.now) }
+pub(crate) fn query_id(alloc: Global, name: &str, query: &[u8]) -> Result<Id, AskFault>
+    ensures { Meets result (spec.query_id name.now query.now) }
 {
-    match value_of(alloc, name, query)? {
+    match query_value(alloc, name, query)? {
         None => Err(AskFault::Query),
         Some(text) => id_or(AskFault::Query, text),
     }
@@ -69,8 +73,8 @@ pub(crate) fn id_unless_empty(fault: AskFault, text: Option<Text>) -> Result<Opt
 
 /// The id after which orders are listed.
 pub(crate) fn after_in(alloc: Global, query: &[u8]) -> Result<Option<Id>, AskFault>
-    ensures { Reads result (spec.after_in query.now) }
+    ensures { Meets result (spec.after_in query.now) }
 {
-    let after = value_of(alloc, "after", query)?;
+    let after = query_value(alloc, "after", query)?;
     id_unless_empty(AskFault::Query, after)
 }

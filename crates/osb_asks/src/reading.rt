@@ -4,10 +4,10 @@ ghost use Rattle.std.specs.Prelude.{◌≡◌, true, Ok, IfOk};
 ghost use Rattle.osb_frames.specs.Steps.{message};
 ghost use Rattle.osb_catalog.specs.Rules.{rules_of};
 ghost use Rattle.osb_asks.specs.Asks as spec;
-ghost use Rattle.osb_asks.specs.Reads.{Reads};
+ghost use Rattle.osb_asks.specs.Reads.{Meets};
 ghost use Rattle.osb_asks.specs.Routes as routes;
 ghost use Rattle.osb_asks.specs.Seen.{seen_route};
-ghost use Rattle.osb_asks.specs.Worded.{IsWorded, IsOffered};
+ghost use Rattle.osb_asks.specs.ValidTexts.{AskHasValidTexts, IsOffered};
 
 use crate::admission::admit;
 use crate::ask::Ask;
@@ -29,7 +29,7 @@ fn ask_at(
     body: &[u8],
     settings: &Settings,
 ) -> Result<Ask, AskFault>
-    ensures reads { Reads result (spec.ask_at (rules_of settings.now) query.now body.now (seen_route route.entry)) }
+    ensures reads { Meets result (spec.ask_at (rules_of settings.now) query.now body.now (seen_route route.entry)) }
     ensures catalog { seen_route route.entry ≡ routes.Catalog → result ≡ Ok Ask.Catalog }
 {
     match route {
@@ -54,10 +54,10 @@ fn ask_at(
 /// for the catalog, take none.
 #[tactic(auto, using(crate::proofs::AskLemmas::early_is_catalog))]
 pub fn read_ask(alloc: Global, request: &Request<'_>, settings: &Settings) -> Result<Ask, AskFault>
-    ensures reads { Reads result (spec.ask_of (rules_of settings.now) (message request.now)) }
+    ensures reads { Meets result (spec.ask_of (rules_of settings.now) (message request.now)) }
     ensures early { let found = spec.ask_of (rules_of settings.now) (message request.now) in
         spec.is_early found ≡ true → result ≡ found }
-    ensures worded { IfOk result IsWorded }
+    ensures valid_texts { IfOk result AskHasValidTexts }
     ensures offered { IfOk result (IsOffered (rules_of settings.now)) }
 {
     let route = admit(request, settings)?;

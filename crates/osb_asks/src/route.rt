@@ -2,9 +2,9 @@
 
 ghost use Rattle.std.specs.Prelude.{◌≡◌, option_map};
 ghost use Rattle.osb_asks.specs.Routes as spec;
-ghost use Rattle.osb_asks.specs.Seen.{seen_place, seen_route};
+ghost use Rattle.osb_asks.specs.Seen.{seen_resource, seen_route};
 
-use crate::place::Place;
+use crate::resource::Resource;
 
 /// A method that some route has.
 #[derive(Clone, Copy, Debug, PartialEq, Eq)]
@@ -50,22 +50,24 @@ pub(crate) fn method_of(name: &[u8]) -> Option<Method>
 }
 
 /// The route of a method and a place.
-pub(crate) fn route_at(method: Method, place: Place<'_>) -> Option<Route<'_>>
-    ensures { option_map seen_route result ≡ spec.route_at method (seen_place place.entry) }
+pub(crate) fn route_at(method: Method, place: Resource<'_>) -> Option<Route<'_>>
+    ensures { option_map seen_route result ≡ spec.route_at method (seen_resource place.entry) }
 {
     match (method, place) {
-        (Method::Get, Place::Catalog) => Some(Route::Catalog),
-        (Method::Put, Place::Instance(id)) => Some(Route::Provision(id)),
-        (Method::Get, Place::Instance(id)) => Some(Route::Fetch(id)),
-        (Method::Patch, Place::Instance(id)) => Some(Route::Update(id)),
-        (Method::Delete, Place::Instance(id)) => Some(Route::Deprovision(id)),
-        (Method::Get, Place::InstanceOperation(id)) => Some(Route::InstanceOp(id)),
-        (Method::Put, Place::Binding(id, binding)) => Some(Route::Bind(id, binding)),
-        (Method::Get, Place::Binding(id, binding)) => Some(Route::FetchBinding(id, binding)),
-        (Method::Delete, Place::Binding(id, binding)) => Some(Route::Unbind(id, binding)),
-        (Method::Get, Place::BindingOperation(id, binding)) => Some(Route::BindingOp(id, binding)),
-        (Method::Get, Place::Orders) => Some(Route::Orders),
-        (Method::Put, Place::Order(id, number)) => Some(Route::Report(id, number)),
+        (Method::Get, Resource::Catalog) => Some(Route::Catalog),
+        (Method::Put, Resource::Instance(id)) => Some(Route::Provision(id)),
+        (Method::Get, Resource::Instance(id)) => Some(Route::Fetch(id)),
+        (Method::Patch, Resource::Instance(id)) => Some(Route::Update(id)),
+        (Method::Delete, Resource::Instance(id)) => Some(Route::Deprovision(id)),
+        (Method::Get, Resource::InstanceOperation(id)) => Some(Route::InstanceOp(id)),
+        (Method::Put, Resource::Binding(id, binding)) => Some(Route::Bind(id, binding)),
+        (Method::Get, Resource::Binding(id, binding)) => Some(Route::FetchBinding(id, binding)),
+        (Method::Delete, Resource::Binding(id, binding)) => Some(Route::Unbind(id, binding)),
+        (Method::Get, Resource::BindingOperation(id, binding)) => Some(Route::BindingOp(
+            id, binding,
+        )),
+        (Method::Get, Resource::Orders) => Some(Route::Orders),
+        (Method::Put, Resource::Order(id, number)) => Some(Route::Report(id, number)),
         _ => None,
     }
 }

@@ -2,7 +2,7 @@
 
 ghost use Rattle.std.specs.Prelude.{◌≡◌};
 ghost use Rattle.osb_asks.specs.Ids as spec;
-ghost use Rattle.osb_asks.specs.Reads.{Reads};
+ghost use Rattle.osb_asks.specs.Reads.{Meets};
 
 use crate::ask_fault::AskFault;
 use crate::id::Id;
@@ -24,7 +24,7 @@ pub(crate) fn id_or(fault: AskFault, text: Text) -> Result<Id, AskFault>
 /// The id that a segment of a path stands for, decoded once.
 #[tactic(auto, using(crate::proofs::SegmentLemmas::utf8_test, crate::proofs::SegmentLemmas::no_utf8))]
 pub(crate) fn read_id(alloc: Global, segment: &[u8]) -> Result<Id, AskFault>
-    ensures { Reads result (spec.id_of segment.now) }
+    ensures { Meets result (spec.id_of segment.now) }
 {
     let text = match percent_decode(segment).decode_utf8(alloc) {
         Ok(text) => text,
@@ -35,17 +35,17 @@ pub(crate) fn read_id(alloc: Global, segment: &[u8]) -> Result<Id, AskFault>
 }
 
 /// Whether the segment is 1 to 7 digits that don't begin with a 0.
-fn is_number(segment: &[u8]) -> bool
-    ensures { result ≡ spec.is_number segment.now }
+fn is_order_number(segment: &[u8]) -> bool
+    ensures { result ≡ spec.is_order_number segment.now }
 {
     !segment.is_empty() && segment.len() <= 7 && segment[0] != b'0' && are_digits(segment)
 }
 
 /// The number of an order, which isn't decoded.
 pub(crate) fn read_number(segment: &[u8]) -> Result<u32, AskFault>
-    ensures { result ≡ spec.number_of segment.now }
+    ensures { result ≡ spec.order_number_of segment.now }
 {
-    if !is_number(segment) {
+    if !is_order_number(segment) {
         return Err(AskFault::Id);
     }
     let Ok(digits) = str::from_utf8(segment) else {

@@ -3,7 +3,7 @@
 ghost use Rattle.std.specs.Prelude.{◌≡◌, take, drop};
 ghost use Rattle.std.specs.List.{list_all};
 ghost use Rattle.std.specs.Char.{is_ascii_digit};
-ghost use Rattle.osb_asks.specs.Versions.{is_version, is_minor};
+ghost use Rattle.osb_asks.specs.Versions.{is_api_version, is_minor};
 
 pub(crate) fn are_digits(bytes: &[u8]) -> bool
     ensures { result ≡ list_all is_ascii_digit bytes.now }
@@ -22,8 +22,8 @@ fn is_minor(digits: &[u8]) -> bool
 }
 
 /// Whether the value names a version 2 of the API.
-pub(crate) fn is_version(value: &[u8]) -> bool
-    ensures { result ≡ is_version value.now }
+pub(crate) fn is_api_version(value: &[u8]) -> bool
+    ensures { result ≡ is_api_version value.now }
 {
     match value {
         [b'2', b'.', minor @ ..] => is_minor(minor),

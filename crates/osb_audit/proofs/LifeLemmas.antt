@@ -11,7 +11,7 @@ use Rattle.osb_orders.specs.declared.order.Change.TheVariants.{Append}
 use Rattle.osb_orders.specs.Lists.{last_of}
 use Rattle.osb_orders.specs.Orders.{is_a, is_now}
 use Rattle.osb_orders.specs.Life.{Life, since_birth, standing_since}
-use Rattle.osb_orders.specs.IsLife.{is_empty, is_absent, ends_running, IsNext, IsLifeAfter, IsWorded, IsLife}
+use Rattle.osb_orders.specs.IsLife.{is_empty, is_absent, ends_running, IsNext, IsLifeAfter, HasValidTexts, IsLife}
 use Rattle.osb_orders.specs.Allowed.{IsAppendable}
 use Rattle.osb_orders.proofs.GrowLemmas.{last_of-push}
 use Rattle.osb_standing.specs.declared.row.InstanceRow.{InstanceRow}
@@ -54,9 +54,9 @@ after_push : (done later : Life) (order : Order) → IsLifeAfter done later → 
 after_push done [] order h next = (subst (λ (life : Life). IsNext life order) (append-nil done) next, tt)
 after_push done (first ∷ later) order h next = (h.0, after_push (done ++ first ∷ []) later order h.1 (subst (λ (life : Life). IsNext life order) (sym (append_assoc done (first ∷ []) later)) next))
 
-all_push : (life : Life) (order : Order) → AllByRecursion IsWorded life → IsWorded order → AllByRecursion IsWorded (life ++ order ∷ [])
-all_push [] order h worded = (worded, tt)
-all_push (first ∷ life) order h worded = (h.0, all_push life order h.1 worded)
+all_push : (life : Life) (order : Order) → AllByRecursion HasValidTexts life → HasValidTexts order → AllByRecursion HasValidTexts (life ++ order ∷ [])
+all_push [] order h valid_texts = (valid_texts, tt)
+all_push (first ∷ life) order h valid_texts = (h.0, all_push life order h.1 valid_texts)
 
 pub life_push : (before : Life) (order : Order) → IsLife before → IsAppendable before order → IsLife (before ++ order ∷ [])
 life_push before order life next = record {
@@ -74,15 +74,15 @@ next_at : (done before later : Life) (order : Order) → IsLifeAfter done (befor
 next_at done [] later order h = subst (λ (life : Life). IsNext life order) (sym (append-nil done)) h.0
 next_at done (first ∷ before) later order h = subst (λ (life : Life). IsNext life order) (append_assoc done (first ∷ []) before) (next_at (done ++ first ∷ []) before later order h.1)
 
-worded_at : (before later : Life) (order : Order) → AllByRecursion IsWorded (before ++ order ∷ later) → IsWorded order
-worded_at [] later order h = h.0
-worded_at (first ∷ before) later order h = worded_at before later order h.1
+valid_texts_at : (before later : Life) (order : Order) → AllByRecursion HasValidTexts (before ++ order ∷ later) → HasValidTexts order
+valid_texts_at [] later order h = h.0
+valid_texts_at (first ∷ before) later order h = valid_texts_at before later order h.1
 
 pub appendable_at : (before later : Life) (order : Order) → IsLife (before ++ order ∷ later) → IsAppendable before order
 appendable_at before later order life = record {
   room = omega (arith, length-append before (order ∷ later), life.count);
   next = next_at [] before later order life.orders;
-  texts = worded_at before later order life.texts;
+  texts = valid_texts_at before later order life.texts;
 }
 
 pub orders_split : (entries : List Entry) (i : ℕ) (entry : Entry) → i < length entries → entry ≡ get_or entries i entry → orders_in entries ≡ orders_in (take i entries) ++ entry.1 ∷ orders_in (drop (i + 1) entries)

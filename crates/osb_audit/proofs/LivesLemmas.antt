@@ -14,7 +14,7 @@ use Rattle.osb_audit.specs.declared.entry.BindingEntry.{BindingEntry}
 use Rattle.osb_audit.specs.Orders.{Entry, is_of, lives_in}
 use Rattle.osb_audit.specs.Instances.{InstanceEntry, IsRowOf}
 use Rattle.osb_audit.specs.Bindings.{BindingsStand}
-use Rattle.osb_audit.specs.Audit.{Stand}
+use Rattle.osb_audit.specs.Audit.{AreConsistent}
 use Rattle.osb_audit.specs.Life.{orders_in}
 use Rattle.osb_audit.proofs.RunLemmas.{same_text}
 
@@ -27,7 +27,7 @@ abbrev pub opened : Life → Option Life
 opened [] = None
 opened (order ∷ life) = Some (order ∷ life)
 
-opened_back : (life : Life) → unwrap_or (opened life) [] ≡ life
+pub opened_back : (life : Life) → unwrap_or (opened life) [] ≡ life
 opened_back [] = refl
 opened_back (order ∷ life) = refl
 
@@ -57,14 +57,14 @@ pub record StandsAt (id : List ℕ) (life : Life) (instances : List InstanceEntr
   pub row : IsRowOf id (row_of life) instances
   pub bound : BindingsStand id life bindings
 
-pub stands_at : (orders : List Entry) (instances : List InstanceEntry) (bindings : List BindingEntry) → Stand orders instances bindings → (id : List ℕ) → StandsAt id (life_in id orders) instances bindings
+pub stands_at : (orders : List Entry) (instances : List InstanceEntry) (bindings : List BindingEntry) → AreConsistent orders instances bindings → (id : List ℕ) → StandsAt id (life_in id orders) instances bindings
 stands_at orders instances bindings stand id = record {
   instance = subst (λ (found : Option Life). IfSome found (IsInstance id)) (get_lives id orders) (stand.lives id);
   row = subst (λ (life : Life). IsRowOf id (row_of life) instances) (life_of_lives id orders) (stand.instances_stand id);
   bound = subst (λ (life : Life). BindingsStand id life bindings) (life_of_lives id orders) (stand.bindings_stand id);
 }
 
-pub stand_from : (orders : List Entry) (instances : List InstanceEntry) (bindings : List BindingEntry) → ((id : List ℕ) → StandsAt id (life_in id orders) instances bindings) → Stand orders instances bindings
+pub stand_from : (orders : List Entry) (instances : List InstanceEntry) (bindings : List BindingEntry) → ((id : List ℕ) → StandsAt id (life_in id orders) instances bindings) → AreConsistent orders instances bindings
 stand_from orders instances bindings each = record {
   lives = λ id. subst (λ (found : Option Life). IfSome found (IsInstance id)) (sym (get_lives id orders)) (each id).instance;
   instances_stand = λ id. subst (λ (life : Life). IsRowOf id (row_of life) instances) (sym (life_of_lives id orders)) (each id).row;

@@ -25,10 +25,11 @@ use Rattle.osb_orders.specs.Listing.{with_last, is_listed, listing}
 use Rattle.osb_orders.specs.IsLife.{IsInstance, IsLives}
 use Rattle.osb_standing.specs.declared.row.InstanceRow.{InstanceRow}
 use Rattle.osb_standing.specs.Rows.{row_by, row_of}
-use Rattle.osb_standing.specs.Listing.{with_row, instance_rows}
+use Rattle.osb_standing.specs.Listing.{with_its_row, instance_rows}
 use Rattle.osb_audit.specs.Orders.{Entry}
 use Rattle.osb_audit.specs.Instances.{InstanceEntry, instance_cmp, is_instance, InstancesStand}
-use Rattle.osb_audit.specs.Plans.{Pair, pair_in, pair_cmp, pairs_of, plans_in_use, pairs_in_row, pairs_in_order, pairs_in_rows, pairs_in_orders, Adds}
+use Rattle.osb_audit.specs.Plans.{Pair, pair_in, pair_cmp, pairs_of, plans_in_use}
+use Rattle.osb_audit.specs.Gathered.{pairs_in_row, pairs_in_order, pairs_in_rows, pairs_in_orders, Adds}
 use Rattle.osb_audit.proofs.RunLemmas.{by_bytes}
 use Rattle.osb_audit.proofs.LivesLemmas.{key_is}
 use Rattle.osb_audit.proofs.StandLemmas.{first_of, first_shown}
@@ -39,7 +40,7 @@ Lived = List ℕ × Life
 
 -- ---- tests of lists in order
 
-both : (a b : Bool) → T a → T b → T (a && b)
+pub both : (a b : Bool) → T a → T b → T (a && b)
 both true b p q = q
 both false b p q = p
 
@@ -83,21 +84,21 @@ are_instances lives h = all_instances lives (entries lives) h (finds_all (entrie
 
 -- ---- the rows of all instances, in the order of their ids
 
-find_rows : (q : List ℕ) (es : List Lived) → AreInstances es → find by_bytes q (filter_map with_row es) ≡ row_of (unwrap_or (find by_bytes q es) [])
+find_rows : (q : List ℕ) (es : List Lived) → AreInstances es → find by_bytes q (filter_map with_its_row es) ≡ row_of (unwrap_or (find by_bytes q es) [])
 find_rows q [] h = refl
 find_rows q ((id, []) ∷ es) h = absurd (h.0.opened refl)
 find_rows q ((id, order ∷ life) ∷ es) h = go (eq_by_cmp by_bytes q id) (find_rows q es h.1)
   where
-    go : (b : Bool) → find by_bytes q (filter_map with_row es) ≡ row_of (unwrap_or (find by_bytes q es) []) → cond b (row_of (order ∷ life)) (find by_bytes q (filter_map with_row es)) ≡ row_of (unwrap_or (cond b (Some (order ∷ life)) (find by_bytes q es)) [])
+    go : (b : Bool) → find by_bytes q (filter_map with_its_row es) ≡ row_of (unwrap_or (find by_bytes q es) []) → cond b (row_of (order ∷ life)) (find by_bytes q (filter_map with_its_row es)) ≡ row_of (unwrap_or (cond b (Some (order ∷ life)) (find by_bytes q es)) [])
     go true more = refl
     go false more = more
 
-below_rows : (id : List ℕ) (es : List Lived) → AreInstances es → T (below_all by_bytes id es) → T (below_all by_bytes id (filter_map with_row es))
+below_rows : (id : List ℕ) (es : List Lived) → AreInstances es → T (below_all by_bytes id es) → T (below_all by_bytes id (filter_map with_its_row es))
 below_rows id [] h s = tt
 below_rows id ((at, []) ∷ es) h s = absurd (h.0.opened refl)
 below_rows id ((at, order ∷ life) ∷ es) h s = both _ _ (left _ _ s) (below_rows id es h.1 (right _ _ s))
 
-sorted_rows : (es : List Lived) → AreInstances es → T (is_sorted by_bytes es) → T (is_sorted by_bytes (filter_map with_row es))
+sorted_rows : (es : List Lived) → AreInstances es → T (is_sorted by_bytes es) → T (is_sorted by_bytes (filter_map with_its_row es))
 sorted_rows [] h s = tt
 sorted_rows ((id, []) ∷ es) h s = absurd (h.0.opened refl)
 sorted_rows ((id, order ∷ life) ∷ es) h s = both _ _ (below_rows id es h.1 (left _ _ s)) (sorted_rows es h.1 (right _ _ s))
@@ -132,7 +133,7 @@ rows_are lives rows h rises stand =
 
 -- ---- the running orders of all instances
 
-as_many : (es : List Lived) → length (filter_map with_last es) ≡ length (filter_map with_row es)
+as_many : (es : List Lived) → length (filter_map with_last es) ≡ length (filter_map with_its_row es)
 as_many [] = refl
 as_many ((id, []) ∷ es) = as_many es
 as_many ((id, order ∷ life) ∷ es) = ap (λ n. suc n) (as_many es)
@@ -185,7 +186,7 @@ module _ (p : Pair → Bool) where
       go false e = ap (λ b. list_any p (map (λ (order : Order). pair_in order.attributes) (cond b (last ∷ []) [])) || list_any p (pairs_in_orders (filter (is_listed []) pairs))) (sym (ap (λ r. is_a Update last && r) e ∙ and_false (is_a Update last)))
 
   all_pairs : (es : List Lived) → AreInstances es →
-      list_any p (flat_map (λ (e : Lived). pairs_of e.1) es) ≡ (list_any p (pairs_in_orders (filter (is_listed []) (filter_map with_last es))) || list_any p (pairs_in_rows (filter_map with_row es)))
+      list_any p (flat_map (λ (e : Lived). pairs_of e.1) es) ≡ (list_any p (pairs_in_orders (filter (is_listed []) (filter_map with_last es))) || list_any p (pairs_in_rows (filter_map with_its_row es)))
   all_pairs [] h = refl
   all_pairs ((id, []) ∷ es) h = absurd (h.0.opened refl)
   all_pairs ((id, order ∷ life) ∷ es) h =
@@ -195,7 +196,7 @@ module _ (p : Pair → Bool) where
       ∙ ap (λ b. b || list_any p (flat_map (λ (e : Lived). pairs_of e.1) es)) (list_any-append p (pairs_in_row row) (pairs_in_order last))
       ∙ ap (λ b. (list_any p (pairs_in_row row) || updating last) || b) (all_pairs es h.1)
       ∙ shuffled (list_any p (pairs_in_row row)) (updating last) _ _
-      ∙ (λ i. sym (listed_more id last (filter_map with_last es) h.0.id) i || sym (list_any-append p (pairs_in_row row) (pairs_in_rows (filter_map with_row es))) i)
+      ∙ (λ i. sym (listed_more id last (filter_map with_last es) h.0.id) i || sym (list_any-append p (pairs_in_row row) (pairs_in_rows (filter_map with_its_row es))) i)
 
 -- what is gathered is the list of the lives
 pub gathered : (lives : Lives) (limit : ℕ) (instances : List InstanceEntry) (running : List Entry) (none standing all : BTreeSet Pair) → IsLives lives → IsStrictlySortedBy instance_cmp instances → InstancesStand lives instances → length instances ≤ limit → running ≡ listing lives [] limit →

@@ -10,7 +10,8 @@ use Rattle.std.proofs.lemmas.Cmp.{on_total, then_total}
 use Rattle.std.proofs.lemmas.List.{take_more}
 use Rattle.std.proofs.lemmas.List.Folds.{list_any-append}
 use Rattle.std.proofs.lemmas.Map.Lookups.{CmpEqualImpliesEq, exact_bytes, exact_pairs, btree_set_from_contains}
-use Rattle.osb_audit.specs.Plans.{Pair, pair_cmp, in_order, Adds}
+use Rattle.osb_audit.specs.Plans.{Pair, pair_cmp, in_order}
+use Rattle.osb_audit.specs.Gathered.{Adds}
 
 pairs_total : IsTotalOrder pair_cmp
 pairs_total = then_total (on_total (λ (pair : Pair). pair.0) nat_list_cmp_total) (on_total (λ (pair : Pair). pair.1) nat_list_cmp_total)

@@ -17,8 +17,8 @@ use Rattle.osb_audit.specs.Orders.{Entry, entry_cmp, is_of}
 use Rattle.osb_audit.specs.Instances.{InstanceEntry, instance_cmp, is_instance}
 use Rattle.osb_audit.specs.Bindings.{binding_entry, binding_cmp, is_bound}
 use Rattle.osb_audit.specs.Runs.{run, past}
-use Rattle.osb_audit.specs.Audit.{Rise, Stand}
-use Rattle.osb_audit.specs.Life.{orders_in, StandsAlone}
+use Rattle.osb_audit.specs.Audit.{AreSorted, AreConsistent}
+use Rattle.osb_audit.specs.Life.{orders_in, IsConsistentAlone}
 use Rattle.std.proofs.lemmas.List.{nil_from_length}
 use Rattle.osb_audit.proofs.TreeLemmas.{through, zero_is}
 use Rattle.osb_audit.proofs.RunLemmas.{same_text, text_itself, by_bytes, UpTo, not_itself, first_up, past_rises, others_past, run_first, Begins, none_past, climbs}
@@ -146,7 +146,7 @@ module _ (id : List ℕ) (row : InstanceRow) (rows : List InstanceEntry) (orders
   other_bound : (q : List ℕ) → bytes_eq id q ≡ false → filter (is_bound q) others ≡ filter (is_bound q) bindings
   other_bound q other = others_past binding_key id q other bindings
 
-  module _ (alone : StandsAlone id row (orders_in life) bound) (none_rows : filter (is_instance id) rows ≡ []) (rest : Stand later rows others) where
+  module _ (alone : IsConsistentAlone id row (orders_in life) bound) (none_rows : filter (is_instance id) rows ≡ []) (rest : AreConsistent later rows others) where
     -- nothing of the first instance is left
     rest_at : StandsAt id (life_in id later) rows others
     rest_at = stands_at later rows others rest id
@@ -171,10 +171,10 @@ module _ (id : List ℕ) (row : InstanceRow) (rows : List InstanceEntry) (orders
     joined_at q true e = subst (λ (q : List ℕ). StandsAt q (life_in q orders) ((id, row) ∷ rows) bindings) (same_text id q e) here
     joined_at q false e = moved q (life_in q later) (life_in q orders) rows ((id, row) ∷ rows) others bindings (other_life q e) (sym (other_rows q e)) (other_bound q e) (stands_at later rows others rest q)
 
-    pub joined : Stand orders ((id, row) ∷ rows) bindings
+    pub joined : AreConsistent orders ((id, row) ∷ rows) bindings
     joined = stand_from orders ((id, row) ∷ rows) bindings (λ q. joined_at q (bytes_eq id q) refl)
 
-  module _ (rises : Rise orders ((id, row) ∷ rows) bindings) (whole : Stand orders ((id, row) ∷ rows) bindings) where
+  module _ (rises : AreSorted orders ((id, row) ∷ rows) bindings) (whole : AreConsistent orders ((id, row) ∷ rows) bindings) where
     whole_at : (q : List ℕ) → StandsAt q (life_in q orders) ((id, row) ∷ rows) bindings
     whole_at = stands_at orders ((id, row) ∷ rows) bindings whole
 
@@ -203,7 +203,7 @@ module _ (id : List ℕ) (row : InstanceRow) (rows : List InstanceEntry) (orders
     instance : IsInstance id (life_in id orders)
     instance = instance_from id row (life_in id orders) row_is (whole_at id).instance
 
-    pub alone : StandsAlone id row (orders_in life) bound
+    pub alone : IsConsistentAlone id row (orders_in life) bound
     alone = record {
       named = instance.id;
       is_life = subst IsLife its_life instance.life;
@@ -216,22 +216,22 @@ module _ (id : List ℕ) (row : InstanceRow) (rows : List InstanceEntry) (orders
         (subst (λ (life : Life). StandsAt id life rows others) (sym (ap orders_in none_later)) (nothing_at id rows others (none_after id rows all_after) none_others))
     left_at q false e = moved q (life_in q orders) (life_in q later) ((id, row) ∷ rows) rows bindings others (sym (other_life q e)) (other_rows q e) (sym (other_bound q e)) (whole_at q)
 
-    pub left : Stand later rows others
+    pub left : AreConsistent later rows others
     left = stand_from later rows others (λ q. left_at q (bytes_eq id q) refl)
 
-  pub rises_on : Rise orders ((id, row) ∷ rows) bindings → Rise later rows others
+  pub rises_on : AreSorted orders ((id, row) ∷ rows) bindings → AreSorted later rows others
   rises_on rises = record {
     orders_rise = past_rises (is_of id) entry_cmp orders rises.orders_rise;
     instances_rise = sorted_tail instance_cmp (id, row) rows rises.instances_rise;
     bindings_rise = past_rises (is_bound id) binding_cmp bindings rises.bindings_rise;
   }
 
-  pub without_first : Rise orders ((id, row) ∷ rows) bindings → StandsAlone id row (orders_in life) bound → Stand later rows others ↔ Stand orders ((id, row) ∷ rows) bindings
+  pub without_first : AreSorted orders ((id, row) ∷ rows) bindings → IsConsistentAlone id row (orders_in life) bound → AreConsistent later rows others ↔ AreConsistent orders ((id, row) ∷ rows) bindings
   without_first rises alone = (joined alone (none_after id rows (sorted_head instance_cmp (id, row) rows rises.instances_rise)), left rises)
 
 -- ---- no instance
 
-pub no_instances : (orders : List Entry) (bindings : List BindingEntry) → Stand orders [] bindings → (orders ≡ []) × (bindings ≡ [])
+pub no_instances : (orders : List Entry) (bindings : List BindingEntry) → AreConsistent orders [] bindings → (orders ≡ []) × (bindings ≡ [])
 no_instances orders bindings stand = (none_of orders (λ id. no_row id (life_in id orders) (at id).row), unbound bindings (λ id. (at id).bound ∙ ap (λ (life : Life). map (binding_entry id) (entries (bindings_of life))) (no_row id (life_in id orders) (at id).row) ∙ no_rows id))
   where
     at : (id : List ℕ) → StandsAt id (life_in id orders) [] bindings
@@ -245,35 +245,35 @@ no_instances orders bindings stand = (none_of orders (λ id. no_row id (life_in 
     unbound [] none = refl
     unbound (entry ∷ bindings) none = let e = ap (λ b. cond b (entry ∷ filter (is_bound entry.instance) bindings) (filter (is_bound entry.instance) bindings)) (text_itself entry.instance) in let f = sym e ∙ none entry.instance in cc
 
-pub nothing_stands : Stand [] [] []
+pub nothing_stands : AreConsistent [] [] []
 nothing_stands = stand_from [] [] [] (λ id. nothing_at id [] [] refl refl)
 
 -- ---- in the loop
 
 module _ (id : List ℕ) (row : InstanceRow) (rows entries : List InstanceEntry) (is : entries ≡ (id, row) ∷ rows) (orders life later : List Entry) (bindings bound others : List BindingEntry)
     (is_life : life ≡ run (is_of id) orders) (is_later : later ≡ past (is_of id) orders) (is_bound_run : bound ≡ run (is_bound id) bindings) (is_others : others ≡ past (is_bound id) bindings) {W : Type 0}
-    (so_far : Rise orders entries bindings × (Stand orders entries bindings ↔ W)) where
-  rises_first : Rise orders ((id, row) ∷ rows) bindings
-  rises_first = subst (λ (entries : List InstanceEntry). Rise orders entries bindings) is so_far.0
+    (so_far : AreSorted orders entries bindings × (AreConsistent orders entries bindings ↔ W)) where
+  rises_first : AreSorted orders ((id, row) ∷ rows) bindings
+  rises_first = subst (λ (entries : List InstanceEntry). AreSorted orders entries bindings) is so_far.0
 
-  whole_first : Stand orders ((id, row) ∷ rows) bindings ↔ W
-  whole_first = subst (λ (entries : List InstanceEntry). Stand orders entries bindings ↔ W) is so_far.1
+  whole_first : AreConsistent orders ((id, row) ∷ rows) bindings ↔ W
+  whole_first = subst (λ (entries : List InstanceEntry). AreConsistent orders entries bindings ↔ W) is so_far.1
 
-  pub stepped : StandsAlone id row (orders_in life) bound → Rise later rows others × (Stand later rows others ↔ W)
+  pub stepped : IsConsistentAlone id row (orders_in life) bound → AreSorted later rows others × (AreConsistent later rows others ↔ W)
   stepped stands =
-      let by_itself = subst (λ (bound : List BindingEntry). StandsAlone id row (orders_in (run (is_of id) orders)) bound) is_bound_run (subst (λ (life : List Entry). StandsAlone id row (orders_in life) bound) is_life stands) in
-      subst (λ (later : List Entry). Rise later rows others × (Stand later rows others ↔ W)) (sym is_later)
-      (subst (λ (others : List BindingEntry). Rise (past (is_of id) orders) rows others × (Stand (past (is_of id) orders) rows others ↔ W)) (sym is_others)
+      let by_itself = subst (λ (bound : List BindingEntry). IsConsistentAlone id row (orders_in (run (is_of id) orders)) bound) is_bound_run (subst (λ (life : List Entry). IsConsistentAlone id row (orders_in life) bound) is_life stands) in
+      subst (λ (later : List Entry). AreSorted later rows others × (AreConsistent later rows others ↔ W)) (sym is_later)
+      (subst (λ (others : List BindingEntry). AreSorted (past (is_of id) orders) rows others × (AreConsistent (past (is_of id) orders) rows others ↔ W)) (sym is_others)
       (rises_on id row rows orders bindings rises_first, through (without_first id row rows orders bindings rises_first by_itself) whole_first))
 
-  pub stopped : (StandsAlone id row (orders_in life) bound → ⊥) → W → ⊥
+  pub stopped : (IsConsistentAlone id row (orders_in life) bound → ⊥) → W → ⊥
   stopped falls w =
       let by_itself = alone id row rows orders bindings rises_first (whole_first.1 w) in
-      falls (subst (λ (life : List Entry). StandsAlone id row (orders_in life) bound) (sym is_life) (subst (λ (bound : List BindingEntry). StandsAlone id row (orders_in (run (is_of id) orders)) bound) (sym is_bound_run) by_itself))
+      falls (subst (λ (life : List Entry). IsConsistentAlone id row (orders_in life) bound) (sym is_life) (subst (λ (bound : List BindingEntry). IsConsistentAlone id row (orders_in (run (is_of id) orders)) bound) (sym is_bound_run) by_itself))
 
-module _ (entries : List InstanceEntry) (is : entries ≡ []) (orders : List Entry) (bindings : List BindingEntry) {W : Type 0} (so_far : Stand orders entries bindings ↔ W) where
-  whole_last : Stand orders [] bindings ↔ W
-  whole_last = subst (λ (entries : List InstanceEntry). Stand orders entries bindings ↔ W) is so_far
+module _ (entries : List InstanceEntry) (is : entries ≡ []) (orders : List Entry) (bindings : List BindingEntry) {W : Type 0} (so_far : AreConsistent orders entries bindings ↔ W) where
+  whole_last : AreConsistent orders [] bindings ↔ W
+  whole_last = subst (λ (entries : List InstanceEntry). AreConsistent orders entries bindings ↔ W) is so_far
 
   pub orders_left : (length orders == 0) ≡ false → W → ⊥
   orders_left some w = let none : (length orders == 0) ≡ true = ap (λ (orders : List Entry). length orders == 0) (no_instances orders bindings (whole_last.1 w)).0 in let e = sym some ∙ none in cc
@@ -283,6 +283,6 @@ module _ (entries : List InstanceEntry) (is : entries ≡ []) (orders : List Ent
     λ e.
         let no_order : orders ≡ [] = nil_from_length orders (zero_is (length orders) none) in
         let no_binding : bindings ≡ [] = nil_from_length bindings (zero_is (length bindings) (sym told ∙ e)) in
-        whole_last.0 (subst (λ (orders : List Entry). Stand orders [] bindings) (sym no_order) (subst (λ (bindings : List BindingEntry). Stand [] [] bindings) (sym no_binding) nothing_stands)),
+        whole_last.0 (subst (λ (orders : List Entry). AreConsistent orders [] bindings) (sym no_order) (subst (λ (bindings : List BindingEntry). AreConsistent [] [] bindings) (sym no_binding) nothing_stands)),
     λ w. told ∙ ap (λ (bindings : List BindingEntry). length bindings == 0) (no_instances orders bindings (whole_last.1 w)).1,
   )

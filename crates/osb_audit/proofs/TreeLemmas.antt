@@ -13,7 +13,7 @@ use Rattle.std.specs.FinMap.{find, is_sorted, insert, remove, empty, entries, en
 use Rattle.std.specs.FinMap.Entries.{below_all, same_entries}
 use Rattle.osb_orders.specs.declared.view.BindingNow.{BindingNow}
 use Rattle.osb_standing.specs.Rows.{Bindings}
-use Rattle.osb_audit.specs.Life.{Holds}
+use Rattle.osb_audit.specs.Life.{LooksUpAs}
 
 abbrev by_bytes : List ℕ → List ℕ → Ordering
 by_bytes = slice_cmp nat_cmp
@@ -24,14 +24,14 @@ Tree = tree.BTreeMap (List ℕ) BindingNow
 back : (a b : List ℕ) → eq_by_cmp by_bytes a b ≡ eq_by_cmp by_bytes b a
 back = (eq_by_cmp_equiv nat_list_cmp_total).symm
 
-module _ (rows : Bindings) (old new : Tree) (id : List ℕ) (held : Holds rows old) where
-  pub holds_put : (key : List ℕ) (binding : BindingNow) → key ≡ id → ((q : List ℕ) → tree.get by_bytes new q ≡ cond (eq_by_cmp by_bytes key q) (Some binding) (tree.get by_bytes old q)) → Holds (insert rows id binding) new
+module _ (rows : Bindings) (old new : Tree) (id : List ℕ) (held : LooksUpAs rows old) where
+  pub holds_put : (key : List ℕ) (binding : BindingNow) → key ≡ id → ((q : List ℕ) → tree.get by_bytes new q ≡ cond (eq_by_cmp by_bytes key q) (Some binding) (tree.get by_bytes old q)) → LooksUpAs (insert rows id binding) new
   holds_put key binding same does q = does q ∙ (λ i. cond ((ap (λ (k : List ℕ). eq_by_cmp by_bytes k q) same ∙ back id q) i) (Some binding) (held q i)) ∙ sym (get-insert nat_list_cmp_total rows id binding q)
 
-  pub holds_removed : ((q : List ℕ) → tree.get by_bytes new q ≡ cond (eq_by_cmp by_bytes id q) None (tree.get by_bytes old q)) → Holds (remove rows id) new
+  pub holds_removed : ((q : List ℕ) → tree.get by_bytes new q ≡ cond (eq_by_cmp by_bytes id q) None (tree.get by_bytes old q)) → LooksUpAs (remove rows id) new
   holds_removed does q = does q ∙ (λ i. cond (back id q i) None (held q i)) ∙ sym (get-remove nat_list_cmp_total rows id q)
 
-pub holds_none : (new : Tree) → new.entries ≡ [] → Holds empty new
+pub holds_none : (new : Tree) → new.entries ≡ [] → LooksUpAs empty new
 holds_none new none q = ap (lookup (tree.is_at (by_bytes q))) none ∙ sym (get-empty by_bytes q)
 
 -- ---- the entries
@@ -54,7 +54,7 @@ sorted [] h = tt
 sorted (e ∷ es) h = both _ _ (below e.0 es h.0) (sorted es h.1)
 
 -- the tree's entries are those of the rows
-pub entries_held : (rows : Bindings) (bindings : Tree) → Holds rows bindings → IsStrictlySortedBy by_bytes (keys_of bindings.entries) → bindings.entries ≡ entries rows
+pub entries_held : (rows : Bindings) (bindings : Tree) → LooksUpAs rows bindings → IsStrictlySortedBy by_bytes (keys_of bindings.entries) → bindings.entries ≡ entries rows
 entries_held rows bindings held h =
     sym (same_entries by_bytes nat_list_cmp_total (slice_cmp-IsAntisymmetric nat_cmp-IsAntisymmetric) (entries rows) bindings.entries (entries_sorted rows) (sorted bindings.entries h) (λ q.
     sym (get-entries rows q) ∙ sym (held q) ∙ sym (found q bindings.entries)))

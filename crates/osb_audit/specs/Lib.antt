@@ -9,5 +9,6 @@ pub mod Bindings
 pub mod Plans
 pub mod Counts
 -- For contracts inside the crate.
+pub mod Gathered
 pub mod Life
 pub mod Runs

@@ -1,12 +1,12 @@
 -- The plans that are in use (this project's own).
-use Rattle.std.specs.Prelude.{ℕ, ◌≡◌, ◌&&◌, ◌||◌, Bool, List, [], ◌∷◌, ◌++◌, map, filter}
-use Rattle.std.specs.List.{list_any, flat_map}
+use Rattle.std.specs.Prelude.{ℕ, ◌&&◌, Bool, List, [], ◌∷◌, ◌++◌, map, filter}
+use Rattle.std.specs.List.{flat_map}
 use Rattle.std.specs.Option.{option_to_list}
 use Rattle.std.specs.declared.cmp.Ordering.{Ordering}
-use Rattle.std.specs.Ordering.{nat_cmp, ordering_then, eq_by_cmp}
+use Rattle.std.specs.Ordering.{nat_cmp, ordering_then}
 use Rattle.std.specs.Cmp.Lexicographic.{slice_cmp}
 use Rattle.std.specs.FinMap.{entries}
-use Rattle.std.specs.BTreeSet.{BTreeSet, insert_key, contains}
+use Rattle.std.specs.BTreeSet.{insert_key}
 use Rattle.osb_orders.specs.declared.order.OrderKind.TheVariants.{Update}
 use Rattle.osb_orders.specs.declared.order.OrderState.TheVariants.{Running}
 use Rattle.osb_orders.specs.declared.order.Attributes.{Attributes}
@@ -16,9 +16,6 @@ use Rattle.osb_orders.specs.Lists.{last_of}
 use Rattle.osb_orders.specs.Orders.{is_a, is_now}
 use Rattle.osb_orders.specs.Life.{Life, standing_of}
 use Rattle.osb_orders.specs.Lives.{Lives}
-use Rattle.osb_standing.specs.declared.row.InstanceRow.{InstanceRow}
-use Rattle.osb_audit.specs.Orders.{Entry}
-use Rattle.osb_audit.specs.Instances.{InstanceEntry}
 
 -- a service and a plan
 abbrev pub Pair : Type 0
@@ -50,19 +47,3 @@ abbrev pub plans_in_use : Lives → List Pair
 plans_in_use lives = in_order (flat_map (λ (entry : List ℕ × Life). pairs_of entry.1) (entries lives))
 
 -- ---- as they are gathered
-
-abbrev pub pairs_in_row : InstanceRow → List Pair
-pairs_in_row row = map (λ (standing : Standing). pair_in standing.attributes) (option_to_list row.standing)
-
-abbrev pub pairs_in_order : Order → List Pair
-pairs_in_order order = map (λ (order : Order). pair_in order.attributes) (filter is_running_update (order ∷ []))
-
-abbrev pub pairs_in_rows : List InstanceEntry → List Pair
-pairs_in_rows instances = flat_map (λ (entry : InstanceEntry). pairs_in_row entry.1) instances
-
-abbrev pub pairs_in_orders : List Entry → List Pair
-pairs_in_orders orders = flat_map (λ (entry : Entry). pairs_in_order entry.1) orders
-
--- the pairs are in the set now, beside those that were
-abbrev pub Adds : List Pair → BTreeSet Pair → BTreeSet Pair → Type 0
-Adds pairs old new = (pair : Pair) → contains pair_cmp new pair ≡ (list_any (eq_by_cmp pair_cmp pair) pairs || contains pair_cmp old pair)

@@ -5,10 +5,10 @@ ghost use Rattle.std.specs.List.{take_while};
 ghost use Rattle.osb_audit.specs.Orders.{is_of};
 ghost use Rattle.osb_audit.specs.Bindings.{is_bound};
 ghost use Rattle.osb_audit.specs.Runs.{run, past};
-ghost use Rattle.osb_audit.specs.Audit.{Rise, Stand, AreRowsOfLives};
+ghost use Rattle.osb_audit.specs.Audit.{AreSorted, AreConsistent, AreRowsOfLives};
 
 use crate::entry::BindingEntry;
-use crate::life::is_standing;
+use crate::life::is_consistent;
 use crate::rising::{bindings_rise, instances_rise, orders_rise};
 use osb_orders::Order;
 use osb_standing::InstanceRow;
@@ -36,7 +36,7 @@ fn rise(
     instances: &[(Text, InstanceRow)],
     bindings: &[BindingEntry],
 ) -> bool
-    ensures { (result ≡ true) ↔ Rise orders.now instances.now bindings.now }
+    ensures { (result ≡ true) ↔ AreSorted orders.now instances.now bindings.now }
 {
     orders_rise(orders) && instances_rise(instances) && bindings_rise(bindings)
 }
@@ -48,14 +48,14 @@ fn stand(
     instances: &[(Text, InstanceRow)],
     bindings: &[BindingEntry],
 ) -> Result<bool, AllocError>
-    ensures { Rise orders.now instances.now bindings.now → IfOk result (λ yes. (yes ≡ true) ↔ Stand orders.now instances.now bindings.now) }
+    ensures { AreSorted orders.now instances.now bindings.now → IfOk result (λ yes. (yes ≡ true) ↔ AreConsistent orders.now instances.now bindings.now) }
 {
     let mut later = orders;
     let mut others = bindings;
     for (id, row) in instances {
         let life = orders_of(id, later);
         let bound = bindings_of(id, others);
-        if !is_standing(alloc, id, row, life.0, bound.0)? {
+        if !is_consistent(alloc, id, row, life.0, bound.0)? {
             return Ok(false);
         }
         later = life.1;

@@ -5,7 +5,7 @@ ghost use Rattle.std.specs.FinMap.{insert, remove, entries};
 ghost use Rattle.osb_standing.specs.Rows.{Bindings};
 ghost use Rattle.osb_standing.specs.Binding.{edited};
 ghost use Rattle.osb_audit.specs.Bindings.{binding_entry};
-ghost use Rattle.osb_audit.specs.Life.{Holds};
+ghost use Rattle.osb_audit.specs.Life.{LooksUpAs};
 
 use crate::entry::BindingEntry;
 use osb_orders::BindingNow;
@@ -20,7 +20,7 @@ pub(crate) fn apply(
     edit: BindingEdit,
     id: &Text,
 ) -> Result<(), AllocError>
-    ensures { (rows : Bindings) → Holds rows bindings.old → OnOk result (Holds (edited edit id.now rows) bindings.new) }
+    ensures { (rows : Bindings) → LooksUpAs rows bindings.old → OnOk result (LooksUpAs (edited edit id.now rows) bindings.new) }
 {
     match edit {
         BindingEdit::Keep => Ok(()),
@@ -41,7 +41,7 @@ fn put(
     id: &Text,
     binding: BindingNow,
 ) -> Result<(), AllocError>
-    ensures { (rows : Bindings) → Holds rows bindings.old → OnOk result (Holds (insert rows id.now binding) bindings.new) }
+    ensures { (rows : Bindings) → LooksUpAs rows bindings.old → OnOk result (LooksUpAs (insert rows id.now binding) bindings.new) }
 {
     let key = id.clone()?;
     bindings.insert(key, binding)?;
@@ -49,7 +49,7 @@ fn put(
 }
 
 fn remove(bindings: &mut BTreeMap<Text, BindingNow>, id: &Text)
-    ensures { (rows : Bindings) → Holds rows bindings.old → Holds (remove rows id.now) bindings.new }
+    ensures { (rows : Bindings) → LooksUpAs rows bindings.old → LooksUpAs (remove rows id.now) bindings.new }
 {
     bindings.remove(id);
 }
@@ -60,7 +60,7 @@ pub(crate) fn are_bindings(
     bindings: &BTreeMap<Text, BindingNow>,
     bound: &[BindingEntry],
 ) -> bool
-    ensures { (rows : Bindings) → Holds rows bindings.now → (result ≡ true) ↔ (bound.now ≡ map (binding_entry instance.now) (entries rows)) }
+    ensures { (rows : Bindings) → LooksUpAs rows bindings.now → (result ≡ true) ↔ (bound.now ≡ map (binding_entry instance.now) (entries rows)) }
 {
     let mut left = bound;
     for (id, binding) in bindings {

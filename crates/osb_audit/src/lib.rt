@@ -8,7 +8,7 @@ mod entry;
 mod life;
 mod plans;
 mod rising;
-mod worded;
+mod valid_texts;
 
 pub use audit::are_rows_of_lives;
 pub use counting::{Counts, count};

@@ -8,11 +8,11 @@ ghost use Rattle.osb_orders.specs.Life.{Life};
 ghost use Rattle.osb_orders.specs.IsLife.{is_absent, ends_running, IsNext, IsLife};
 ghost use Rattle.osb_orders.specs.Allowed.{IsAppendable};
 ghost use Rattle.osb_standing.specs.Rows.{row_of, birth_failed};
-ghost use Rattle.osb_audit.specs.Life.{orders_in, IsFound, StandsAlone};
+ghost use Rattle.osb_audit.specs.Life.{orders_in, IsLifeSoFar, IsConsistentAlone};
 
 use crate::bindings::{apply, are_bindings};
 use crate::entry::BindingEntry;
-use crate::worded::is_worded;
+use crate::valid_texts::has_valid_texts;
 use osb_orders::{BindingNow, Order, OrderKind, OrderState};
 use osb_standing::{InstanceRow, binding_edit, instance_row_after};
 use osb_text::{Text, is_id};
@@ -24,7 +24,7 @@ const MOST: u32 = 1_000_000;
 
 /// What the orders of one instance have led to so far.
 #[derive(Drop)]
-pub(crate) struct Found {
+pub(crate) struct LifeSoFar {
     row: Option<InstanceRow>,
     birth_failed: bool,
     bindings: BTreeMap<Text, BindingNow>,
@@ -32,14 +32,14 @@ pub(crate) struct Found {
 
 /// Whether an instance of this id that has had these orders has this row, and its bindings have
 /// these.
-pub(crate) fn is_standing(
+pub(crate) fn is_consistent(
     alloc: Global,
     id: &Text,
     row: &InstanceRow,
     orders: &[(Text, Order)],
     bound: &[BindingEntry],
 ) -> Result<bool, AllocError>
-    ensures { IfOk result (λ yes. (yes ≡ true) ↔ StandsAlone id.now row.now (orders_in orders.now) bound.now) }
+    ensures { IfOk result (λ yes. (yes ≡ true) ↔ IsConsistentAlone id.now row.now (orders_in orders.now) bound.now) }
 {
     match find(alloc, orders)? {
         None => Ok(false),
@@ -61,8 +61,8 @@ fn is_row(found: Option<&InstanceRow>, row: &InstanceRow) -> bool
 }
 
 /// What the orders have led to, unless they are no well-formed life.
-fn find(alloc: Global, orders: &[(Text, Order)]) -> Result<Option<Found>, AllocError>
-    ensures some { IfOk result (λ found. IfSome found (IsFound (orders_in orders.now))) }
+fn find(alloc: Global, orders: &[(Text, Order)]) -> Result<Option<LifeSoFar>, AllocError>
+    ensures some { IfOk result (λ found. IfSome found (IsLifeSoFar (orders_in orders.now))) }
     ensures none { IfOk result (λ found. IfNone found (IsLife (orders_in orders.now) → ⊥)) }
 {
     let mut found = nothing(alloc);
@@ -75,10 +75,10 @@ fn find(alloc: Global, orders: &[(Text, Order)]) -> Result<Option<Found>, AllocE
     Ok(Some(found))
 }
 
-fn nothing(alloc: Global) -> Found
-    ensures { IsFound [] result }
+fn nothing(alloc: Global) -> LifeSoFar
+    ensures { IsLifeSoFar [] result }
 {
-    Found {
+    LifeSoFar {
         row: None,
         birth_failed: false,
         bindings: BTreeMap::new(alloc),
@@ -86,11 +86,11 @@ fn nothing(alloc: Global) -> Found
 }
 
 /// Whether the order may come next.
-fn is_allowed(alloc: Global, found: &Found, order: &Order) -> Result<bool, AllocError>
-    ensures { (before : Life) → IsFound before found.now → IfOk result (λ yes. (yes ≡ true) ↔ IsAppendable before order.now) }
+fn is_allowed(alloc: Global, found: &LifeSoFar, order: &Order) -> Result<bool, AllocError>
+    ensures { (before : Life) → IsLifeSoFar before found.now → IfOk result (λ yes. (yes ≡ true) ↔ IsAppendable before order.now) }
 {
-    let worded = is_worded(alloc, order)?;
-    Ok(follows(found.row.as_ref(), order) && worded)
+    let valid_texts = has_valid_texts(alloc, order)?;
+    Ok(follows(found.row.as_ref(), order) && valid_texts)
 }
 
 fn follows(row: Option<&InstanceRow>, order: &Order) -> bool
@@ -111,8 +111,8 @@ fn is_next(count: u32, busy: bool, absent: bool, order: &Order) -> bool
 }
 
 /// Takes the order in, which may come next.
-fn take(alloc: Global, found: &mut Found, order: &Order) -> Result<(), AllocError>
-    ensures { (before : Life) → IsFound before found.old → IsAppendable before order.now → OnOk result (IsFound (before ++ order.now ∷ []) found.new) }
+fn take(alloc: Global, found: &mut LifeSoFar, order: &Order) -> Result<(), AllocError>
+    ensures { (before : Life) → IsLifeSoFar before found.old → IsAppendable before order.now → OnOk result (IsLifeSoFar (before ++ order.now ∷ []) found.new) }
 {
     let row = instance_row_after(found.birth_failed, order, found.row.as_ref())?;
     let edit = binding_edit(alloc, order, found.bindings.get(&order.binding))?;

@@ -7,7 +7,8 @@ ghost use Rattle.osb_orders.specs.Listing.{listing};
 ghost use Rattle.osb_orders.specs.IsLife.{IsLives};
 ghost use Rattle.osb_audit.specs.Instances.{instance_cmp, InstancesStand};
 ghost use Rattle.osb_audit.specs.Plans as spec;
-ghost use Rattle.osb_audit.specs.Plans.{pair_cmp, pair_in, pairs_in_row, pairs_in_order, pairs_in_rows, pairs_in_orders, Adds};
+ghost use Rattle.osb_audit.specs.Plans.{pair_cmp, pair_in};
+ghost use Rattle.osb_audit.specs.Gathered.{pairs_in_row, pairs_in_order, pairs_in_rows, pairs_in_orders, Adds};
 
 use osb_orders::{Attributes, Order, OrderKind, OrderState};
 use osb_standing::InstanceRow;

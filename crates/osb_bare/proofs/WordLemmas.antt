@@ -10,23 +10,23 @@ use Rattle.osb_orders.specs.declared.order.Change.{Change}
 use Rattle.osb_orders.specs.declared.order.Change.TheVariants.{Nothing, Append, Finish}
 use Rattle.osb_orders.specs.Orders.{is_about_binding}
 use Rattle.osb_orders.specs.Life.{Life}
-use Rattle.osb_orders.specs.IsLife.{AreWorded, IsWorded, IsNext, IsLifeAfter, IsLife, IsInstance}
+use Rattle.osb_orders.specs.IsLife.{AreValidTexts, HasValidTexts, IsNext, IsLifeAfter, IsLife, IsInstance}
 use Rattle.osb_orders.specs.Allowed.{IsAllowed}
 use Rattle.osb_bare.specs.Bare.{bare_attributes, bare_order, bare_life, bare_change}
 use Rattle.osb_bare.proofs.LifeLemmas.{ends_running-bare, is_absent-bare}
 
 -- ---- bare lives are well formed
 
-texts-bare : (about : Bool) (binding : List ℕ) (a : Attributes) → AreWorded about binding a → AreWorded about binding (bare_attributes a)
+texts-bare : (about : Bool) (binding : List ℕ) (a : Attributes) → AreValidTexts about binding a → AreValidTexts about binding (bare_attributes a)
 texts-bare false binding a h = (h.0, record { service = h.1.service; plan = h.1.plan; organization = h.1.organization; space = h.1.space; parameters = h.1.parameters; context = empty_is_object })
 texts-bare true binding a h = (h.0, record { service = h.1.service; plan = h.1.plan; app_guid = h.1.app_guid; bind_resource = h.1.bind_resource; parameters = h.1.parameters; context = empty_is_object })
 
-worded-bare : (order : Order) → IsWorded order → IsWorded (bare_order order)
-worded-bare order h = record { texts = texts-bare (is_about_binding order.kind) order.binding order.attributes h.texts; credentials = h.credentials }
+valid_texts-bare : (order : Order) → HasValidTexts order → HasValidTexts (bare_order order)
+valid_texts-bare order h = record { texts = texts-bare (is_about_binding order.kind) order.binding order.attributes h.texts; credentials = h.credentials }
 
-all_worded-bare : (life : Life) → AllByRecursion IsWorded life → AllByRecursion IsWorded (bare_life life)
-all_worded-bare [] h = tt
-all_worded-bare (order ∷ later) h = (worded-bare order h.0, all_worded-bare later h.1)
+all_valid_texts-bare : (life : Life) → AllByRecursion HasValidTexts life → AllByRecursion HasValidTexts (bare_life life)
+all_valid_texts-bare [] h = tt
+all_valid_texts-bare (order ∷ later) h = (valid_texts-bare order h.0, all_valid_texts-bare later h.1)
 
 length-bare : (life : Life) → length (bare_life life) ≡ length life
 length-bare life = length-map life bare_order
@@ -47,7 +47,7 @@ pub is_life-bare : (life : Life) → IsLife life → IsLife (bare_life life)
 is_life-bare life h = record {
   count = subst (λ n. n ≤ 1000000) (sym (length-bare life)) h.count;
   orders = life_after-bare [] life h.orders;
-  texts = all_worded-bare life h.texts;
+  texts = all_valid_texts-bare life h.texts;
 }
 
 pub allowed-bare : (life : Life) (change : Change) → IsAllowed life change → IsAllowed (bare_life life) (bare_change change)
@@ -55,7 +55,7 @@ allowed-bare life Nothing h = tt
 allowed-bare life (Append order) h = record {
   room = subst (λ n. n < 1000000) (sym (length-bare life)) h.room;
   next = next-bare life order h.next;
-  texts = worded-bare order h.texts;
+  texts = valid_texts-bare order h.texts;
 }
 allowed-bare life (Finish number outcome) h = record {
   runs = ends_running-bare life ∙ h.runs;

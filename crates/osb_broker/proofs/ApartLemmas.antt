@@ -22,11 +22,11 @@ use Rattle.osb_orders.specs.Changed.{changed, lives_changed, after_change}
 use Rattle.osb_machine.specs.Machine.{answer_to, after_step}
 use Rattle.osb_laws.proofs.MapLemmas.{answers_apart, others_stay, unnamed_stay}
 use Rattle.osb_broker.specs.Machine.{Answered, reply_of}
-use Rattle.osb_broker.specs.Steps.{told, step_of, step_for, lives_after}
+use Rattle.osb_broker.specs.Steps.{answer_alone, step_of, step_for, lives_after}
 use Rattle.osb_broker.specs.Connection.{ConnectionText, answers, Run}
 use Rattle.osb_broker.specs.Resend.{refusing}
 use Rattle.osb_broker.specs.Apart.{AsksOf, Chooses, picked, InstancesAreApart}
-use Rattle.osb_broker.proofs.RequestLemmas.{Kind, silent, broken, asks, Seen, view, nothing_after_any, AreWorded}
+use Rattle.osb_broker.proofs.RequestLemmas.{Kind, silent, broken, asks, Seen, view, nothing_after_any, AreValidTexts}
 use Rattle.osb_broker.proofs.RepeatLemmas.{once}
 
 -- ---- the life that an ask names, after its step
@@ -44,7 +44,7 @@ named_after rules lives ask id e = ap (λ at. life_of (after_change (answer_to r
 
 -- two maps with one life for the instance answer alike, and have one life for it afterwards
 same_told : (rules : Rules) (s v : Lives) (ask : Ask) (id : List ℕ) → instance_in ask ≡ Some id → life_of s id ≡ life_of v id → (step_of rules s ask).0 ≡ (step_of rules v ask).0
-same_told rules s v ask id e same = ap told (answers_apart rules s v ask id e same)
+same_told rules s v ask id e same = ap answer_alone (answers_apart rules s v ask id e same)
 
 pub same_after : (rules : Rules) (s v : Lives) (ask : Ask) (id : List ℕ) → instance_in ask ≡ Some id → life_of s id ≡ life_of v id → life_of (after_step rules s ask) id ≡ life_of (after_step rules v ask) id
 same_after rules s v ask id e same =
@@ -173,8 +173,8 @@ runs_alone rules limits takes id s v (c ∷ cs) (m ∷ ms) (x ∷ xs) t same (u,
         let later = more v (stays rules limits takes id c kind s m x u seen unnamed ∙ same) in
         record { chosen = false ∷ later.chosen; chooses = (unnamed, later.chooses); alone = later.alone; is = later.is; life = later.life }
 
-pub are_apart : AreWorded → InstancesAreApart
-are_apart worded rules limits takes s cs ms xs t sound h run id =
+pub are_apart : AreValidTexts → InstancesAreApart
+are_apart valid_texts rules limits takes s cs ms xs t sound h run id =
     let it = runs_alone rules limits takes id s s cs ms xs t refl run in
     record {
       chosen = it.chosen;
@@ -182,5 +182,5 @@ are_apart worded rules limits takes s cs ms xs t sound h run id =
       alone = it.alone;
       is = it.is;
       life = it.life;
-      once = once worded rules limits takes s (picked it.chosen cs) (picked it.chosen ms) (picked it.chosen xs) it.alone sound h it.is;
+      once = once valid_texts rules limits takes s (picked it.chosen cs) (picked it.chosen ms) (picked it.chosen xs) it.alone sound h it.is;
     }

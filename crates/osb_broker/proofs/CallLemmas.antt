@@ -3,7 +3,7 @@ use Rattle.std.proofs.Common.{◌≡◌, ℕ, ◌≤◌, List, [], ◌∷◌, �
 use Rattle.std.proofs.lemmas.Grind.{flat_map-append}
 use Rattle.std.proofs.lemmas.List.{append-nil, length-append}
 use Rattle.osb_frames.specs.Calls.{Call, all_bytes, call_bytes}
-use Rattle.osb_broker.specs.Serving.{AreFruitful}
+use Rattle.osb_broker.specs.Serving.{EachGaveBytes}
 
 -- with one read more
 pub all_more : (calls : List Call) (piece : List ℕ) → all_bytes (calls ++ Some piece ∷ []) ≡ all_bytes calls ++ piece
@@ -13,8 +13,8 @@ pub all_failed : (calls : List Call) → all_bytes (calls ++ None ∷ []) ≡ al
 all_failed calls = flat_map-append call_bytes calls (None ∷ []) ∙ append-nil (all_bytes calls)
 
 -- each read that gave bytes gave one at least
-pub few_reads : (calls : List Call) → AreFruitful calls → length calls ≤ length (all_bytes calls)
-few_reads [] fruitful = omega arith
-few_reads (None ∷ calls) fruitful = absurd (true≢false fruitful.0)
-few_reads (Some [] ∷ calls) fruitful = absurd (true≢false fruitful.0)
-few_reads (Some (byte ∷ bytes) ∷ calls) fruitful = let more = few_reads calls fruitful.1 in omega (arith, more, length-append bytes (all_bytes calls))
+pub few_reads : (calls : List Call) → EachGaveBytes calls → length calls ≤ length (all_bytes calls)
+few_reads [] gave_bytes = omega arith
+few_reads (None ∷ calls) gave_bytes = absurd (true≢false gave_bytes.0)
+few_reads (Some [] ∷ calls) gave_bytes = absurd (true≢false gave_bytes.0)
+few_reads (Some (byte ∷ bytes) ∷ calls) gave_bytes = let more = few_reads calls gave_bytes.1 in omega (arith, more, length-append bytes (all_bytes calls))

@@ -13,21 +13,21 @@ use Rattle.osb_replies.specs.declared.write.WriteFault.{WriteFault}
 use Rattle.osb_replies.specs.Text.{reply_text}
 use Rattle.osb_broker.specs.declared.fault.ServeFault.{ServeFault}
 use Rattle.osb_broker.specs.Machine.{Machine, fault_reply}
-use Rattle.osb_broker.specs.Connection.{After}
+use Rattle.osb_broker.specs.Connection.{AfterRequests}
 use Rattle.osb_broker.specs.Served.{Served, Reached, BrokenOff}
 use Rattle.osb_broker.specs.Answering.{Answers, WritesText}
-use Rattle.osb_broker.specs.Serving.{Gave, OfConnection, Outcome, Past, Left}
+use Rattle.osb_broker.specs.Serving.{ReadsMade, OfConnection, EndsAs, Past, RequestsPassed}
 use Rattle.osb_broker.proofs.RunLemmas.{after_more, concat_more, served_silent, text_of_end, text_of_none, not_marked}
 use Rattle.osb_broker.proofs.LoopLemmas.{AtRequest, closing, breaking, refusing}
 use Rattle.osb_broker.proofs.CallLemmas.{all_more, all_failed}
 
 -- so far the texts of the requests before held were written, whatever follows it
-pub record Holding {S : Type 0} (machine : Machine S) (limits : Limits) (k : ℕ) (s : S) (got old : List ℕ) (left : ℕ) (now : List ℕ) (u : S) (held : List ℕ) : Type 0 where
+pub record ReadSoFar {S : Type 0} (machine : Machine S) (limits : Limits) (k : ℕ) (s : S) (got old : List ℕ) (left : ℕ) (now : List ℕ) (u : S) (held : List ℕ) : Type 0 where
   pub texts : List (List ℕ)
-  pub is : (more : List ℕ) → After machine limits k s (got ++ more) texts left u (held ++ more)
+  pub is : (more : List ℕ) → AfterRequests machine limits k s (got ++ more) texts left u (held ++ more)
   pub written : now ≡ old ++ concat texts
 
-pub gave_nothing : (made : List Call) (known : Option (List ℕ)) → Gave made made known known []
+pub gave_nothing : (made : List Call) (known : Option (List ℕ)) → ReadsMade made made known known []
 gave_nothing made None = record { made = sym (append-nil made); consumed = tt }
 gave_nothing made (Some all) = record { made = sym (append-nil made); consumed = refl }
 
@@ -43,47 +43,47 @@ consumes_kept (Some all) None c xs x y = absurd x
 consumes_kept (Some all) (Some mid) None xs x y = absurd y
 consumes_kept (Some all) (Some mid) (Some rest) xs x y = x ∙ ap (λ l. xs ++ l) (sym y)
 
-pub gave_more : (a b c : List Call) (ka kb kc : Option (List ℕ)) (calls : List Call) (piece : List ℕ) → Gave a b ka kb calls → c ≡ b ++ Some piece ∷ [] → Consumes kb kc piece → Gave a c ka kc (calls ++ Some piece ∷ [])
+pub gave_more : (a b c : List Call) (ka kb kc : Option (List ℕ)) (calls : List Call) (piece : List ℕ) → ReadsMade a b ka kb calls → c ≡ b ++ Some piece ∷ [] → Consumes kb kc piece → ReadsMade a c ka kc (calls ++ Some piece ∷ [])
 gave_more a b c ka kb kc calls piece gave e more = record {
   made = e ∙ ap (λ l. l ++ Some piece ∷ []) gave.made ∙ append_assoc a calls (Some piece ∷ []);
   consumed = subst (Consumes ka kc) (sym (all_more calls piece)) (consumes_more ka kb kc (all_bytes calls) piece gave.consumed more);
 }
 
-pub gave_failed : (a b c : List Call) (ka kb kc : Option (List ℕ)) (calls : List Call) → Gave a b ka kb calls → c ≡ b ++ None ∷ [] → Keeps kb kc → Gave a c ka kc (calls ++ None ∷ [])
+pub gave_failed : (a b c : List Call) (ka kb kc : Option (List ℕ)) (calls : List Call) → ReadsMade a b ka kb calls → c ≡ b ++ None ∷ [] → Keeps kb kc → ReadsMade a c ka kc (calls ++ None ∷ [])
 gave_failed a b c ka kb kc calls gave e keeps = record {
   made = e ∙ ap (λ l. l ++ None ∷ []) gave.made ∙ append_assoc a calls (None ∷ []);
   consumed = subst (Consumes ka kc) (sym (all_failed calls)) (consumes_kept ka kb kc (all_bytes calls) gave.consumed keeps);
 }
 
-pub holding_start : {S : Type 0} (machine : Machine S) (limits : Limits) (k : ℕ) (s : S) (old : List ℕ) → Holding machine limits k s [] old k old s []
+pub holding_start : {S : Type 0} (machine : Machine S) (limits : Limits) (k : ℕ) (s : S) (old : List ℕ) → ReadSoFar machine limits k s [] old k old s []
 holding_start machine limits k s old = record { texts = []; is = λ more. (refl, refl, refl); written = sym (append-nil old) }
 
 -- what was reached, whatever follows
-pub reached_with : {S : Type 0} (machine : Machine S) (limits : Limits) (k : ℕ) (s : S) (got old : List ℕ) (left : ℕ) (now : List ℕ) (u : S) (held : List ℕ) → Holding machine limits k s got old left now u held → (more : List ℕ) → Reached machine limits k s (got ++ more) old left now u (held ++ more)
+pub reached_with : {S : Type 0} (machine : Machine S) (limits : Limits) (k : ℕ) (s : S) (got old : List ℕ) (left : ℕ) (now : List ℕ) (u : S) (held : List ℕ) → ReadSoFar machine limits k s got old left now u held → (more : List ℕ) → Reached machine limits k s (got ++ more) old left now u (held ++ more)
 reached_with machine limits k s got old left now u held h more = record { texts = h.texts; is = h.is more; written = h.written }
 
-pub reached_now : {S : Type 0} (machine : Machine S) (limits : Limits) (k : ℕ) (s : S) (got old : List ℕ) (left : ℕ) (now : List ℕ) (u : S) (held : List ℕ) → Holding machine limits k s got old left now u held → Reached machine limits k s got old left now u held
+pub reached_now : {S : Type 0} (machine : Machine S) (limits : Limits) (k : ℕ) (s : S) (got old : List ℕ) (left : ℕ) (now : List ℕ) (u : S) (held : List ℕ) → ReadSoFar machine limits k s got old left now u held → Reached machine limits k s got old left now u held
 reached_now machine limits k s got old left now u held h =
     subst (λ l. Reached machine limits k s l old left now u held) (append-nil got)
     (subst (λ l. Reached machine limits k s (got ++ []) old left now u l) (append-nil held) (reached_with machine limits k s got old left now u held h []))
 
-pub holding_fed : {S : Type 0} (machine : Machine S) (limits : Limits) (k : ℕ) (s : S) (got old : List ℕ) (left : ℕ) (now : List ℕ) (u : S) (held piece : List ℕ) → Holding machine limits k s got old left now u held → Holding machine limits k s (got ++ piece) old left now u (held ++ piece)
+pub holding_fed : {S : Type 0} (machine : Machine S) (limits : Limits) (k : ℕ) (s : S) (got old : List ℕ) (left : ℕ) (now : List ℕ) (u : S) (held piece : List ℕ) → ReadSoFar machine limits k s got old left now u held → ReadSoFar machine limits k s (got ++ piece) old left now u (held ++ piece)
 holding_fed machine limits k s got old left now u held piece h = record {
   texts = h.texts;
   is = λ more.
-      subst (λ l. After machine limits k s l h.texts left u ((held ++ piece) ++ more)) (sym (append_assoc got piece more))
-      (subst (λ l. After machine limits k s (got ++ (piece ++ more)) h.texts left u l) (sym (append_assoc held piece more)) (h.is (piece ++ more)));
+      subst (λ l. AfterRequests machine limits k s l h.texts left u ((held ++ piece) ++ more)) (sym (append_assoc got piece more))
+      (subst (λ l. AfterRequests machine limits k s (got ++ (piece ++ more)) h.texts left u l) (sym (append_assoc held piece more)) (h.is (piece ++ more)));
   written = h.written;
 }
 
 -- a whole request at the front of what is held
 pub record HoldsRequest {S : Type 0} (machine : Machine S) (limits : Limits) (k : ℕ) (s : S) (got old : List ℕ) (left : ℕ) (now : List ℕ) (u : S) (held : List ℕ) (q : Message) (n j : ℕ) : Type 0 where
-  pub holding : Holding machine limits k s got old left now u held
+  pub holding : ReadSoFar machine limits k s got old left now u held
   pub front : (more : List ℕ) → IsFront limits (held ++ more) (whole q n)
   pub inside : n ≤ length held
   pub fewer : left ≡ suc j
 
-pub holding_more : {S : Type 0} (machine : Machine S) (limits : Limits) (k : ℕ) (s : S) (got old : List ℕ) (left : ℕ) (now : List ℕ) (u : S) (held : List ℕ) (q : Message) (n j : ℕ) (t : S) (before : ℕ) (new : List ℕ) (after : ℕ) (close : Bool) → HoldsRequest machine limits k s got old left now u held q n j → Answers machine q (j == 0) u t now before new after (Ok close) → close ≡ false → Holding machine limits k s got old j new t (drop n held)
+pub holding_more : {S : Type 0} (machine : Machine S) (limits : Limits) (k : ℕ) (s : S) (got old : List ℕ) (left : ℕ) (now : List ℕ) (u : S) (held : List ℕ) (q : Message) (n j : ℕ) (t : S) (before : ℕ) (new : List ℕ) (after : ℕ) (close : Bool) → HoldsRequest machine limits k s got old left now u held q n j → Answers machine q (j == 0) u t now before new after (Ok close) → close ≡ false → ReadSoFar machine limits k s got old j new t (drop n held)
 holding_more machine limits k s got old left now u held q n j t before new after close at (mark, reply, marked, wrote) e = record {
   texts = at.holding.texts ++ reply_text reply ∷ [];
   is = λ more. after_more machine limits k s (got ++ more) at.holding.texts left u (held ++ more) (reply_text reply) j t (drop n held ++ more) (at.holding.is more)
@@ -118,25 +118,25 @@ breaking_held machine limits k s got old left now u held q n j t before new afte
     breaking machine limits k s (got ++ more) old left now u (held ++ more) q n j t before new after f
     (at_request machine limits k s got old left now u held q n j at more) answers
 
-pub refusing_ok : {S : Type 0} (machine : Machine S) (limits : Limits) (k : ℕ) (s : S) (got old : List ℕ) (left : ℕ) (now : List ℕ) (u : S) (held : List ℕ) (f : StopKind) (over : Bool) (known : Option (List ℕ)) (j : ℕ) (before : ℕ) (new : List ℕ) (after : ℕ) (x : Unit {0}) → Holding machine limits k s got old left now u held → FaultStays limits held over f → (over ≡ true → IsAtEnd known) → left ≡ suc j → WritesText now before new after (Ok x) (reply_text (fault_reply f)) → OfConnection (λ bytes. Served machine limits k s bytes old new u) got known
+pub refusing_ok : {S : Type 0} (machine : Machine S) (limits : Limits) (k : ℕ) (s : S) (got old : List ℕ) (left : ℕ) (now : List ℕ) (u : S) (held : List ℕ) (f : StopKind) (over : Bool) (known : Option (List ℕ)) (j : ℕ) (before : ℕ) (new : List ℕ) (after : ℕ) (x : Unit {0}) → ReadSoFar machine limits k s got old left now u held → FaultStays limits held over f → (over ≡ true → IsAtEnd known) → left ≡ suc j → WritesText now before new after (Ok x) (reply_text (fault_reply f)) → OfConnection (λ bytes. Served machine limits k s bytes old new u) got known
 refusing_ok machine limits k s got old left now u held f over known j before new after x h told end fewer wrote = by told
   where
     by : FaultStays limits held over f → OfConnection (λ bytes. Served machine limits k s bytes old new u) got known
     by (inl always) = inl (λ more. (refusing machine limits k s (got ++ more) old left now u (held ++ more) f j before new after (Ok x) (reached_with machine limits k s got old left now u held h more) (always more) fewer wrote).0)
     by (inr here) = inr ((refusing machine limits k s got old left now u held f j before new after (Ok x) (reached_now machine limits k s got old left now u held h) here.0 fewer wrote).0, end here.1)
 
-pub refusing_err : {S : Type 0} (machine : Machine S) (limits : Limits) (k : ℕ) (s : S) (got old : List ℕ) (left : ℕ) (now : List ℕ) (u : S) (held : List ℕ) (f : StopKind) (over : Bool) (known : Option (List ℕ)) (j : ℕ) (before : ℕ) (new : List ℕ) (after : ℕ) (e : WriteFault) → Holding machine limits k s got old left now u held → FaultStays limits held over f → (over ≡ true → IsAtEnd known) → left ≡ suc j → WritesText now before new after (Err e) (reply_text (fault_reply f)) → OfConnection (λ bytes. BrokenOff machine limits k s bytes old new u) got known
+pub refusing_err : {S : Type 0} (machine : Machine S) (limits : Limits) (k : ℕ) (s : S) (got old : List ℕ) (left : ℕ) (now : List ℕ) (u : S) (held : List ℕ) (f : StopKind) (over : Bool) (known : Option (List ℕ)) (j : ℕ) (before : ℕ) (new : List ℕ) (after : ℕ) (e : WriteFault) → ReadSoFar machine limits k s got old left now u held → FaultStays limits held over f → (over ≡ true → IsAtEnd known) → left ≡ suc j → WritesText now before new after (Err e) (reply_text (fault_reply f)) → OfConnection (λ bytes. BrokenOff machine limits k s bytes old new u) got known
 refusing_err machine limits k s got old left now u held f over known j before new after e h told end fewer wrote = by told
   where
     by : FaultStays limits held over f → OfConnection (λ bytes. BrokenOff machine limits k s bytes old new u) got known
     by (inl always) = inl (λ more. (refusing machine limits k s (got ++ more) old left now u (held ++ more) f j before new after (Err e) (reached_with machine limits k s got old left now u held h more) (always more) fewer wrote).1)
     by (inr here) = inr ((refusing machine limits k s got old left now u held f j before new after (Err e) (reached_now machine limits k s got old left now u held h) here.0 fewer wrote).1, end here.1)
 
-pub ending_held : {S : Type 0} (machine : Machine S) (limits : Limits) (k : ℕ) (s : S) (got old : List ℕ) (left : ℕ) (now : List ℕ) (u : S) (held : List ℕ) (j : ℕ) → Holding machine limits k s got old left now u held → left ≡ suc j → held ≡ [] → Served machine limits k s got old now u
+pub ending_held : {S : Type 0} (machine : Machine S) (limits : Limits) (k : ℕ) (s : S) (got old : List ℕ) (left : ℕ) (now : List ℕ) (u : S) (held : List ℕ) (j : ℕ) → ReadSoFar machine limits k s got old left now u held → left ≡ suc j → held ≡ [] → Served machine limits k s got old now u
 ending_held machine limits k s got old left now u held j h fewer none =
     served_silent machine limits k s got old left now u held (reached_now machine limits k s got old left now u held h) (text_of_end machine limits left j u held fewer none)
 
-pub none_held : {S : Type 0} (machine : Machine S) (limits : Limits) (k : ℕ) (s : S) (got old : List ℕ) (left : ℕ) (now : List ℕ) (u : S) (held : List ℕ) → Holding machine limits k s got old left now u held → left ≡ 0 → (more : List ℕ) → Served machine limits k s (got ++ more) old now u
+pub none_held : {S : Type 0} (machine : Machine S) (limits : Limits) (k : ℕ) (s : S) (got old : List ℕ) (left : ℕ) (now : List ℕ) (u : S) (held : List ℕ) → ReadSoFar machine limits k s got old left now u held → left ≡ 0 → (more : List ℕ) → Served machine limits k s (got ++ more) old now u
 none_held machine limits k s got old left now u held h none more =
     served_silent machine limits k s (got ++ more) old left now u (held ++ more) (reached_with machine limits k s got old left now u held h more) (text_of_none machine limits left u (held ++ more) none)
 
@@ -148,16 +148,16 @@ known_all (Some all) None got P consumed of = absurd consumed
 known_all (Some all) (Some rest) got P consumed (inl each) = subst P (sym consumed) (each rest)
 known_all (Some all) (Some rest) got P consumed (inr last) = subst P (sym (append-nil got) ∙ ap (λ l. got ++ l) (sym last.1) ∙ sym consumed) last.0
 
-pub known_ok : {S : Type 0} (result : Result (Unit {0}) ServeFault) (machine : Machine S) (limits : Limits) (k : ℕ) (s : S) (known now : Option (List ℕ)) (got old new : List ℕ) (t : S) → Consumes known now got → Outcome result machine limits k s got now old new t → OnOk result (IfSome known (λ all. Served machine limits k s all old new t))
+pub known_ok : {S : Type 0} (result : Result (Unit {0}) ServeFault) (machine : Machine S) (limits : Limits) (k : ℕ) (s : S) (known now : Option (List ℕ)) (got old new : List ℕ) (t : S) → Consumes known now got → EndsAs result machine limits k s got now old new t → OnOk result (IfSome known (λ all. Served machine limits k s all old new t))
 known_ok (Ok x) machine limits k s known now got old new t consumed of = known_all known now got _ consumed of
 known_ok (Err fault) machine limits k s known now got old new t consumed of = tt
 
 -- ---- how much was read
 
-pub left_start : (limits : Limits) (k : ℕ) → Left limits k [] k []
+pub left_start : (limits : Limits) (k : ℕ) → RequestsPassed limits k [] k []
 left_start limits k = record { count = 0; is = λ more. refl; fewer = omega arith }
 
-pub left_fed : (limits : Limits) (k : ℕ) (got : List ℕ) (left : ℕ) (held piece : List ℕ) → Left limits k got left held → Left limits k (got ++ piece) left (held ++ piece)
+pub left_fed : (limits : Limits) (k : ℕ) (got : List ℕ) (left : ℕ) (held piece : List ℕ) → RequestsPassed limits k got left held → RequestsPassed limits k (got ++ piece) left (held ++ piece)
 left_fed limits k got left held piece at = record {
   count = at.count;
   is = λ more.
@@ -171,7 +171,7 @@ past_more : (limits : Limits) (count : ℕ) (bytes rest : List ℕ) (q : Message
 past_more limits zero bytes rest q n past front going = (q, n, subst (λ l. IsFront limits l (whole q n)) past front, going, ap (drop n) past)
 past_more limits (suc count) bytes rest q n (first, m, at, stays, past) front going = (first, m, at, stays, past_more limits count (drop m bytes) rest q n past front going)
 
-pub left_more : (limits : Limits) (k : ℕ) (got : List ℕ) (left : ℕ) (held : List ℕ) (q : Message) (n j : ℕ) → Left limits k got left held → ((more : List ℕ) → IsFront limits (held ++ more) (whole q n)) → n ≤ length held → left ≡ suc j → closes q ≡ false → Left limits k got j (drop n held)
+pub left_more : (limits : Limits) (k : ℕ) (got : List ℕ) (left : ℕ) (held : List ℕ) (q : Message) (n j : ℕ) → RequestsPassed limits k got left held → ((more : List ℕ) → IsFront limits (held ++ more) (whole q n)) → n ≤ length held → left ≡ suc j → closes q ≡ false → RequestsPassed limits k got j (drop n held)
 left_more limits k got left held q n j at front inside fewer going = record {
   count = suc at.count;
   is = λ more. subst (λ l. Past limits (suc at.count) (got ++ more) l) (drop-append-le n held more inside) (past_more limits at.count (got ++ more) (held ++ more) q n (at.is more) (front more) going);

@@ -3,39 +3,39 @@ use Rattle.std.proofs.Common.{◌≡◌, ℕ, ◌+◌, ◌<◌, ◌≤◌, ◌�
 use Rattle.std.proofs.lemmas.Grind.{flat_map-append}
 use Rattle.std.proofs.lemmas.List.{append-nil, length-append}
 use Rattle.osb_frames.specs.declared.limits.Limits.{Limits}
-use Rattle.osb_frames.specs.Calls.{Call, all_bytes, call_bytes, is_fruitless}
+use Rattle.osb_frames.specs.Calls.{Call, all_bytes, call_bytes, is_failed_or_empty}
 use Rattle.osb_broker.specs.declared.fault.ServeFault.{ServeFault}
 use Rattle.osb_broker.specs.declared.fault.ServeFault.TheVariants.{Read, Write}
-use Rattle.osb_broker.specs.Serving.{AreFruitful, EachWasNeeded, EndsWith, IsBounded, Left, ReadsOf, WasNeeded}
+use Rattle.osb_broker.specs.Serving.{EachGaveBytes, EachWasNeeded, EndsWith, IsBounded, RequestsPassed, ReadsOf, WasNeeded}
 use Rattle.osb_broker.proofs.CallLemmas.{few_reads}
 use Rattle.osb_broker.proofs.HoldLemmas.{left_start, left_fed}
 
 -- so far each read gave bytes, but the one that found the end
 abbrev pub SoFar : Bool → List Call → Type 0
-SoFar false calls = AreFruitful calls
+SoFar false calls = EachGaveBytes calls
 SoFar true calls = EndsWith (Some []) calls
 
-pub reads_so_far : (over : Bool) (calls : List Call) → SoFar over calls → AreFruitful calls ⊎ EndsWith (Some []) calls
+pub reads_so_far : (over : Bool) (calls : List Call) → SoFar over calls → EachGaveBytes calls ⊎ EndsWith (Some []) calls
 reads_so_far false calls so = inl so
 reads_so_far true calls so = inr so
 
-pub fruitful_yet : (over : Bool) (calls : List Call) → over ≡ false → SoFar over calls → AreFruitful calls
+pub fruitful_yet : (over : Bool) (calls : List Call) → over ≡ false → SoFar over calls → EachGaveBytes calls
 fruitful_yet false calls e so = so
 fruitful_yet true calls e so = cc
 
-one_fruit : (piece : List ℕ) → 0 < length piece → is_fruitless (Some piece) ≡ false
+one_fruit : (piece : List ℕ) → 0 < length piece → is_failed_or_empty (Some piece) ≡ false
 one_fruit [] some = absurd (omega (arith, some))
 one_fruit (byte ∷ bytes) some = refl
 
-pub fruitful_more : (calls : List Call) (piece : List ℕ) → AreFruitful calls → 0 < length piece → AreFruitful (calls ++ Some piece ∷ [])
-fruitful_more [] piece fruitful some = (one_fruit piece some, tt)
-fruitful_more (call ∷ calls) piece fruitful some = (fruitful.0, fruitful_more calls piece fruitful.1 some)
+pub fruitful_more : (calls : List Call) (piece : List ℕ) → EachGaveBytes calls → 0 < length piece → EachGaveBytes (calls ++ Some piece ∷ [])
+fruitful_more [] piece gave_bytes some = (one_fruit piece some, tt)
+fruitful_more (call ∷ calls) piece gave_bytes some = (gave_bytes.0, fruitful_more calls piece gave_bytes.1 some)
 
-pub ended_here : (calls : List Call) (piece : List ℕ) → AreFruitful calls → piece ≡ [] → EndsWith (Some []) (calls ++ Some piece ∷ [])
-ended_here calls piece fruitful none = record { before = calls; is = ap (λ p. calls ++ Some p ∷ []) none; fruitful = fruitful }
+pub ended_here : (calls : List Call) (piece : List ℕ) → EachGaveBytes calls → piece ≡ [] → EndsWith (Some []) (calls ++ Some piece ∷ [])
+ended_here calls piece gave_bytes none = record { before = calls; is = ap (λ p. calls ++ Some p ∷ []) none; gave_bytes = gave_bytes }
 
-pub failed_here : (calls : List Call) → AreFruitful calls → EndsWith None (calls ++ None ∷ [])
-failed_here calls fruitful = record { before = calls; is = refl; fruitful = fruitful }
+pub failed_here : (calls : List Call) → EachGaveBytes calls → EndsWith None (calls ++ None ∷ [])
+failed_here calls gave_bytes = record { before = calls; is = refl; gave_bytes = gave_bytes }
 
 -- an item of a list with one more is the last, or one of those before
 split_last : (items : List Call) (last : Call) (before : List Call) (item : Call) (after : List Call) → items ++ last ∷ [] ≡ before ++ item ∷ after
@@ -67,7 +67,7 @@ needed_more limits k room calls last each needed before after call e = go (split
 
 few_ended : (last : Call) (calls : List Call) → EndsWith last calls → length calls ≤ length (all_bytes calls) + 1
 few_ended last calls ends =
-    let few = few_reads ends.before ends.fruitful in
+    let few = few_reads ends.before ends.gave_bytes in
     let bytes = ap (λ l. length (all_bytes l)) ends.is ∙ ap length (flat_map-append call_bytes ends.before (last ∷ [])) in
     omega (arith, few, bytes, ap length ends.is, length-append ends.before (last ∷ []), length-append (all_bytes ends.before) (all_bytes (last ∷ [])))
 
@@ -75,13 +75,13 @@ few_of : (result : Result (Unit {0}) ServeFault) (calls : List Call) → ReadsOf
 few_of (Err Read) calls ends = few_ended None calls ends
 few_of (Ok x) calls reads = either calls reads
   where
-    either : (calls : List Call) → AreFruitful calls ⊎ EndsWith (Some []) calls → length calls ≤ length (all_bytes calls) + 1
-    either calls (inl fruitful) = let few = few_reads calls fruitful in omega (arith, few)
+    either : (calls : List Call) → EachGaveBytes calls ⊎ EndsWith (Some []) calls → length calls ≤ length (all_bytes calls) + 1
+    either calls (inl gave_bytes) = let few = few_reads calls gave_bytes in omega (arith, few)
     either calls (inr ends) = few_ended (Some []) calls ends
 few_of (Err Write) calls reads = either calls reads
   where
-    either : (calls : List Call) → AreFruitful calls ⊎ EndsWith (Some []) calls → length calls ≤ length (all_bytes calls) + 1
-    either calls (inl fruitful) = let few = few_reads calls fruitful in omega (arith, few)
+    either : (calls : List Call) → EachGaveBytes calls ⊎ EndsWith (Some []) calls → length calls ≤ length (all_bytes calls) + 1
+    either calls (inl gave_bytes) = let few = few_reads calls gave_bytes in omega (arith, few)
     either calls (inr ends) = few_ended (Some []) calls ends
 
 abbrev HasLast : List Call → Type 0
@@ -102,7 +102,7 @@ bounded limits k room result calls reads each = go (last_of_calls calls)
     go (inl none) = record {
       left = k;
       held = [];
-      past = subst (λ l. Left limits k (all_bytes l) k []) (sym none) (left_start limits k);
+      past = subst (λ l. RequestsPassed limits k (all_bytes l) k []) (sym none) (left_start limits k);
       small = omega arith;
       few = few_of result calls reads;
     }
@@ -113,7 +113,7 @@ bounded limits k room result calls reads each = go (last_of_calls calls)
         record {
           left = needed.left;
           held = needed.held ++ piece;
-          past = subst (λ l. Left limits k l needed.left (needed.held ++ piece)) (sym bytes) (left_fed limits k (all_bytes before) needed.left needed.held piece needed.past);
+          past = subst (λ l. RequestsPassed limits k l needed.left (needed.held ++ piece)) (sym bytes) (left_fed limits k (all_bytes before) needed.left needed.held piece needed.past);
           small = omega (arith, needed.fits, length-append needed.held piece);
           few = few_of result calls reads;
         }

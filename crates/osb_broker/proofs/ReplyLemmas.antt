@@ -12,13 +12,13 @@ use Rattle.osb_replies.specs.Text.{ReplyParts}
 use Rattle.osb_catalog.specs.Rules.{Rules}
 use Rattle.osb_asks.specs.Asks.{ask_of}
 use Rattle.osb_orders.specs.Lives.{Lives}
-use Rattle.osb_records.specs.Kept.{KeepsLives}
-use Rattle.osb_records.specs.Steps.{stored}
+use Rattle.osb_records.specs.CrashLeaves.{KeepsLives}
+use Rattle.osb_statements.specs.Steps.{stored}
 use Rattle.osb_broker.specs.declared.prepared.Prepared.{Prepared}
-use Rattle.osb_broker.specs.Inside.{GivesPrepared, GivesReply, Handles, Settles, Worked}
-use Rattle.osb_broker.specs.Kept.{Works, answer_parts}
+use Rattle.osb_broker.specs.Inside.{GivesPrepared, GivesReply, Handles, AppliesPending, Worked}
+use Rattle.osb_broker.specs.BrokerState.{Works, answer_parts}
 use Rattle.osb_broker.specs.Machine.{Answer, Answered, Machine, reply_of}
-use Rattle.osb_broker.specs.Prepared.{settled}
+use Rattle.osb_broker.specs.Prepared.{after_pending}
 use Rattle.osb_broker.specs.Refusals.{NeverFails}
 use Rattle.osb_broker.specs.Steps.{machine, step_for}
 use Rattle.osb_broker.proofs.FailureLemmas.{failures_stay}
@@ -42,42 +42,42 @@ not_prepared {g = g} {old = old} {new = new} (Err f) is gives = record {
 
 module _ {S E F : Type 0} {g : Ghosts S} {rules : Rules} {q : Message} {last : Bool} {old mid new : Held S} {prepared : Prepared} where
   -- the change was refused
-  pub not_settled : {f : F} (result : Result Reply F) → IsErr result → GivesPrepared {E = E} g rules (ask_of rules q) old mid (Ok prepared) → Settles g prepared.pending mid new (Err f) → GivesReply g rules q last old new result
-  not_settled (Ok reply) is gives settles = absurd (cc)
-  not_settled (Err f) is gives settles = record {
+  pub not_applied : {f : F} (result : Result Reply F) → IsErr result → GivesPrepared {E = E} g rules (ask_of rules q) old mid (Ok prepared) → AppliesPending g prepared.pending mid new (Err f) → GivesReply g rules q last old new result
+  not_applied (Ok reply) is gives applies = absurd (cc)
+  not_applied (Err f) is gives applies = record {
     ok = λ works. tt;
-    err = λ works. settles.err works ∙ gives.stays.same (settles.works works);
+    err = λ works. applies.err works ∙ gives.stays.same (applies.works works);
     closes = tt;
     was_open = λ clean needs. tt;
     told = λ before clean. tt;
     plain = λ plain. tt;
-    untouched = λ plain. settles.untouched (gives.silent plain) ∙ gives.untouched plain;
-    works = λ works. gives.stays.works (settles.works works);
-    crash = request_commits _ _ _ prepared _ gives.stays gives.ok settles.crash;
+    untouched = λ plain. applies.untouched (gives.silent plain) ∙ gives.untouched plain;
+    works = λ works. gives.stays.works (applies.works works);
+    crash = request_commits _ _ _ prepared _ gives.stays gives.ok applies.crash;
     durable = λ works clean. tt;
   }
 
   -- the change was made
   pub by_step : (reply : Reply) → GivesPrepared {E = E} g rules (ask_of rules q) old mid (Ok prepared) → (Works (state g old) → KeepsLives (state g old) (stored (state g old)))
-      → Settles {E = F} g prepared.pending mid new (Ok tt) → parts reply ≡ reply_of q last (answer_parts prepared.answer) → GivesReply {E = F} g rules q last old new (Ok reply)
-  by_step reply gives kept settles is =
-      let clean_between : HasCleanDisk (state g new) → HasCleanDisk (state g mid) = λ clean. omega (arith, settles.crash.clean) in
+      → AppliesPending {E = F} g prepared.pending mid new (Ok tt) → parts reply ≡ reply_of q last (answer_parts prepared.answer) → GivesReply {E = F} g rules q last old new (Ok reply)
+  by_step reply gives kept applies is =
+      let clean_between : HasCleanDisk (state g new) → HasCleanDisk (state g mid) = λ clean. omega (arith, applies.crash.clean) in
       record {
         ok = λ works.
-            let between = settles.works works in
+            let between = applies.works works in
             let step = gives.ok (gives.stays.works between) between.clean in
-            (is ∙ ap (reply_of q last) step.answer, settles.ok works.clean ∙ ap (settled prepared.pending) (gives.stays.same between) ∙ step.lives_are);
+            (is ∙ ap (reply_of q last) step.answer, applies.ok works.clean ∙ ap (after_pending prepared.pending) (gives.stays.same between) ∙ step.lives_are);
         err = λ works. tt;
         closes = λ closes. ap (λ (r : ReplyParts). r.close) is ∙ ap (λ b. b || last) closes;
         was_open = λ clean needs. gives.was_open (clean_between clean) needs;
         told = λ before clean. is ∙ ap (reply_of q last) (gives.ok before (clean_between clean)).answer;
         plain = λ plain lives.
             let step = gives.plain plain lives in
-            (is ∙ ap (reply_of q last) step.answer, ap (λ pending. settled pending lives) (sym (gives.silent plain)) ∙ step.lives_are);
-        untouched = λ plain. settles.untouched (gives.silent plain) ∙ gives.untouched plain;
-        works = λ works. gives.stays.works (settles.works works);
-        crash = request_commits _ _ _ prepared _ gives.stays gives.ok settles.crash;
-        durable = λ before clean. request_lasts _ _ _ prepared _ gives.stays gives.ok settles.crash kept (settles.lasts clean) before clean;
+            (is ∙ ap (reply_of q last) step.answer, ap (λ pending. after_pending pending lives) (sym (gives.silent plain)) ∙ step.lives_are);
+        untouched = λ plain. applies.untouched (gives.silent plain) ∙ gives.untouched plain;
+        works = λ works. gives.stays.works (applies.works works);
+        crash = request_commits _ _ _ prepared _ gives.stays gives.ok applies.crash;
+        durable = λ before clean. request_lasts _ _ _ prepared _ gives.stays gives.ok applies.crash kept (applies.lasts clean) before clean;
       }
 
 stepped : (m : Machine Lives) (rules : Rules) (q : Message) (last : Bool) → ((lives : Lives) → m.step lives q ≡ step_for rules lives (ask_of rules q)) → (lives after : Lives) (reply : ReplyParts)

@@ -10,7 +10,7 @@ use Rattle.osb_catalog.specs.Sound.{AreSound}
 use Rattle.osb_asks.specs.declared.ask.Ask.{Ask}
 use Rattle.osb_asks.specs.declared.ask_fault.AskFault.{AskFault}
 use Rattle.osb_asks.specs.Asks.{ask_of}
-use Rattle.osb_asks.specs.Worded.{IsWorded}
+use Rattle.osb_asks.specs.ValidTexts.{AskHasValidTexts}
 use Rattle.osb_orders.specs.Lives.{Lives}
 use Rattle.osb_orders.specs.IsLife.{IsLives}
 use Rattle.osb_laws.proofs.MapLemmas.{steps_keep_lives, again_stays}
@@ -21,8 +21,8 @@ use Rattle.osb_broker.specs.Repeats.{is_unmarked}
 use Rattle.osb_broker.specs.Resend.{refusing}
 
 -- asks that were read are worded
-abbrev pub AreWorded : Type 0
-AreWorded = (rules : Rules) (q : Message) (ask : Ask) → ask_of rules q ≡ Ok ask → IsWorded ask
+abbrev pub AreValidTexts : Type 0
+AreValidTexts = (rules : Rules) (q : Message) (ask : Ask) → ask_of rules q ≡ Ok ask → AskHasValidTexts ask
 
 -- what stands first
 pub data Kind (limits : Limits) (bytes : List ℕ) : Type 0 where
@@ -135,21 +135,21 @@ twice rules limits bytes (asks q n at) s h = by (ask_of rules q)
     by (Ok ask) = again_stays rules s ask h
     by (Err f) = refl
 
-pub keeps : AreWorded → (rules : Rules) (limits : Limits) (bytes : List ℕ) (kind : Kind limits bytes) (s : Lives) → AreSound rules → IsLives s → IsLives (after_one rules limits bytes kind s)
-keeps worded rules limits bytes (silent e) s sound h = h
-keeps worded rules limits bytes (broken f at) s sound h = h
-keeps worded rules limits bytes (asks q n at) s sound h = by (ask_of rules q) refl
+pub keeps : AreValidTexts → (rules : Rules) (limits : Limits) (bytes : List ℕ) (kind : Kind limits bytes) (s : Lives) → AreSound rules → IsLives s → IsLives (after_one rules limits bytes kind s)
+keeps valid_texts rules limits bytes (silent e) s sound h = h
+keeps valid_texts rules limits bytes (broken f at) s sound h = h
+keeps valid_texts rules limits bytes (asks q n at) s sound h = by (ask_of rules q) refl
   where
     by : (r : Result Ask AskFault) → ask_of rules q ≡ r → IsLives (step_for rules s r).1
-    by (Ok ask) e = steps_keep_lives rules s ask sound h (worded rules q ask e)
+    by (Ok ask) e = steps_keep_lives rules s ask sound h (valid_texts rules q ask e)
     by (Err f) e = h
 
 -- whether or not it met a refusal
-pub seen_keeps : AreWorded → (rules : Rules) (takes : Message → Bool) (limits : Limits) (bytes : List ℕ) (kind : Kind limits bytes) (s : Lives) (marks : List Bool) (texts : List (List ℕ)) (u : Lives) → AreSound rules → IsLives s → Seen rules takes limits bytes kind s marks texts u → IsLives u
-seen_keeps worded rules takes limits bytes kind s marks texts u sound h seen = by (is_unmarked marks) refl
+pub seen_keeps : AreValidTexts → (rules : Rules) (takes : Message → Bool) (limits : Limits) (bytes : List ℕ) (kind : Kind limits bytes) (s : Lives) (marks : List Bool) (texts : List (List ℕ)) (u : Lives) → AreSound rules → IsLives s → Seen rules takes limits bytes kind s marks texts u → IsLives u
+seen_keeps valid_texts rules takes limits bytes kind s marks texts u sound h seen = by (is_unmarked marks) refl
   where
     by : (b : Bool) → is_unmarked marks ≡ b → IsLives u
-    by true e = subst IsLives (sym (seen_unmarked rules takes limits bytes kind s marks texts u seen e)) (keeps worded rules limits bytes kind s sound h)
+    by true e = subst IsLives (sym (seen_unmarked rules takes limits bytes kind s marks texts u seen e)) (keeps valid_texts rules limits bytes kind s sound h)
     by false e = subst IsLives (sym (seen_marked rules takes limits bytes kind s marks texts u seen e)) h
 
 pub nothing_after_any : (m : Machine Lives) (limits : Limits) (close : Bool) (u : Lives) (later : List ℕ) → GoesOn close (ConnectionText m limits 0 u later) u [] [] u

@@ -8,7 +8,7 @@ use Rattle.osb_frames.specs.declared.step.StopKind.{StopKind}
 use Rattle.osb_frames.specs.Cuts.{Message, fault, IsFront}
 use Rattle.osb_replies.specs.Text.{ReplyParts, reply_text}
 use Rattle.osb_broker.specs.Machine.{Machine, Answered, fault_reply}
-use Rattle.osb_broker.specs.Connection.{OneReply, ends, faults, answers, ConnectionText, After, FirstText}
+use Rattle.osb_broker.specs.Connection.{OneReply, ends, faults, answers, ConnectionText, AfterRequests, FirstText}
 use Rattle.osb_broker.specs.Served.{Served, Reached, BrokenOff}
 
 -- no marks
@@ -17,7 +17,7 @@ unmarked [] marks = marks
 unmarked (text ∷ texts) marks = false ∷ unmarked texts marks
 
 -- what answers the rest completes the whole
-pub after_text : {S : Type 0} (machine : Machine S) (limits : Limits) (k : ℕ) (s : S) (bytes : List ℕ) (xs : List (List ℕ)) (left : ℕ) (u : S) (rest : List ℕ) (marks : List Bool) (ys : List (List ℕ)) (t : S) → After machine limits k s bytes xs left u rest → ConnectionText machine limits left u rest marks ys t → ConnectionText machine limits k s bytes (unmarked xs marks) (xs ++ ys) t
+pub after_text : {S : Type 0} (machine : Machine S) (limits : Limits) (k : ℕ) (s : S) (bytes : List ℕ) (xs : List (List ℕ)) (left : ℕ) (u : S) (rest : List ℕ) (marks : List Bool) (ys : List (List ℕ)) (t : S) → AfterRequests machine limits k s bytes xs left u rest → ConnectionText machine limits left u rest marks ys t → ConnectionText machine limits k s bytes (unmarked xs marks) (xs ++ ys) t
 after_text machine limits k s bytes [] left u rest marks ys t reached last =
     subst (λ l. ConnectionText machine limits k s l marks ys t) reached.2
     (subst (λ v. ConnectionText machine limits k v rest marks ys t) reached.1
@@ -29,7 +29,7 @@ after_text machine limits k s bytes (x ∷ xs) left u rest marks ys t (j, v, lat
     (after_text machine limits j v later xs left u rest marks ys t reached last))
 
 -- one request more
-pub after_more : {S : Type 0} (machine : Machine S) (limits : Limits) (k : ℕ) (s : S) (bytes : List ℕ) (xs : List (List ℕ)) (left : ℕ) (u : S) (rest text : List ℕ) (j : ℕ) (v : S) (later : List ℕ) → After machine limits k s bytes xs left u rest → OneReply machine limits left u rest false text false j v later → After machine limits k s bytes (xs ++ text ∷ []) j v later
+pub after_more : {S : Type 0} (machine : Machine S) (limits : Limits) (k : ℕ) (s : S) (bytes : List ℕ) (xs : List (List ℕ)) (left : ℕ) (u : S) (rest text : List ℕ) (j : ℕ) (v : S) (later : List ℕ) → AfterRequests machine limits k s bytes xs left u rest → OneReply machine limits left u rest false text false j v later → AfterRequests machine limits k s bytes (xs ++ text ∷ []) j v later
 after_more machine limits k s bytes [] left u rest text j v later reached one = (
   j,
   v,

@@ -10,9 +10,9 @@ use Rattle.osb_asks.specs.declared.ask.Ask.{Ask}
 use Rattle.osb_asks.specs.declared.ask_fault.AskFault.{AskFault}
 use Rattle.osb_asks.specs.Asks.{ask_of, is_early}
 use Rattle.osb_orders.specs.Lives.{Lives}
-use Rattle.osb_records.specs.Steps.{stored}
+use Rattle.osb_statements.specs.Steps.{stored}
 use Rattle.osb_broker.specs.Inside.{Handles, Worked}
-use Rattle.osb_broker.specs.Kept.{IsShut, LivesGo, Works}
+use Rattle.osb_broker.specs.BrokerState.{IsShut, LivesGo, Works}
 use Rattle.osb_broker.specs.Machine.{Handled, Machine}
 use Rattle.osb_broker.specs.Steps.{needs_lives}
 

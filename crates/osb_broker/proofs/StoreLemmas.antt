@@ -16,13 +16,13 @@ use Rattle.osb_asks.specs.Asks.{is_early}
 use Rattle.osb_orders.specs.Lives.{Lives}
 use Rattle.osb_orders.specs.IsLife.{IsLives}
 use Rattle.osb_records.specs.Commit.{Commits}
-use Rattle.osb_records.specs.Kept.{KeepsLives}
-use Rattle.osb_records.specs.Steps.{HoldsLives, LeavesOnly, stored}
+use Rattle.osb_records.specs.CrashLeaves.{KeepsLives}
+use Rattle.osb_statements.specs.Steps.{HoldsLives, LeavesOnly, stored}
 use Rattle.osb_broker.specs.declared.prepared.Prepared.{Prepared}
 use Rattle.osb_broker.specs.Machine.{Answer}
-use Rattle.osb_broker.specs.Prepared.{settled, LastsSettled, Prepares}
+use Rattle.osb_broker.specs.Prepared.{after_pending, PendingIsDurable, Prepares}
 use Rattle.osb_broker.specs.Inside.{GivesPrepared, LivesStay}
-use Rattle.osb_broker.specs.Kept.{Works, store_of}
+use Rattle.osb_broker.specs.BrokerState.{Works, store_of}
 
 pub survives_same : (s : State) (P : Trees → Type 0) → Survives s s P
 survives_same s P = record { clean = omega arith; shield = λ x. x; counts = omega arith; limit = refl; closes = λ clean live. inl live; crash = λ clean db left. inl left }
@@ -43,14 +43,14 @@ lacks_memory g rules asked records e late = record {
 -- from the state before a request to that in which its answer is ready, and to that after its change
 module _ (old mid new : State) (prepared : Prepared) (step : Answer × Lives) (stays : LivesStay old mid)
     (prepares : Works old → HasCleanDisk mid → Prepares (stored old) prepared step)
-    (settles : Survives mid new (Commits mid (settled prepared.pending (stored mid)))) where
-  leads : HasCleanDisk mid → IsTrue mid.is_open → settled prepared.pending (stored mid) ≡ step.1
+    (applies : Survives mid new (Commits mid (after_pending prepared.pending (stored mid)))) where
+  leads : HasCleanDisk mid → IsTrue mid.is_open → after_pending prepared.pending (stored mid) ≡ step.1
   leads clean live =
       let both : Works mid = record { clean = clean; live = live } in
-      ap (settled prepared.pending) (stays.same both) ∙ (prepares (stays.works both) clean).lives_are
+      ap (after_pending prepared.pending) (stays.same both) ∙ (prepares (stays.works both) clean).lives_are
 
   clean_mid : HasCleanDisk new → HasCleanDisk mid
-  clean_mid clean = omega (arith, settles.clean)
+  clean_mid clean = omega (arith, applies.clean)
 
   pub request_commits : Survives old new (Commits old step.1)
   request_commits = survives_then old mid new _ _ _ (λ _ db none. absurd none)
@@ -58,9 +58,9 @@ module _ (old mid new : State) (prepared : Prepared) (step : Answer × Lives) (s
       let is = leads (clean_mid clean) commits.was_open in
       let before = stays.works (record { clean = clean_mid clean; live = commits.was_open }) in
       record { was_open = before.live; whole = subst IsLives is commits.whole; holds = subst (λ l. HoldsLives l db) is commits.holds })
-      stays.crash settles
+      stays.crash applies
 
-  pub request_lasts : (Works old → KeepsLives old (stored old)) → ((db : Trees) → new.may_leave db → LastsSettled mid (stored mid) prepared.pending db) → Works old → HasCleanDisk new → LeavesOnly new step.1
+  pub request_lasts : (Works old → KeepsLives old (stored old)) → ((db : Trees) → new.may_leave db → PendingIsDurable mid (stored mid) prepared.pending db) → Works old → HasCleanDisk new → LeavesOnly new step.1
   request_lasts kept lasts before clean db left = elim (lasts db left) [
     | inl stands ↦ stands.1 ∙ leads (clean_mid clean) stands.0
     | inr nothing ↦ elim (stays.crash.crash (clean_mid clean) db nothing.1) [

@@ -6,7 +6,7 @@ use Rattle.std.proofs.lemmas.Slice.Eq.{bytes_eq-Decides}
 use Rattle.osb_broker.specs.Repeats.{without_repeats, neighbours_once}
 use Rattle.osb_broker.specs.Apart.{Chooses, picked}
 use Rattle.osb_broker.specs.Refusals.{says_500}
-use Rattle.osb_broker.specs.Attempts.{Outcome, answered, failed, lost, Attempt, that_acted, connections_of, IsPatient}
+use Rattle.osb_broker.specs.Attempts.{AttemptOutcome, answered, failed, lost, Attempt, that_acted, connections_of, IsPatient}
 
 abbrev a : List ℕ
 a = 97 ∷ []
@@ -57,7 +57,7 @@ body_is_none = refl
 
 -- ---- attempts
 
-abbrev made : List ℕ → Outcome → Attempt
+abbrev made : List ℕ → AttemptOutcome → Attempt
 made bytes outcome = record { bytes = bytes; outcome = outcome }
 
 -- a repeat counts once, whatever failed in between

@@ -5,7 +5,7 @@ use Rattle.osb_replies.specs.declared.write.WriteFault.{WriteFault}
 use Rattle.osb_replies.specs.Text.{ReplyParts, reply_text}
 use Rattle.osb_broker.specs.Machine.{Machine, Answered}
 
--- a text was written whole and nothing was fruitless, or its first bytes and then something was
+-- a text was written whole and each write took bytes, or its first bytes were written and then a write failed or took nothing
 abbrev pub WritesText : List ℕ → ℕ → List ℕ → ℕ → Result (Unit {0}) WriteFault → List ℕ → Type 0
 WritesText base before now after (Ok x) text = (now ≡ base ++ text) × (after ≡ before)
 WritesText base before now after (Err f) text =

@@ -59,11 +59,11 @@ Run machine limits k s (bytes ∷ connections) (marks ∷ more) [] t = ⊥
 
 -- The first requests of the bytes are answered by these texts; none is marked and none closes. Then left may come, in
 -- the bytes rest and from the state t.
-abbrev pub After : {S : Type 0} → Machine S → Limits → ℕ → S → List ℕ → List (List ℕ) → ℕ → S → List ℕ → Type 0
-After machine limits k s bytes [] left t rest = (left ≡ k) × (t ≡ s) × (rest ≡ bytes)
-After {S} machine limits k s bytes (text ∷ texts) left t rest =
+abbrev pub AfterRequests : {S : Type 0} → Machine S → Limits → ℕ → S → List ℕ → List (List ℕ) → ℕ → S → List ℕ → Type 0
+AfterRequests machine limits k s bytes [] left t rest = (left ≡ k) × (t ≡ s) × (rest ≡ bytes)
+AfterRequests {S} machine limits k s bytes (text ∷ texts) left t rest =
     (j : ℕ) × (u : S) × (later : List ℕ) × OneReply machine limits k s bytes false text false j u later
-    × After machine limits j u later texts left t rest
+    × AfterRequests machine limits j u later texts left t rest
 
 -- the text that answers what stands first, a request or a fault
 pub data FirstText {S : Type 0} (machine : Machine S) (limits : Limits) (k : ℕ) (s : S) (bytes : List ℕ) (text : List ℕ) (t : S) : Type 0 where

@@ -14,14 +14,14 @@ use Rattle.osb_asks.specs.declared.ask_fault.AskFault.{AskFault}
 use Rattle.osb_asks.specs.Asks.{ask_of, is_early}
 use Rattle.osb_orders.specs.Lives.{Lives}
 use Rattle.osb_records.specs.Commit.{Commits}
-use Rattle.osb_records.specs.Steps.{LeavesOnly, stored}
+use Rattle.osb_statements.specs.Steps.{LeavesOnly, stored}
 use Rattle.osb_laws.specs.Failures.{is_500}
 use Rattle.osb_broker.specs.declared.setup.Setup.{Setup}
 use Rattle.osb_broker.specs.declared.prepared.Pending.{Pending}
 use Rattle.osb_broker.specs.declared.prepared.Prepared.{Prepared}
-use Rattle.osb_broker.specs.Kept.{IsShut, Works}
+use Rattle.osb_broker.specs.BrokerState.{IsShut, Works}
 use Rattle.osb_broker.specs.Machine.{Answered, Handled, Machine, MayReply, reply_of}
-use Rattle.osb_broker.specs.Prepared.{settled, LastsSettled, Prepares}
+use Rattle.osb_broker.specs.Prepared.{after_pending, PendingIsDurable, Prepares}
 use Rattle.osb_broker.specs.Steps.{lives_after, machine, needs_lives, step_for}
 
 -- the settings that are decided by
@@ -58,13 +58,13 @@ pub record GivesPrepared {S E : Type 0} (g : Ghosts S) (rules : catalog.Rules) (
 
 -- A pending change was made, if there is one: at `Ok` the lives are those after it, at an error they stay, and a crash
 -- leaves what it left before or the lives after it.
-pub record Settles {S E : Type 0} (g : Ghosts S) (pending : Option Pending) (old new : Held S) (result : Result (Unit {0}) E) : Type 0 where
-  pub ok : HasCleanDisk (state g new) → OnOk result (stored (state g new) ≡ settled pending (stored (state g old)))
+pub record AppliesPending {S E : Type 0} (g : Ghosts S) (pending : Option Pending) (old new : Held S) (result : Result (Unit {0}) E) : Type 0 where
+  pub ok : HasCleanDisk (state g new) → OnOk result (stored (state g new) ≡ after_pending pending (stored (state g old)))
   pub err : Works (state g new) → OnErr result (stored (state g new) ≡ stored (state g old))
   pub untouched : pending ≡ None → new ≡ old
   pub works : Works (state g new) → Works (state g old)
-  pub crash : Survives (state g old) (state g new) (Commits (state g old) (settled pending (stored (state g old))))
-  pub lasts : HasCleanDisk (state g new) → OnOk result ((db : Trees) → (state g new).may_leave db → LastsSettled (state g old) (stored (state g old)) pending db)
+  pub crash : Survives (state g old) (state g new) (Commits (state g old) (after_pending pending (stored (state g old))))
+  pub lasts : HasCleanDisk (state g new) → OnOk result ((db : Trees) → (state g new).may_leave db → PendingIsDurable (state g old) (stored (state g old)) pending db)
 
 -- A request was replied to by the machine's step, once its change was made; at an error the lives stay.
 pub record GivesReply {S E : Type 0} (g : Ghosts S) (rules : catalog.Rules) (q : Message) (last : Bool) (old new : Held S) (result : Result Reply E) : Type 0 where

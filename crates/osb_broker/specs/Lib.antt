@@ -11,7 +11,7 @@ pub mod Served
 pub mod Serving
 pub mod Answering
 -- What a broker keeps, its plans in use, and the room that it reads into.
-pub mod Kept
+pub mod BrokerState
 pub mod Plans
 pub mod Room
 -- Texts are determined by the cut and the marks, and outputs show what was refused.

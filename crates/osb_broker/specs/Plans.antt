@@ -20,9 +20,9 @@ abbrev pub OffersInUse : Rules → Lives → Type 0
 OffersInUse rules lives = first_lacking rules (plans_in_use lives) ≡ None
 
 -- a plan that is in use is named as the first that the catalog lacks
-abbrev pub Tells : NewFault → Option Pair → Type 0
-Tells (PlanInUse service plan) lacking = lacking ≡ Some (service, plan)
-Tells Refused lacking = ⊤
+abbrev pub ReportsLacking : NewFault → Option Pair → Type 0
+ReportsLacking (PlanInUse service plan) lacking = lacking ≡ Some (service, plan)
+ReportsLacking Refused lacking = ⊤
 
 -- a pair that is named as in use is one that the catalog lacks
 abbrev pub NamesLacking : Rules → NewFault → Type 0

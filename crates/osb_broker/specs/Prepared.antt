@@ -7,11 +7,11 @@ use Rattle.osb_orders.specs.Lives.{Lives, life_of}
 use Rattle.osb_orders.specs.Changed.{lives_changed}
 use Rattle.osb_orders.specs.IsLife.{IsLives}
 use Rattle.osb_records.specs.Commit.{FinishesLast}
-use Rattle.osb_records.specs.Stored.{lives_stored}
+use Rattle.osb_statements.specs.Stored.{lives_stored}
 use Rattle.osb_broker.specs.declared.prepared.Pending.{Pending}
 use Rattle.osb_broker.specs.declared.prepared.Prepared.{Prepared}
 use Rattle.osb_broker.specs.Machine.{Answer}
-use Rattle.osb_broker.specs.Kept.{answer_parts}
+use Rattle.osb_broker.specs.BrokerState.{answer_parts}
 
 -- the change of an ask that names an instance, or none
 abbrev pub pending_for : Option (List ℕ) → Change → Option Pending
@@ -19,24 +19,24 @@ pending_for None change = None
 pending_for (Some id) change = Some (record { instance = id; change = change })
 
 -- the lives once the change is made
-abbrev pub settled : Option Pending → Lives → Lives
-settled None lives = lives
-settled (Some pending) lives = lives_changed pending.change pending.instance lives
+abbrev pub after_pending : Option Pending → Lives → Lives
+after_pending None lives = lives
+after_pending (Some pending) lives = lives_changed pending.change pending.instance lives
 
 -- the change may be made: it leaves well-formed lives, and ends no order but the running last one
-abbrev pub IsSettleable : Option Pending → Lives → Type 0
-IsSettleable None lives = Unit {0}
-IsSettleable (Some pending) lives =
+abbrev pub IsApplicable : Option Pending → Lives → Type 0
+IsApplicable None lives = Unit {0}
+IsApplicable (Some pending) lives =
     IsLives (lives_changed pending.change pending.instance lives) × FinishesLast (life_of lives pending.instance) pending.change
 
 -- what a crash may leave once the change is made: the lives after it, where the store was open; or what it could leave
 -- before, where there was nothing to change
-abbrev pub LastsSettled : State → Lives → Option Pending → Trees → Type 0
-LastsSettled s lives pending db =
-    (IsTrue s.is_open × (lives_stored db ≡ settled pending lives)) ⊎ (((any : Lives) → settled pending any ≡ any) × s.may_leave db)
+abbrev pub PendingIsDurable : State → Lives → Option Pending → Trees → Type 0
+PendingIsDurable s lives pending db =
+    (IsTrue s.is_open × (lives_stored db ≡ after_pending pending lives)) ⊎ (((any : Lives) → after_pending pending any ≡ any) × s.may_leave db)
 
 -- the answer is that of the step; the change may be made, and leaves the lives of the step
 pub record Prepares (lives : Lives) (prepared : Prepared) (step : Answer × Lives) : Type 0 where
   pub answer : answer_parts prepared.answer ≡ step.0
-  pub allowed : IsSettleable prepared.pending lives
-  pub lives_are : settled prepared.pending lives ≡ step.1
+  pub allowed : IsApplicable prepared.pending lives
+  pub lives_are : after_pending prepared.pending lives ≡ step.1

@@ -4,7 +4,7 @@ use Rattle.std.specs.List.{concat}
 use Rattle.osb_frames.specs.declared.limits.Limits.{Limits}
 use Rattle.osb_frames.specs.declared.limits.TheConstants.{MOST_HEAD, MOST_FIELDS, MOST_BODY}
 use Rattle.osb_broker.specs.Machine.{Machine}
-use Rattle.osb_broker.specs.Connection.{ConnectionText, Run, After, FirstText}
+use Rattle.osb_broker.specs.Connection.{ConnectionText, Run, AfterRequests, FirstText}
 
 -- what was written is the texts of the connection, for some marks
 pub record Served {S : Type 0} (machine : Machine S) (limits : Limits) (k : ℕ) (s : S) (bytes old new : List ℕ) (t : S) : Type 0 where
@@ -16,7 +16,7 @@ pub record Served {S : Type 0} (machine : Machine S) (limits : Limits) (k : ℕ)
 -- so far the texts of the requests before rest were written
 pub record Reached {S : Type 0} (machine : Machine S) (limits : Limits) (k : ℕ) (s : S) (bytes old : List ℕ) (left : ℕ) (now : List ℕ) (u : S) (rest : List ℕ) : Type 0 where
   pub texts : List (List ℕ)
-  pub is : After machine limits k s bytes texts left u rest
+  pub is : AfterRequests machine limits k s bytes texts left u rest
   pub written : now ≡ old ++ concat texts
 
 -- the texts of some requests were written whole, and of what stands next its first bytes; the state is the one after that
@@ -25,7 +25,7 @@ pub record BrokenOff {S : Type 0} (machine : Machine S) (limits : Limits) (k : �
   pub left : ℕ
   pub u : S
   pub rest : List ℕ
-  pub is : After machine limits k s bytes texts left u rest
+  pub is : AfterRequests machine limits k s bytes texts left u rest
   pub text : List ℕ
   pub next : FirstText machine limits left u rest text t
   pub count : ℕ

@@ -4,7 +4,7 @@ use Rattle.std.specs.List.{AllByRecursion}
 use Rattle.std.specs.Io.KnownBytes.{Consumes, IsAtEnd}
 use Rattle.osb_frames.specs.declared.limits.Limits.{Limits}
 use Rattle.osb_frames.specs.declared.step.StopKind.{StopKind}
-use Rattle.osb_frames.specs.Calls.{Call, all_bytes, call_bytes, is_fruitless}
+use Rattle.osb_frames.specs.Calls.{Call, all_bytes, call_bytes, is_failed_or_empty}
 use Rattle.osb_frames.specs.Heads.{IsHopeful}
 use Rattle.osb_frames.specs.Cuts.{Message, closes, fault, whole, IsFront}
 use Rattle.osb_frames.specs.Steps.{IsFinal}
@@ -30,24 +30,24 @@ WritesOf (Err Write) old new = old < new
 WritesOf _ old new = new ≡ old
 
 -- which reads were made of a source from one moment to another, and what they gave
-pub record Gave (made_old made_new : List Call) (known_old known_new : Option (List ℕ)) (calls : List Call) : Type 0 where
+pub record ReadsMade (made_old made_new : List Call) (known_old known_new : Option (List ℕ)) (calls : List Call) : Type 0 where
   pub made : made_new ≡ made_old ++ calls
   pub consumed : Consumes known_old known_new (all_bytes calls)
 
 -- each read gave bytes
-abbrev pub AreFruitful : List Call → Type 0
-AreFruitful calls = AllByRecursion (λ call. is_fruitless call ≡ false) calls
+abbrev pub EachGaveBytes : List Call → Type 0
+EachGaveBytes calls = AllByRecursion (λ call. is_failed_or_empty call ≡ false) calls
 
 -- each read gave bytes but the last, which was this one
 pub record EndsWith (last : Call) (calls : List Call) : Type 0 where
   pub before : List Call
   pub is : calls ≡ before ++ last ∷ []
-  pub fruitful : AreFruitful before
+  pub gave_bytes : EachGaveBytes before
 
 -- the reads of a connection: one that fails is the last, and serving ends so; one that finds the end is the last
 abbrev pub ReadsOf : Result (Unit {0}) ServeFault → List Call → Type 0
 ReadsOf (Err Read) calls = EndsWith None calls
-ReadsOf _ calls = AreFruitful calls ⊎ EndsWith (Some []) calls
+ReadsOf _ calls = EachGaveBytes calls ⊎ EndsWith (Some []) calls
 
 -- P of the bytes of a connection that began with got: of all that may follow, or of got where it is all there was
 abbrev pub OfConnection : (List ℕ → Type 0) → List ℕ → Option (List ℕ) → Type 0
@@ -74,7 +74,7 @@ Past limits (suc count) bytes rest =
     (q : Message) × (n : ℕ) × IsFront limits bytes (whole q n) × (closes q ≡ false) × Past limits count (drop n bytes) rest
 
 -- Whatever follows, got is requests of which none closes, and then held. Of k requests so many may still come.
-pub record Left (limits : Limits) (k : ℕ) (got : List ℕ) (left : ℕ) (held : List ℕ) : Type 0 where
+pub record RequestsPassed (limits : Limits) (k : ℕ) (got : List ℕ) (left : ℕ) (held : List ℕ) : Type 0 where
   pub count : ℕ
   pub is : (more : List ℕ) → Past limits count (got ++ more) (held ++ more)
   pub fewer : left + count ≡ k
@@ -85,7 +85,7 @@ pub record WasNeeded (limits : Limits) (k room : ℕ) (got : List ℕ) (call : C
   pub left : ℕ
   pub some : 0 < left
   pub held : List ℕ
-  pub past : Left limits k got left held
+  pub past : RequestsPassed limits k got left held
   pub waits : NothingWaits limits held
   pub free : length held < room
   pub fits : length held + length (call_bytes call) ≤ room
@@ -100,12 +100,12 @@ EachWasNeeded limits k room calls =
 pub record IsBounded (limits : Limits) (k room : ℕ) (calls : List Call) : Type 0 where
   pub left : ℕ
   pub held : List ℕ
-  pub past : Left limits k (all_bytes calls) left held
+  pub past : RequestsPassed limits k (all_bytes calls) left held
   pub small : length held ≤ room
   pub few : length calls ≤ length (all_bytes calls) + 1
 
 -- how serving ended
-abbrev pub Outcome : {S : Type 0} → Result (Unit {0}) ServeFault → Machine S → Limits → ℕ → S → List ℕ → Option (List ℕ) → List ℕ → List ℕ → S → Type 0
-Outcome (Ok x) machine limits k s got known old new t = OfConnection (λ bytes. Served machine limits k s bytes old new t) got known
-Outcome (Err Read) machine limits k s got known old new t = ReadBroken machine limits k s got old new t
-Outcome (Err Write) machine limits k s got known old new t = OfConnection (λ bytes. BrokenOff machine limits k s bytes old new t) got known
+abbrev pub EndsAs : {S : Type 0} → Result (Unit {0}) ServeFault → Machine S → Limits → ℕ → S → List ℕ → Option (List ℕ) → List ℕ → List ℕ → S → Type 0
+EndsAs (Ok x) machine limits k s got known old new t = OfConnection (λ bytes. Served machine limits k s bytes old new t) got known
+EndsAs (Err Read) machine limits k s got known old new t = ReadBroken machine limits k s got old new t
+EndsAs (Err Write) machine limits k s got known old new t = OfConnection (λ bytes. BrokenOff machine limits k s bytes old new t) got known

@@ -14,12 +14,12 @@ ghost use Rattle.osb_orders.specs.Lives.{Lives};
 ghost use Rattle.osb_orders.specs.IsLife.{IsLives};
 ghost use Rattle.osb_audit.specs.Plans.{plans_in_use};
 ghost use Rattle.osb_records.specs.Commit.{Commits};
-ghost use Rattle.osb_records.specs.Kept.{KeepsLives};
-ghost use Rattle.osb_records.specs.Steps.{LeavesOnly, stored};
+ghost use Rattle.osb_records.specs.CrashLeaves.{KeepsLives};
+ghost use Rattle.osb_statements.specs.Steps.{LeavesOnly, stored};
 ghost use Rattle.osb_laws.specs.Failures.{is_500};
 ghost use Rattle.osb_broker.specs.Machine.{Handled, MayReply};
-ghost use Rattle.osb_broker.specs.Plans.{first_lacking, NamesLacking, OffersInUse, Tells};
-ghost use Rattle.osb_broker.specs.Steps.{lives_after, machine, crowded, needs_lives};
+ghost use Rattle.osb_broker.specs.Plans.{first_lacking, NamesLacking, OffersInUse, ReportsLacking};
+ghost use Rattle.osb_broker.specs.Steps.{lives_after, machine, capped, needs_lives};
 
 use crate::fault::NewFault;
 use crate::per_connection::PerConnection;
@@ -41,12 +41,12 @@ pub struct Broker<'s, S: Alter> {
 }
 
 impl<'s, S: Alter> Broker<'s, S> {
-    ghost use Rattle.osb_broker.specs.Kept.{IsShut, Works, lives_of, most_of, records_of, rules_of, store_of};
+    ghost use Rattle.osb_broker.specs.BrokerState.{IsShut, Works, lives_of, most_of, records_of, rules_in, store_of};
 
     /// A broker over these settings and records, which takes up to `per_connection` requests of a
     /// connection. Where the catalog lacks a plan that is in use, or the records can't be read, the
     /// records come back, with their lives.
-    #[tactic(auto, unfolding(crate::specs::Kept::lives_of))]
+    #[tactic(auto, unfolding(crate::specs::BrokerState::lives_of))]
     pub fn new(
         alloc: Global,
         settings: &'s Settings,
@@ -60,11 +60,11 @@ impl<'s, S: Alter> Broker<'s, S> {
         ensures works { IfOk result (λ broker. Works (store_of S.Store broker) →
             Works (state S.Store records)) }
         ensures most { IfOk result (λ broker. most_of broker ≡ per_connection) }
-        ensures rules { IfOk result (λ broker. rules_of broker ≡ catalog.rules_of settings.now) }
+        ensures rules { IfOk result (λ broker. rules_in broker ≡ catalog.rules_of settings.now) }
         ensures offered { IfOk result (λ broker. HasCleanDisk (store_of S.Store broker) →
             OffersInUse (catalog.rules_of settings.now) (stored (state S.Store records))) }
         ensures in_use { IfErr result (λ fault. HasCleanDisk (state S.Store fault.1) →
-            Tells fault.0 (first_lacking (catalog.rules_of settings.now)
+            ReportsLacking fault.0 (first_lacking (catalog.rules_of settings.now)
             (plans_in_use (stored (state S.Store records))))) }
         ensures lacks { IfErr result (λ fault.
             NamesLacking (catalog.rules_of settings.now) fault.0) }
@@ -94,7 +94,7 @@ impl<'s, S: Alter> Broker<'s, S> {
     }
 
     /// The records, as the last reply left them. It takes no memory.
-    #[tactic(auto, unfolding(crate::specs::Kept::lives_of))]
+    #[tactic(auto, unfolding(crate::specs::BrokerState::lives_of))]
     pub fn into_records(self) -> Records<S>
         ensures same { result ≡ records_of self.entry }
         ensures lives { stored (state S.Store result) ≡ lives_of S.Store self.entry }
@@ -106,51 +106,51 @@ impl<'s, S: Alter> Broker<'s, S> {
 
     /// What a store that works has: well-formed lives, of which a crash now leaves a database and
     /// nothing else. It does nothing when it runs.
-    #[tactic(auto, unfolding(crate::specs::Kept::lives_of))]
-    pub fn are_whole(&self)
+    #[tactic(auto, unfolding(crate::specs::BrokerState::lives_of))]
+    pub fn lives_are_whole(&self)
         ensures whole { Works (store_of S.Store self.now) → IsLives (lives_of S.Store self.now) }
         ensures kept { Works (store_of S.Store self.now) →
             KeepsLives (store_of S.Store self.now) (lives_of S.Store self.now) }
     {
-        self.records.are_whole();
+        self.records.lives_are_whole();
     }
 
     /// Answers a request, by one step of the machine. `last` says that no further request of its
     /// connection is taken. Where memory is refused the reply is the fixed 500 and the lives
     /// stay; no other reply has the status 500. What leads to no door, lacks the login or the version,
     /// has no route, or asks for the catalog takes no memory.
-    #[tactic(auto, unfolding(crate::specs::Kept::lives_of))]
+    #[tactic(auto, unfolding(crate::specs::BrokerState::lives_of))]
     pub fn handle<'a>(&mut self, request: &Request<'a>, last: bool) -> Reply<'a>
     where
         's: 'a,
         ensures handled { Works (store_of S.Store self.new) →
-            Handled (machine (rules_of self.old)) (message request.now) last
+            Handled (machine (rules_in self.old)) (message request.now) last
             (lives_of S.Store self.old) (parts result) (lives_of S.Store self.new) }
         ensures told { Works (store_of S.Store self.old) →
-            HasCleanDisk (store_of S.Store self.new) → MayReply (machine (rules_of self.old))
+            HasCleanDisk (store_of S.Store self.new) → MayReply (machine (rules_in self.old))
             (message request.now) last (lives_of S.Store self.old) (parts result) }
         ensures stays { Works (store_of S.Store self.new) → is_500 (parts result).status ≡ true →
             lives_of S.Store self.new ≡ lives_of S.Store self.old }
         ensures closes { closes (message request.now) ≡ true → (parts result).close ≡ true }
-        ensures plain { needs_lives (ask_of (rules_of self.old) (message request.now)) ≡ false →
-            (lives : Lives) → Handled (machine (rules_of self.old)) (message request.now) last lives
+        ensures plain { needs_lives (ask_of (rules_in self.old) (message request.now)) ≡ false →
+            (lives : Lives) → Handled (machine (rules_in self.old)) (message request.now) last lives
             (parts result) lives }
         ensures shut { HasCleanDisk (store_of S.Store self.new) →
             IsShut (store_of S.Store self.old) →
-            needs_lives (ask_of (rules_of self.old) (message request.now)) ≡ true →
+            needs_lives (ask_of (rules_in self.old) (message request.now)) ≡ true →
             parts result ≡ refused }
-        ensures untouched { needs_lives (ask_of (rules_of self.old) (message request.now)) ≡ false →
+        ensures untouched { needs_lives (ask_of (rules_in self.old) (message request.now)) ≡ false →
             records_of self.new ≡ records_of self.old }
         ensures works { Works (store_of S.Store self.new) → Works (store_of S.Store self.old) }
         ensures crash { Survives (store_of S.Store self.old) (store_of S.Store self.new)
-            (Commits (store_of S.Store self.old) (lives_after (rules_of self.old)
+            (Commits (store_of S.Store self.old) (lives_after (rules_in self.old)
             (lives_of S.Store self.old) (message request.now))) }
         ensures durable { Works (store_of S.Store self.old) →
             HasCleanDisk (store_of S.Store self.new) → parts result ≢ refused →
-            LeavesOnly (store_of S.Store self.new) (lives_after (rules_of self.old)
+            LeavesOnly (store_of S.Store self.new) (lives_after (rules_in self.old)
             (lives_of S.Store self.old) (message request.now)) }
         ensures most { most_of self.new ≡ most_of self.old }
-        ensures rules { rules_of self.new ≡ rules_of self.old }
+        ensures rules { rules_in self.new ≡ rules_in self.old }
     {
         self.setup.handled(&mut self.records, request, last)
     }
@@ -159,7 +159,7 @@ impl<'s, S: Alter> Broker<'s, S> {
     /// for before the change is made, and nothing after the change can be refused. Where there is
     /// no room the reply is the fixed 500 and the lives stay, whatever the request is. The reply
     /// isn't written.
-    #[tactic(auto, unfolding(crate::specs::Kept::lives_of))]
+    #[tactic(auto, unfolding(crate::specs::BrokerState::lives_of))]
     pub fn answer<'a, W: Room>(
         &mut self,
         request: &Request<'a>,
@@ -169,32 +169,32 @@ impl<'s, S: Alter> Broker<'s, S> {
     where
         's: 'a,
         ensures handled { Works (store_of S.Store self.new) →
-            Handled (crowded (rules_of self.old)) (message request.now) last
+            Handled (capped (rules_in self.old)) (message request.now) last
             (lives_of S.Store self.old) (parts result) (lives_of S.Store self.new) }
         ensures stays { Works (store_of S.Store self.new) → is_500 (parts result).status ≡ true →
             lives_of S.Store self.new ≡ lives_of S.Store self.old }
-        ensures plain { needs_lives (ask_of (rules_of self.old) (message request.now)) ≡ false →
-            (lives : Lives) → Handled (crowded (rules_of self.old)) (message request.now) last lives
+        ensures plain { needs_lives (ask_of (rules_in self.old) (message request.now)) ≡ false →
+            (lives : Lives) → Handled (capped (rules_in self.old)) (message request.now) last lives
             (parts result) lives }
-        ensures untouched { needs_lives (ask_of (rules_of self.old) (message request.now)) ≡ false →
+        ensures untouched { needs_lives (ask_of (rules_in self.old) (message request.now)) ≡ false →
             records_of self.new ≡ records_of self.old }
         ensures shut { HasCleanDisk (store_of S.Store self.new) →
             IsShut (store_of S.Store self.old) →
-            needs_lives (ask_of (rules_of self.old) (message request.now)) ≡ true →
+            needs_lives (ask_of (rules_in self.old) (message request.now)) ≡ true →
             parts result ≡ refused }
         ensures works { Works (store_of S.Store self.new) → Works (store_of S.Store self.old) }
         ensures crash { Survives (store_of S.Store self.old) (store_of S.Store self.new)
-            (Commits (store_of S.Store self.old) (lives_after (rules_of self.old)
+            (Commits (store_of S.Store self.old) (lives_after (rules_in self.old)
             (lives_of S.Store self.old) (message request.now))) }
         ensures durable { Works (store_of S.Store self.old) →
             HasCleanDisk (store_of S.Store self.new) → parts result ≢ refused →
-            LeavesOnly (store_of S.Store self.new) (lives_after (rules_of self.old)
+            LeavesOnly (store_of S.Store self.new) (lives_after (rules_in self.old)
             (lives_of S.Store self.old) (message request.now)) }
         ensures room { (parts result ≡ refused)
             ⊎ (length (reply_text (parts result)) ≤ W.room room.new) }
         ensures unwritten { WritesNothing W.Sink room.old room.new }
         ensures most { most_of self.new ≡ most_of self.old }
-        ensures rules { rules_of self.new ≡ rules_of self.old }
+        ensures rules { rules_in self.new ≡ rules_in self.old }
     {
         self.setup
             .answer_in(&mut self.records, request, last, room, 0)

@@ -10,26 +10,26 @@ ghost use Rattle.osb_replies.specs.Parts.{parts, refused};
 ghost use Rattle.osb_replies.specs.Text.{reply_text};
 ghost use Rattle.osb_catalog.specs.Rules as catalog;
 ghost use Rattle.osb_asks.specs.Asks.{ask_of, is_catalog, is_early};
-ghost use Rattle.osb_asks.specs.Worded.{IsWorded};
+ghost use Rattle.osb_asks.specs.ValidTexts.{AskHasValidTexts};
 ghost use Rattle.osb_orders.specs.Lives.{Lives};
-ghost use Rattle.osb_orders.specs.Facts.{facts, view_of};
-ghost use Rattle.osb_records.specs.Kept.{KeepsLives};
-ghost use Rattle.osb_records.specs.Steps.{stored};
+ghost use Rattle.osb_orders.specs.ViewData.{data_in, view_of};
+ghost use Rattle.osb_records.specs.CrashLeaves.{KeepsLives};
+ghost use Rattle.osb_statements.specs.Steps.{stored};
 ghost use Rattle.osb_machine.specs.Machine.{answer_to};
-ghost use Rattle.osb_machine.specs.Steps.{reaction};
-ghost use Rattle.osb_broker.specs.Steps.{crowded, machine, step_of};
+ghost use Rattle.osb_machine.specs.Steps.{decision};
+ghost use Rattle.osb_broker.specs.Steps.{capped, machine, step_of};
 ghost use Rattle.osb_broker.specs.Prepared.{Prepares};
 
 use crate::answer::{fault_answer, reply_to};
+use crate::applying::{apply_pending, apply_pending_within};
 use crate::laws::never_fails;
 use crate::prepared::{Prepared, pending_for};
 use crate::rooms::Room;
-use crate::settle::{settle, settle_within};
 use crate::setup::Setup;
 use osb_asks::{Ask, AskFault, read_ask};
 use osb_catalog::Settings;
 use osb_frames::Request;
-use osb_machine::{Answer, Step, decide};
+use osb_machine::{Answer, AnswerAndChange, decide};
 use osb_orders::View;
 use osb_records::Records;
 use osb_replies::{Body, REFUSED, Reply, Status};
@@ -42,9 +42,9 @@ fn decide_by<'s>(
     settings: &'s Settings,
     view: View,
     ask: &Ask,
-) -> Result<Step<'s>, AllocError>
-    ensures { IfOk result (λ step. (lives : Lives) → facts view ≡ view_of lives ask.now →
-        reaction step ≡ answer_to (catalog.rules_of settings.now) lives ask.now) }
+) -> Result<AnswerAndChange<'s>, AllocError>
+    ensures { IfOk result (λ step. (lives : Lives) → data_in view ≡ view_of lives ask.now →
+        decision step ≡ answer_to (catalog.rules_of settings.now) lives ask.now) }
 {
     let step = decide(alloc, settings, &view, ask);
     drop(view);
@@ -52,14 +52,14 @@ fn decide_by<'s>(
 }
 
 impl<'s> Setup<'s> {
-    ghost use Rattle.osb_broker.specs.Kept.{Works};
+    ghost use Rattle.osb_broker.specs.BrokerState.{Works};
     ghost use Rattle.osb_broker.specs.Inside.{given_rules, GivesPrepared, GivesReply, Handles, LivesStay};
 
     /// The facts that an ask needs.
     fn view<S: Alter>(&self, records: &mut Records<S>, ask: &Ask) -> Result<View, AllocError>
         ensures ok { HasCleanDisk (state S.Store records.new) →
             IfOk result (λ view.
-            facts view ≡ view_of (stored (state S.Store records.old)) ask.now) }
+            data_in view ≡ view_of (stored (state S.Store records.old)) ask.now) }
         ensures was_open { HasCleanDisk (state S.Store records.new) → is_catalog ask.now ≡ false →
             OnOk result (IsTrue (state S.Store records.old).is_open) }
         ensures stays { LivesStay (state S.Store records.old) (state S.Store records.new) }
@@ -71,9 +71,13 @@ impl<'s> Setup<'s> {
     }
 
     /// What the table has for an ask.
-    fn decided<S: Alter>(&self, records: &mut Records<S>, ask: &Ask) -> Result<Step<'s>, AllocError>
+    fn decided<S: Alter>(
+        &self,
+        records: &mut Records<S>,
+        ask: &Ask,
+    ) -> Result<AnswerAndChange<'s>, AllocError>
         ensures ok { HasCleanDisk (state S.Store records.new) →
-            IfOk result (λ step. reaction step ≡
+            IfOk result (λ step. decision step ≡
             answer_to (given_rules self.now) (stored (state S.Store records.old)) ask.now) }
         ensures was_open { HasCleanDisk (state S.Store records.new) → is_catalog ask.now ≡ false →
             OnOk result (IsTrue (state S.Store records.old).is_open) }
@@ -89,7 +93,7 @@ impl<'s> Setup<'s> {
         records: &mut Records<S>,
         ask: &Ask,
     ) -> Result<Prepared<'s>, AllocError>
-        requires { IsWorded ask.now }
+        requires { AskHasValidTexts ask.now }
         ensures ok { Works (state S.Store records.old) → HasCleanDisk (state S.Store records.new) →
             IfOk result (λ prepared. Prepares (stored (state S.Store records.old)) prepared
             (step_of (given_rules self.now) (stored (state S.Store records.old)) ask.now)) }
@@ -98,8 +102,8 @@ impl<'s> Setup<'s> {
         ensures stays { LivesStay (state S.Store records.old) (state S.Store records.new) }
     {
         self.is_sound();
-        records.are_whole();
-        let Step { answer, change } = self.decided(records, ask)?;
+        records.lives_are_whole();
+        let AnswerAndChange { answer, change } = self.decided(records, ask)?;
         let pending = pending_for(ask, change)?;
         Ok(Prepared { answer, pending })
     }
@@ -110,7 +114,7 @@ impl<'s> Setup<'s> {
         records: &mut Records<S>,
         ask: &Ask,
     ) -> Result<Prepared<'s>, AllocError>
-        requires { IsWorded ask.now }
+        requires { AskHasValidTexts ask.now }
         ensures { GivesPrepared S.Store (given_rules self.now) (Ok ask.now)
             records.old records.new result }
     {
@@ -144,7 +148,7 @@ impl<'s> Setup<'s> {
         ensures kept { Works (state S.Store records.old) →
             KeepsLives (state S.Store records.old) (stored (state S.Store records.old)) }
     {
-        records.are_whole();
+        records.lives_are_whole();
         match read_ask(self.alloc, request, self.settings) {
             Ok(ask) => {
                 let prepared = self.asked(records, &ask);
@@ -172,7 +176,7 @@ impl<'s> Setup<'s> {
     {
         let Prepared { answer, pending } = self.prepared(records, request)?;
         let reply = reply_to(request, last, answer);
-        match settle(records, &pending) {
+        match apply_pending(records, &pending) {
             Ok(()) => {
                 drop(pending);
                 Ok(reply)
@@ -225,7 +229,7 @@ impl<'s> Setup<'s> {
     {
         let Prepared { answer, pending } = self.prepared(records, request)?;
         let reply = reply_to(request, last, answer);
-        match settle_within(records, &pending, &reply, room, spare) {
+        match apply_pending_within(records, &pending, &reply, room, spare) {
             Ok(()) => {
                 drop(pending);
                 Ok(reply)
@@ -250,7 +254,7 @@ impl<'s> Setup<'s> {
     ) -> Reply<'a>
     where
         's: 'a,
-        ensures handles { Handles S.Store (crowded (given_rules self.now)) (given_rules self.now)
+        ensures handles { Handles S.Store (capped (given_rules self.now)) (given_rules self.now)
             (message request.now) last records.old records.new (parts result) }
         ensures room { (parts result ≡ refused)
             ⊎ (length (reply_text (parts result)) + spare ≤ W.room room.new) }

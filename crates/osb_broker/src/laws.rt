@@ -12,13 +12,13 @@ ghost use Rattle.osb_laws.specs.AskedAgain.{AskedAgainStays};
 ghost use Rattle.osb_broker.specs.declared.fault.ServeFault.{ServeFault};
 ghost use Rattle.osb_broker.specs.Laws.{texts_of};
 ghost use Rattle.osb_broker.specs.Serving.{EachWasNeeded, IsBounded, ReadsOf};
-ghost use Rattle.osb_broker.specs.Steps.{machine, crowded};
+ghost use Rattle.osb_broker.specs.Steps.{machine, capped};
 ghost use Rattle.osb_broker.specs.Refusals.{NeverFails, FailuresStay, MarksShow, OutputShowsAll, OutputsShowAll};
 ghost use Rattle.osb_broker.specs.Resend.{RepeatsActOnce, LeadsToOne, RunsKeepLives};
 ghost use Rattle.osb_broker.specs.Apart.{InstancesAreApart};
 ghost use Rattle.osb_broker.specs.ActsOnce.{AttemptsActOnce, ConnectionsLeaveOne, PatientClientsActOnce, RequestsActOnce, RequestsActAtMostOnce, StopsAreAttempts};
 
-use osb_asks::laws::{never_memory, worded};
+use osb_asks::laws::{never_memory, valid_texts};
 use osb_laws::{asked_again, never_500};
 
 /// A connection's texts, and the lives after it, are those that the machine gives to the
@@ -55,10 +55,10 @@ pub fn reads_are_bounded()
 {}
 
 /// The broker answers nothing with the status 500 but a request that met a refusal of memory or of
-/// the store, also where any reply may find no room (`crowded`).
+/// the store, also where any reply may find no room (`capped`).
 pub fn never_fails()
     ensures machine { (rules : Rules) → NeverFails (machine rules) }
-    ensures crowded { (rules : Rules) → NeverFails (crowded rules) }
+    ensures capped { (rules : Rules) → NeverFails (capped rules) }
 {
     never_500();
     never_memory();
@@ -68,13 +68,13 @@ pub fn never_fails()
 /// list, determines which requests met a refusal, the texts, and the lives after them.
 pub fn refusals_show()
     ensures stays { (rules : Rules) → FailuresStay (machine rules) }
-    ensures crowded_stays { (rules : Rules) → FailuresStay (crowded rules) }
+    ensures capped_stays { (rules : Rules) → FailuresStay (capped rules) }
     ensures marks { (rules : Rules) → MarksShow (machine rules) }
-    ensures crowded_marks { (rules : Rules) → MarksShow (crowded rules) }
+    ensures capped_marks { (rules : Rules) → MarksShow (capped rules) }
     ensures output { (rules : Rules) → OutputShowsAll (machine rules) }
-    ensures crowded_output { (rules : Rules) → OutputShowsAll (crowded rules) }
+    ensures capped_output { (rules : Rules) → OutputShowsAll (capped rules) }
     ensures outputs { (rules : Rules) → OutputsShowAll (machine rules) }
-    ensures crowded_outputs { (rules : Rules) → OutputsShowAll (crowded rules) }
+    ensures capped_outputs { (rules : Rules) → OutputsShowAll (capped rules) }
 {
     never_fails();
 }
@@ -90,7 +90,7 @@ pub fn resend()
     ensures again { AskedAgainStays }
 {
     asked_again();
-    worded();
+    valid_texts();
 }
 
 /// The connections that ask something of an instance have the texts, and leave the life, that they
@@ -98,7 +98,7 @@ pub fn resend()
 pub fn apart()
     ensures { InstancesAreApart }
 {
-    worded();
+    valid_texts();
 }
 
 /// Clients make attempts, each of which is answered, fails, or is carried out though its answer is
@@ -115,5 +115,5 @@ pub fn histories()
     ensures most { RequestsActAtMostOnce }
     ensures stops { StopsAreAttempts }
 {
-    worded();
+    valid_texts();
 }

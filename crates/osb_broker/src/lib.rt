@@ -6,6 +6,7 @@
 #![tactic(auto)]
 
 mod answer;
+mod applying;
 mod broker;
 mod buffer;
 mod fault;
@@ -20,7 +21,6 @@ pub mod refuse;
 mod rooms;
 mod runs;
 mod serve;
-mod settle;
 mod setup;
 
 pub use broker::Broker;

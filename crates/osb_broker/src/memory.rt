@@ -13,16 +13,16 @@ ghost use Rattle.osb_replies.specs.Text.{reply_text};
 ghost use Rattle.osb_catalog.specs.Rules as catalog;
 ghost use Rattle.osb_asks.specs.Asks.{ask_of};
 ghost use Rattle.osb_audit.specs.Plans.{plans_in_use};
-ghost use Rattle.osb_records.specs.Steps.{stored};
+ghost use Rattle.osb_statements.specs.Steps.{stored};
 ghost use Rattle.osb_laws.specs.Failures.{is_500};
-ghost use Rattle.osb_broker.specs.Kept.{lives_of, most_of, records_of, rules_of};
+ghost use Rattle.osb_broker.specs.BrokerState.{lives_of, most_of, records_of, rules_in};
 ghost use Rattle.osb_broker.specs.Machine.{Handled};
 ghost use Rattle.osb_broker.specs.Once.{ServedOnce};
-ghost use Rattle.osb_broker.specs.Plans.{first_lacking, NamesLacking, OffersInUse, Tells};
+ghost use Rattle.osb_broker.specs.Plans.{first_lacking, NamesLacking, OffersInUse, ReportsLacking};
 ghost use Rattle.osb_broker.specs.Room.{limits_of, met_fault};
 ghost use Rattle.osb_broker.specs.Served.{Served, AreStandard, RunServed};
-ghost use Rattle.osb_broker.specs.Serving.{HasCause, EachWasNeeded, EndsAtFault, Gave, Outcome, ReadsOf, WritesOf};
-ghost use Rattle.osb_broker.specs.Steps.{machine, crowded, needs_lives};
+ghost use Rattle.osb_broker.specs.Serving.{HasCause, EachWasNeeded, EndsAtFault, ReadsMade, EndsAs, ReadsOf, WritesOf};
+ghost use Rattle.osb_broker.specs.Steps.{machine, capped, needs_lives};
 
 use crate::broker::Broker;
 use crate::buffer::Buffer;
@@ -47,11 +47,11 @@ pub fn new(
     ensures lives { IfOk result (λ broker.
         lives_of over_memory broker ≡ stored (state over_memory records)) }
     ensures most { IfOk result (λ broker. most_of broker ≡ per_connection) }
-    ensures rules { IfOk result (λ broker. rules_of broker ≡ catalog.rules_of settings.now) }
+    ensures rules { IfOk result (λ broker. rules_in broker ≡ catalog.rules_of settings.now) }
     ensures offered { IfOk result (λ broker.
         OffersInUse (catalog.rules_of settings.now) (stored (state over_memory records))) }
     ensures in_use { IfErr result (λ fault.
-        Tells fault.0 (first_lacking (catalog.rules_of settings.now)
+        ReportsLacking fault.0 (first_lacking (catalog.rules_of settings.now)
         (plans_in_use (stored (state over_memory records))))) }
     ensures lacks { IfErr result (λ fault. NamesLacking (catalog.rules_of settings.now) fault.0) }
     ensures err { IfErr result (λ fault.
@@ -66,14 +66,14 @@ pub fn handle<'s: 'a, 'a>(
     request: &Request<'a>,
     last: bool,
 ) -> Reply<'a>
-    ensures handled { Handled (machine (rules_of broker.old)) (message request.now) last
+    ensures handled { Handled (machine (rules_in broker.old)) (message request.now) last
         (lives_of over_memory broker.old) (parts result) (lives_of over_memory broker.new) }
     ensures stays { is_500 (parts result).status ≡ true →
         lives_of over_memory broker.new ≡ lives_of over_memory broker.old }
-    ensures untouched { needs_lives (ask_of (rules_of broker.old) (message request.now)) ≡ false →
+    ensures untouched { needs_lives (ask_of (rules_in broker.old) (message request.now)) ≡ false →
         records_of broker.new ≡ records_of broker.old }
     ensures most { most_of broker.new ≡ most_of broker.old }
-    ensures rules { rules_of broker.new ≡ rules_of broker.old }
+    ensures rules { rules_in broker.new ≡ rules_in broker.old }
 {
     broker.handle(request, last)
 }
@@ -85,17 +85,17 @@ pub fn answer<'s: 'a, 'a, W: Room>(
     last: bool,
     room: &mut W,
 ) -> Reply<'a>
-    ensures handled { Handled (crowded (rules_of broker.old)) (message request.now) last
+    ensures handled { Handled (capped (rules_in broker.old)) (message request.now) last
         (lives_of over_memory broker.old) (parts result) (lives_of over_memory broker.new) }
     ensures stays { is_500 (parts result).status ≡ true →
         lives_of over_memory broker.new ≡ lives_of over_memory broker.old }
-    ensures untouched { needs_lives (ask_of (rules_of broker.old) (message request.now)) ≡ false →
+    ensures untouched { needs_lives (ask_of (rules_in broker.old) (message request.now)) ≡ false →
         records_of broker.new ≡ records_of broker.old }
     ensures room { (parts result ≡ refused)
         ⊎ (length (reply_text (parts result)) ≤ W.room room.new) }
     ensures unwritten { WritesNothing W.Sink room.old room.new }
     ensures most { most_of broker.new ≡ most_of broker.old }
-    ensures rules { rules_of broker.new ≡ rules_of broker.old }
+    ensures rules { rules_in broker.new ≡ rules_in broker.old }
 {
     broker.answer(request, last, room)
 }
@@ -108,24 +108,24 @@ pub fn serve<R: Source, W: Sink>(
     sink: &mut W,
 ) -> Result<(), ServeFault>
     ensures most { most_of broker.new ≡ most_of broker.old }
-    ensures rules { rules_of broker.new ≡ rules_of broker.old }
+    ensures rules { rules_in broker.new ≡ rules_in broker.old }
     ensures limits { limits_of buffer.new ≡ limits_of buffer.old }
     ensures met_fault { OnOk result (IsTrue (met_fault buffer.new) →
         EndsAtFault (W.taken sink.new)) }
     ensures ok { OnOk result (IfSome (R.rest source.old) (λ all.
-        Served (machine (rules_of broker.old)) (limits_of buffer.old) (most_of broker.old)
+        Served (machine (rules_in broker.old)) (limits_of buffer.old) (most_of broker.old)
         (lives_of over_memory broker.old) all (W.taken sink.old) (W.taken sink.new)
         (lives_of over_memory broker.new))) }
     ensures cause { HasCause result (R.failures source.old < R.failures source.new)
-        (W.fruitless sink.old < W.fruitless sink.new) }
-    ensures wrote { WritesOf result (W.fruitless sink.old) (W.fruitless sink.new) }
+        (W.failed_or_empty sink.old < W.failed_or_empty sink.new) }
+    ensures wrote { WritesOf result (W.failed_or_empty sink.old) (W.failed_or_empty sink.new) }
     ensures outcome { (calls : List Call)
-        × Gave (R.calls source.old) (R.calls source.new) (R.rest source.old)
+        × ReadsMade (R.calls source.old) (R.calls source.new) (R.rest source.old)
         (R.rest source.new) calls
         × ReadsOf result calls
         × EachWasNeeded (limits_of buffer.old) (most_of broker.old)
         ((limits_of buffer.old).head + (limits_of buffer.old).body) calls
-        × Outcome result (machine (rules_of broker.old)) (limits_of buffer.old) (most_of broker.old)
+        × EndsAs result (machine (rules_in broker.old)) (limits_of buffer.old) (most_of broker.old)
         (lives_of over_memory broker.old) (all_bytes calls) (R.rest source.new) (W.taken sink.old)
         (W.taken sink.new) (lives_of over_memory broker.new) }
 {
@@ -139,17 +139,17 @@ pub fn serve_all(
 ) -> Result<Vec<Vec<u8>>, AllocError>
     ensures ok { IfOk result (λ outputs.
         (limits : Limits) × AreStandard limits
-        × RunServed (crowded (rules_of broker.old)) limits (most_of broker.old)
+        × RunServed (capped (rules_in broker.old)) limits (most_of broker.old)
         (lives_of over_memory broker.old) (map vec_items connections.now)
         (map vec_items outputs.items) (lives_of over_memory broker.new)) }
     ensures once { most_of broker.old ≡ 1 → IfOk result (λ outputs.
         (limits : Limits) × AreStandard limits
-        × ServedOnce (rules_of broker.old) limits (lives_of over_memory broker.old)
+        × ServedOnce (rules_in broker.old) limits (lives_of over_memory broker.old)
         (map vec_items connections.now) (map vec_items outputs.items)
         (lives_of over_memory broker.new)) }
     ensures err { OnErr result (lives_of over_memory broker.new ≡ lives_of over_memory broker.old) }
     ensures most { most_of broker.new ≡ most_of broker.old }
-    ensures rules { rules_of broker.new ≡ rules_of broker.old }
+    ensures rules { rules_in broker.new ≡ rules_in broker.old }
 {
     broker.serve_all(connections)
 }

@@ -5,8 +5,8 @@ ghost use Rattle.sqlite.specs.Held.{state};
 ghost use Rattle.sqlite.specs.State.{HasCleanDisk, Survives};
 ghost use Rattle.osb_catalog.specs.Rules.{rules_of};
 ghost use Rattle.osb_audit.specs.Plans.{plans_in_use};
-ghost use Rattle.osb_records.specs.Steps.{stored};
-ghost use Rattle.osb_broker.specs.Plans.{first_lacking, offers, NamesLacking, OffersInUse, Tells};
+ghost use Rattle.osb_statements.specs.Steps.{stored};
+ghost use Rattle.osb_broker.specs.Plans.{first_lacking, offers, NamesLacking, OffersInUse, ReportsLacking};
 
 use crate::fault::NewFault;
 use osb_catalog::Settings;
@@ -40,7 +40,7 @@ pub(crate) fn find_plans<S: Alter>(
     ensures ok { HasCleanDisk (state S.Store records.new) →
         OnOk result (OffersInUse (rules_of settings.now) (stored (state S.Store records.old))) }
     ensures err { HasCleanDisk (state S.Store records.new) →
-        IfErr result (λ fault. Tells fault (first_lacking (rules_of settings.now)
+        IfErr result (λ fault. ReportsLacking fault (first_lacking (rules_of settings.now)
         (plans_in_use (stored (state S.Store records.old))))) }
     ensures lacks { IfErr result (NamesLacking (rules_of settings.now)) }
     ensures same { HasCleanDisk (state S.Store records.new) →

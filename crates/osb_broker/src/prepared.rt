@@ -1,7 +1,7 @@
 //! Answers that are ready, before their change is made.
 
 ghost use Rattle.std.specs.Prelude.{◌≡◌, IfOk};
-ghost use Rattle.osb_asks.specs.Subjects.{instance_of};
+ghost use Rattle.osb_asks.specs.Subjects.{instance_id_of};
 ghost use Rattle.osb_broker.specs.Prepared.{pending_for};
 
 use osb_asks::{Ask, Id};
@@ -38,7 +38,7 @@ impl<'s> Prepared<'s> {
 
 /// The change, as one of the instance that the ask names.
 pub(crate) fn pending_for(ask: &Ask, change: Change) -> Result<Option<Pending>, AllocError>
-    ensures { IfOk result (λ pending. pending ≡ pending_for (instance_of ask.now) change) }
+    ensures { IfOk result (λ pending. pending ≡ pending_for (instance_id_of ask.now) change) }
 {
     match ask.instance() {
         Some(instance) => match instance.clone() {

@@ -33,8 +33,8 @@ fn fault_reply(kind: StopKind) -> Reply<'static>
 /// Writes the reply to a framing fault.
 pub fn refuse<W: Sink>(sink: &mut W, kind: StopKind) -> Result<(), WriteFault>
     ensures short { OnErr result (W.room sink.old < length (reply_text (fault_reply kind))) }
-    ensures writes { WritesText (W.taken sink.old) (W.fruitless sink.old) (W.taken sink.new)
-        (W.fruitless sink.new) result (reply_text (fault_reply kind)) }
+    ensures writes { WritesText (W.taken sink.old) (W.failed_or_empty sink.old) (W.taken sink.new)
+        (W.failed_or_empty sink.new) result (reply_text (fault_reply kind)) }
 {
     write_reply(sink, &fault_reply(kind))
 }

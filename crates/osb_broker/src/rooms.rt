@@ -5,7 +5,7 @@ ghost use Rattle.osb_frames.specs.Writers.{WritesNothing};
 ghost use Rattle.osb_replies.specs.Parts.{parts};
 ghost use Rattle.osb_replies.specs.Text.{reply_text};
 
-use osb_frames::{Kept, Sink};
+use osb_frames::{InMemory, Sink};
 use osb_replies::Reply;
 use std::alloc::AllocError;
 
@@ -18,7 +18,7 @@ pub trait Room: Sink {
         ensures unwritten { WritesNothing Self.Sink self.old self.new };
 }
 
-impl Room for Kept {
+impl Room for InMemory {
     fn make(&mut self, bytes: usize) -> Result<(), AllocError> {
         self.reserve(bytes)
     }

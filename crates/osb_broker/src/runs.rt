@@ -4,13 +4,13 @@ ghost use Rattle.std.specs.Prelude.{◌≡◌, ◌≤◌, [], ◌++◌, false, l
 ghost use Rattle.std.specs.List.{AllByRecursion};
 ghost use Rattle.sqlite.specs.Held.{state};
 ghost use Rattle.sqlite.specs.State.{HasCleanDisk};
-ghost use Rattle.osb_frames.specs.Kept.{bytes_of, room_of};
+ghost use Rattle.osb_frames.specs.InMemory.{bytes_of, room_of};
 ghost use Rattle.osb_frames.specs.Steps.{message};
 ghost use Rattle.osb_replies.specs.Text.{reply_text};
 ghost use Rattle.osb_orders.specs.Lives.{Lives};
-ghost use Rattle.osb_records.specs.Steps.{stored};
+ghost use Rattle.osb_statements.specs.Steps.{stored};
 ghost use Rattle.osb_broker.specs.Machine.{fault_reply};
-ghost use Rattle.osb_broker.specs.Steps.{crowded};
+ghost use Rattle.osb_broker.specs.Steps.{capped};
 ghost use Rattle.osb_broker.specs.Answering.{AnswersWhole};
 ghost use Rattle.osb_broker.specs.Served.{Served, AreStandard, RunServed};
 ghost use Rattle.osb_broker.specs.Room.{IsBlank};
@@ -18,15 +18,15 @@ ghost use Rattle.osb_broker.specs.Room.{IsBlank};
 use crate::broker::Broker;
 use crate::refuse::refuse;
 use crate::setup::Setup;
-use osb_asks::laws::worded;
-use osb_frames::{Kept, Limits, Request, Step, StopKind, next};
+use osb_asks::laws::valid_texts;
+use osb_frames::{InMemory, Limits, Request, Step, StopKind, next};
 use osb_records::Records;
 use osb_replies::write_reply;
 use sqlite::Alter;
 use std::alloc::{AllocError, Global};
 
 /// The room in which each fixed reply fits: the largest has 145 bytes.
-const SPARE: usize = 512;
+const RESERVE: usize = 512;
 
 /// Outputs with nothing in them yet. In each there is room for a fixed reply.
 fn blank_outputs(alloc: Global, count: usize) -> Result<Vec<Vec<u8>>, AllocError>
@@ -35,13 +35,13 @@ fn blank_outputs(alloc: Global, count: usize) -> Result<Vec<Vec<u8>>, AllocError
 {
     let mut outputs = Vec::with_capacity(alloc, count)?;
     for _ in 0..count {
-        outputs.push(Vec::with_capacity(alloc, SPARE)?)?;
+        outputs.push(Vec::with_capacity(alloc, RESERVE)?)?;
     }
     Ok(outputs)
 }
 
 /// Writes the fixed reply to a framing fault. There is room for it.
-fn refuse_into(output: &mut Kept, kind: StopKind)
+fn refuse_into(output: &mut InMemory, kind: StopKind)
     requires { 512 ≤ room_of output.old }
     ensures { bytes_of output.new ≡ bytes_of output.old ++ reply_text (fault_reply kind) }
 {
@@ -49,7 +49,7 @@ fn refuse_into(output: &mut Kept, kind: StopKind)
 }
 
 impl Setup<'_> {
-    ghost use Rattle.osb_broker.specs.Kept.{LivesGo, Works};
+    ghost use Rattle.osb_broker.specs.BrokerState.{LivesGo, Works};
     ghost use Rattle.osb_broker.specs.Inside.{given_most, given_rules, Worked};
 
     /// Answers a request into an output that has room for a fixed reply. Whether the connection
@@ -59,17 +59,17 @@ impl Setup<'_> {
         records: &mut Records<S>,
         request: &Request<'_>,
         last: bool,
-        output: &mut Kept,
+        output: &mut InMemory,
     ) -> bool
         requires { 512 ≤ room_of output.old }
         ensures answers { (before after : Lives) →
             LivesGo (state S.Store records.old) (state S.Store records.new) before after →
-            AnswersWhole (crowded (given_rules self.now)) (message request.now) last before after
+            AnswersWhole (capped (given_rules self.now)) (message request.now) last before after
             (bytes_of output.old) (bytes_of output.new) result }
         ensures room { result ≡ false → 512 ≤ room_of output.new }
         ensures worked { Worked (state S.Store records.old) (state S.Store records.new) }
     {
-        let reply = self.answer_in(records, request, last, output, SPARE);
+        let reply = self.answer_in(records, request, last, output, RESERVE);
         let _ = write_reply(output, &reply);
         reply.close
     }
@@ -80,12 +80,12 @@ impl Setup<'_> {
         records: &mut Records<S>,
         limits: &Limits,
         bytes: &[u8],
-        output: &mut Kept,
+        output: &mut InMemory,
     )
         requires { 512 ≤ room_of output.old }
         ensures served { (before after : Lives) →
             LivesGo (state S.Store records.old) (state S.Store records.new) before after →
-            Served (crowded (given_rules self.now)) limits.now (given_most self.now) before
+            Served (capped (given_rules self.now)) limits.now (given_most self.now) before
             bytes.now
             (bytes_of output.old) (bytes_of output.new) after }
         ensures worked { Worked (state S.Store records.old) (state S.Store records.new) }
@@ -123,12 +123,12 @@ impl Setup<'_> {
         requires { IsBlank blank }
         ensures served { (before after : Lives) →
             LivesGo (state S.Store records.old) (state S.Store records.new) before after →
-            Served (crowded (given_rules self.now)) limits.now (given_most self.now) before
+            Served (capped (given_rules self.now)) limits.now (given_most self.now) before
             bytes.now
             [] result.items after }
         ensures worked { Worked (state S.Store records.old) (state S.Store records.new) }
     {
-        let mut output = Kept::new(blank);
+        let mut output = InMemory::new(blank);
         self.serve_into(records, limits, bytes, &mut output);
         output.into_bytes()
     }
@@ -143,7 +143,7 @@ impl Setup<'_> {
         ensures ok { (before after : Lives) →
             LivesGo (state S.Store records.old) (state S.Store records.new) before after →
             IfOk result (λ outputs.
-            RunServed (crowded (given_rules self.now)) limits.now (given_most self.now) before
+            RunServed (capped (given_rules self.now)) limits.now (given_most self.now) before
             (map vec_items connections.now) (map vec_items outputs.items) after) }
         ensures err { Works (state S.Store records.new) → OnErr result
             (stored (state S.Store records.new) ≡ stored (state S.Store records.old)) }
@@ -162,7 +162,7 @@ impl Setup<'_> {
 }
 
 impl<S: Alter> Broker<'_, S> {
-    ghost use Rattle.osb_broker.specs.Kept.{IsShut, Works, lives_of, most_of, rules_of, store_of};
+    ghost use Rattle.osb_broker.specs.BrokerState.{IsShut, Works, lives_of, most_of, rules_in, store_of};
     ghost use Rattle.osb_broker.specs.Once.{ServedOnce};
 
     /// Serves connections whose bytes are all there, one after the other and within
@@ -177,33 +177,33 @@ impl<S: Alter> Broker<'_, S> {
     ///
     /// Where a connection has one request, a request that is sent again acts once, whatever is refused,
     /// and what is asked about one instance doesn't touch another (`once`).
-    #[tactic(auto, unfolding(crate::specs::Kept::lives_of))]
+    #[tactic(auto, unfolding(crate::specs::BrokerState::lives_of))]
     pub fn serve_all(&mut self, connections: &[Vec<u8>]) -> Result<Vec<Vec<u8>>, AllocError>
         ensures ok { Works (store_of S.Store self.new) → IfOk result (λ outputs.
             (limits : Limits) × AreStandard limits
-            × RunServed (crowded (rules_of self.old)) limits (most_of self.old)
+            × RunServed (capped (rules_in self.old)) limits (most_of self.old)
             (lives_of S.Store self.old) (map vec_items connections.now)
             (map vec_items outputs.items) (lives_of S.Store self.new)) }
         ensures once { Works (store_of S.Store self.new) → most_of self.old ≡ 1 →
             IfOk result (λ outputs.
             (limits : Limits) × AreStandard limits
-            × ServedOnce (rules_of self.old) limits (lives_of S.Store self.old)
+            × ServedOnce (rules_in self.old) limits (lives_of S.Store self.old)
             (map vec_items connections.now) (map vec_items outputs.items)
             (lives_of S.Store self.new)) }
         ensures shut { HasCleanDisk (store_of S.Store self.new) →
             IsShut (store_of S.Store self.old) → (lives : Lives) → IfOk result (λ outputs.
             (limits : Limits) × AreStandard limits
-            × RunServed (crowded (rules_of self.old)) limits (most_of self.old) lives
+            × RunServed (capped (rules_in self.old)) limits (most_of self.old) lives
             (map vec_items connections.now) (map vec_items outputs.items) lives) }
         ensures err { Works (store_of S.Store self.new) →
             OnErr result (lives_of S.Store self.new ≡ lives_of S.Store self.old) }
         ensures works { Works (store_of S.Store self.new) → Works (store_of S.Store self.old) }
         ensures most { most_of self.new ≡ most_of self.old }
-        ensures rules { rules_of self.new ≡ rules_of self.old }
+        ensures rules { rules_in self.new ≡ rules_in self.old }
     {
-        worded();
+        valid_texts();
         self.setup.is_sound();
-        self.are_whole();
+        self.lives_are_whole();
         self.setup
             .serve_each(&mut self.records, &Limits::STANDARD, connections)
     }

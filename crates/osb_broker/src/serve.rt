@@ -10,7 +10,7 @@ ghost use Rattle.osb_orders.specs.Lives.{Lives};
 ghost use Rattle.osb_broker.specs.Steps.{machine};
 ghost use Rattle.osb_broker.specs.Answering.{Answers};
 ghost use Rattle.osb_broker.specs.Served.{Served};
-ghost use Rattle.osb_broker.specs.Serving.{HasCause, EachWasNeeded, EndsAtFault, Gave, Outcome, ReadsOf, WritesOf};
+ghost use Rattle.osb_broker.specs.Serving.{HasCause, EachWasNeeded, EndsAtFault, ReadsMade, EndsAs, ReadsOf, WritesOf};
 
 use crate::broker::Broker;
 use crate::buffer::Buffer;
@@ -24,11 +24,11 @@ use osb_replies::{WriteFault, write_reply};
 use sqlite::Alter;
 
 impl Setup<'_> {
-    ghost use Rattle.osb_broker.specs.Kept.{LivesGo};
+    ghost use Rattle.osb_broker.specs.BrokerState.{LivesGo};
     ghost use Rattle.osb_broker.specs.Inside.{given_most, given_rules, Worked};
 
     /// Handles a request and writes its reply. Whether the connection closes.
-    fn reply_to<S: Alter, W: Sink>(
+    fn handle_and_write<S: Alter, W: Sink>(
         &self,
         records: &mut Records<S>,
         request: &Request<'_>,
@@ -38,11 +38,12 @@ impl Setup<'_> {
         ensures answers { (before after : Lives) →
             LivesGo (state S.Store records.old) (state S.Store records.new) before after →
             Answers (machine (given_rules self.now)) (message request.now) last before after
-            (W.taken sink.old) (W.fruitless sink.old) (W.taken sink.new) (W.fruitless sink.new)
+            (W.taken sink.old) (W.failed_or_empty sink.old)
+            (W.taken sink.new) (W.failed_or_empty sink.new)
             result }
         ensures worked { Worked (state S.Store records.old) (state S.Store records.new) }
-        ensures ok { OnOk result (W.fruitless sink.new ≡ W.fruitless sink.old) }
-        ensures err { OnErr result (W.fruitless sink.old < W.fruitless sink.new) }
+        ensures ok { OnOk result (W.failed_or_empty sink.new ≡ W.failed_or_empty sink.old) }
+        ensures err { OnErr result (W.failed_or_empty sink.old < W.failed_or_empty sink.new) }
         ensures closes { IfOk result (λ close. close ≡ false →
             closes (message request.now) ≡ false) }
     {
@@ -66,17 +67,17 @@ impl Setup<'_> {
         ensures met_fault { IsFalse met_fault.old →
             OnOk result (IsTrue met_fault.new → EndsAtFault (W.taken sink.new)) }
         ensures cause { HasCause result (R.failures source.old < R.failures source.new)
-            (W.fruitless sink.old < W.fruitless sink.new) }
+            (W.failed_or_empty sink.old < W.failed_or_empty sink.new) }
         ensures worked { Worked (state S.Store records.old) (state S.Store records.new) }
-        ensures wrote { WritesOf result (W.fruitless sink.old) (W.fruitless sink.new) }
+        ensures wrote { WritesOf result (W.failed_or_empty sink.old) (W.failed_or_empty sink.new) }
         ensures outcome { (calls : List Call) ×
-            Gave (R.calls source.old) (R.calls source.new) (R.rest source.old)
+            ReadsMade (R.calls source.old) (R.calls source.new) (R.rest source.old)
             (R.rest source.new) calls
             × ReadsOf result calls
             × EachWasNeeded limits.now (given_most self.now) (length room.old) calls
             × ((before after : Lives) →
             LivesGo (state S.Store records.old) (state S.Store records.new) before after →
-            Outcome result (machine (given_rules self.now)) limits.now (given_most self.now) before
+            EndsAs result (machine (given_rules self.now)) limits.now (given_most self.now) before
             (all_bytes calls) (R.rest source.new) (W.taken sink.old) (W.taken sink.new) after) }
     {
         let mut filled = 0;
@@ -86,7 +87,7 @@ impl Setup<'_> {
             match next_at_once(&room[..filled], ended, limits) {
                 Step::Whole(request, used) => {
                     left -= 1;
-                    match self.reply_to(records, &request, left == 0, sink) {
+                    match self.handle_and_write(records, &request, left == 0, sink) {
                         Ok(true) => return Ok(()),
                         Ok(false) => {}
                         Err(_) => return Err(ServeFault::Write),
@@ -118,7 +119,7 @@ impl Setup<'_> {
 }
 
 impl<S: Alter> Broker<'_, S> {
-    ghost use Rattle.osb_broker.specs.Kept.{LivesGo, Works, lives_of, most_of, rules_of, store_of};
+    ghost use Rattle.osb_broker.specs.BrokerState.{LivesGo, Works, lives_of, most_of, rules_in, store_of};
     ghost use Rattle.osb_broker.specs.Room.{limits_of, met_fault};
 
     /// Serves one connection, in pieces as they come: a request is answered as soon as it is
@@ -135,7 +136,7 @@ impl<S: Alter> Broker<'_, S> {
         sink: &mut W,
     ) -> Result<(), ServeFault>
         ensures most { most_of self.new ≡ most_of self.old }
-        ensures rules { rules_of self.new ≡ rules_of self.old }
+        ensures rules { rules_in self.new ≡ rules_in self.old }
         ensures limits { limits_of buffer.new ≡ limits_of buffer.old }
         ensures met_fault { OnOk result (IsTrue (met_fault buffer.new) →
             EndsAtFault (W.taken sink.new)) }
@@ -143,7 +144,7 @@ impl<S: Alter> Broker<'_, S> {
         // What is written is the texts of the connection, whatever pieces it came in.
         ensures ok { Works (store_of S.Store self.new) →
             OnOk result (IfSome (R.rest source.old) (λ all.
-            Served (machine (rules_of self.old)) (limits_of buffer.old) (most_of self.old)
+            Served (machine (rules_in self.old)) (limits_of buffer.old) (most_of self.old)
             (lives_of S.Store self.old) all (W.taken sink.old) (W.taken sink.new)
             (lives_of S.Store self.new))) }
         ensures works { Works (store_of S.Store self.new) → Works (store_of S.Store self.old) }
@@ -152,19 +153,19 @@ impl<S: Alter> Broker<'_, S> {
 
         // A fault has its cause in this call, and leaves a prefix.
         ensures cause { HasCause result (R.failures source.old < R.failures source.new)
-            (W.fruitless sink.old < W.fruitless sink.new) }
-        ensures wrote { WritesOf result (W.fruitless sink.old) (W.fruitless sink.new) }
+            (W.failed_or_empty sink.old < W.failed_or_empty sink.new) }
+        ensures wrote { WritesOf result (W.failed_or_empty sink.old) (W.failed_or_empty sink.new) }
 
         // A read that fails or finds the end is the last one, and each was made where more was needed.
         ensures outcome { (calls : List Call)
-            × Gave (R.calls source.old) (R.calls source.new) (R.rest source.old)
+            × ReadsMade (R.calls source.old) (R.calls source.new) (R.rest source.old)
             (R.rest source.new) calls
             × ReadsOf result calls
             × EachWasNeeded (limits_of buffer.old) (most_of self.old)
             ((limits_of buffer.old).head + (limits_of buffer.old).body) calls
             × ((before after : Lives) →
             LivesGo (store_of S.Store self.old) (store_of S.Store self.new) before after →
-            Outcome result (machine (rules_of self.old)) (limits_of buffer.old)
+            EndsAs result (machine (rules_in self.old)) (limits_of buffer.old)
             (most_of self.old) before (all_bytes calls) (R.rest source.new) (W.taken sink.old)
             (W.taken sink.new) after) }
     {

@@ -7,7 +7,7 @@ use Rattle.osb_catalog.specs.declared.field.Field.{Field}
 use Rattle.osb_catalog.specs.declared.field.Field.TheVariants as the
 use Rattle.osb_catalog.specs.Fields.{field_name, value_at}
 use Rattle.osb_catalog.specs.Catalog.{with_member, shown_members, shown, each_item}
-use Rattle.osb_catalog.specs.Pieces.{member_text, piece, pieces, item_pieces, joined, enclosed}
+use Rattle.osb_catalog.specs.Pieces.{member_text, piece, pieces, item_pieces, joined_by_commas, enclosed}
 
 -- no name of a field has a character that JSON escapes
 name_text : (field : Field) (text : List ℕ) → quoted (field_name field) ++ 58 ∷ text ≡ member_text field text
@@ -50,21 +50,21 @@ one_member comma name text rest rest' same =
     ∙ ap (λ y. comma ++ y) (append_assoc name (58 ∷ text) rest ∙ ap (λ y. name ++ 58 ∷ (text ++ y)) same)
 
 -- the member is there or not, and `rest` says the same of the fields after it
-members_by : (later : Bool) (field : Field) (show : Data → Data) (found : Option Data) (texts : List (List ℕ)) (others : Members) → ((later : Bool) → joined later texts ++ (125 ∷ []) ≡ members_text later others) → joined later (piece show field found ++ texts) ++ (125 ∷ []) ≡ members_text later (with_member field show found others)
+members_by : (later : Bool) (field : Field) (show : Data → Data) (found : Option Data) (texts : List (List ℕ)) (others : Members) → ((later : Bool) → joined_by_commas later texts ++ (125 ∷ []) ≡ members_text later others) → joined_by_commas later (piece show field found ++ texts) ++ (125 ∷ []) ≡ members_text later (with_member field show found others)
 members_by later field show None texts others rest = rest later
 members_by later field show (Some d) texts others rest =
-    append_assoc (comma_if later ++ member_text field (compact_text (show d))) (joined true texts) (125 ∷ [])
-    ∙ ap (λ y. (comma_if later ++ y) ++ (joined true texts ++ (125 ∷ []))) (sym (name_text field (compact_text (show d))))
-    ∙ one_member (comma_if later) (quoted (field_name field)) (compact_text (show d)) (joined true texts ++ (125 ∷ [])) (members_text true others) (rest true)
+    append_assoc (comma_if later ++ member_text field (compact_text (show d))) (joined_by_commas true texts) (125 ∷ [])
+    ∙ ap (λ y. (comma_if later ++ y) ++ (joined_by_commas true texts ++ (125 ∷ []))) (sym (name_text field (compact_text (show d))))
+    ∙ one_member (comma_if later) (quoted (field_name field)) (compact_text (show d)) (joined_by_commas true texts ++ (125 ∷ [])) (members_text true others) (rest true)
 
-members_joined : (fields : List (Field × (Data → Data))) (v : Data) (later : Bool) → joined later (pieces fields v) ++ (125 ∷ []) ≡ members_text later (shown_members fields v)
+members_joined : (fields : List (Field × (Data → Data))) (v : Data) (later : Bool) → joined_by_commas later (pieces fields v) ++ (125 ∷ []) ≡ members_text later (shown_members fields v)
 members_joined [] v later = refl
 members_joined (f ∷ fs) v later = members_by later f.0 f.1 (value_at f.0 v) (pieces fs v) (shown_members fs v) (members_joined fs v)
 
-items_joined : (later : Bool) (show : Data → Data) (ds : Items) → joined later (item_pieces show ds) ++ (93 ∷ []) ≡ items_text later (each_item show ds)
+items_joined : (later : Bool) (show : Data → Data) (ds : Items) → joined_by_commas later (item_pieces show ds) ++ (93 ∷ []) ≡ items_text later (each_item show ds)
 items_joined later show no_items = refl
 items_joined later show (item d ds) =
-    append_assoc (comma_if later ++ compact_text (show d)) (joined true (item_pieces show ds)) (93 ∷ [])
+    append_assoc (comma_if later ++ compact_text (show d)) (joined_by_commas true (item_pieces show ds)) (93 ∷ [])
     ∙ ap (λ y. (comma_if later ++ compact_text (show d)) ++ y) (items_joined true show ds)
     ∙ append_assoc (comma_if later) (compact_text (show d)) (items_text true (each_item show ds))
 

@@ -8,7 +8,7 @@ use Rattle.osb_text.specs.declared.fault.TextFault.{TextFault}
 use Rattle.osb_catalog.specs.declared.field.Field.{Field}
 use Rattle.osb_catalog.specs.declared.fault.SettingsFault.{SettingsFault}
 use Rattle.osb_catalog.specs.declared.fault.SettingsFault.TheVariants.{Text, Missing, DoubleId, LeftOut, Version, Mode, Credential, Memory}
-use Rattle.osb_catalog.specs.FaultNames.{number_of}
+use Rattle.osb_catalog.specs.FaultNames.{fault_number}
 use Rattle.osb_catalog.specs.Items.{first_of}
 use Rattle.osb_catalog.specs.Missing.{first_missing, first_left_out}
 use Rattle.osb_catalog.specs.Ids.{has_double_id}
@@ -29,7 +29,7 @@ StandsBy missing double left version mode credential Mode = mode ≡ true
 StandsBy missing double left version mode credential Credential = credential ≡ true
 StandsBy missing double left version mode credential Memory = ⊥
 
-from_missing : (g : Field) (double : Bool) (left : Option Field) (version mode credential : Bool) (other : SettingsFault) → StandsBy (Some g) double left version mode credential other → 2 ≤ number_of other
+from_missing : (g : Field) (double : Bool) (left : Option Field) (version mode credential : Bool) (other : SettingsFault) → StandsBy (Some g) double left version mode credential other → 2 ≤ fault_number other
 from_missing g double left version mode credential Text h = absurd h
 from_missing g double left version mode credential (Missing field) h = omega arith
 from_missing g double left version mode credential DoubleId h = omega arith
@@ -39,7 +39,7 @@ from_missing g double left version mode credential Mode h = omega arith
 from_missing g double left version mode credential Credential h = omega arith
 from_missing g double left version mode credential Memory h = omega arith
 
-from_double_id : (left : Option Field) (version mode credential : Bool) (other : SettingsFault) → StandsBy None true left version mode credential other → 3 ≤ number_of other
+from_double_id : (left : Option Field) (version mode credential : Bool) (other : SettingsFault) → StandsBy None true left version mode credential other → 3 ≤ fault_number other
 from_double_id left version mode credential Text h = absurd h
 from_double_id left version mode credential (Missing field) h = cc
 from_double_id left version mode credential DoubleId h = omega arith
@@ -49,7 +49,7 @@ from_double_id left version mode credential Mode h = omega arith
 from_double_id left version mode credential Credential h = omega arith
 from_double_id left version mode credential Memory h = omega arith
 
-from_left_out : (g : Field) (version mode credential : Bool) (other : SettingsFault) → StandsBy None false (Some g) version mode credential other → 4 ≤ number_of other
+from_left_out : (g : Field) (version mode credential : Bool) (other : SettingsFault) → StandsBy None false (Some g) version mode credential other → 4 ≤ fault_number other
 from_left_out g version mode credential Text h = absurd h
 from_left_out g version mode credential (Missing field) h = cc
 from_left_out g version mode credential DoubleId h = absurd (false≢true h)
@@ -59,7 +59,7 @@ from_left_out g version mode credential Mode h = omega arith
 from_left_out g version mode credential Credential h = omega arith
 from_left_out g version mode credential Memory h = omega arith
 
-from_version : (mode credential : Bool) (other : SettingsFault) → StandsBy None false None true mode credential other → 5 ≤ number_of other
+from_version : (mode credential : Bool) (other : SettingsFault) → StandsBy None false None true mode credential other → 5 ≤ fault_number other
 from_version mode credential Text h = absurd h
 from_version mode credential (Missing field) h = cc
 from_version mode credential DoubleId h = absurd (false≢true h)
@@ -69,7 +69,7 @@ from_version mode credential Mode h = omega arith
 from_version mode credential Credential h = omega arith
 from_version mode credential Memory h = omega arith
 
-from_mode : (credential : Bool) (other : SettingsFault) → StandsBy None false None false true credential other → 6 ≤ number_of other
+from_mode : (credential : Bool) (other : SettingsFault) → StandsBy None false None false true credential other → 6 ≤ fault_number other
 from_mode credential Text h = absurd h
 from_mode credential (Missing field) h = cc
 from_mode credential DoubleId h = absurd (false≢true h)
@@ -89,7 +89,7 @@ none_but_credential credential Mode h = absurd (false≢true h)
 none_but_credential credential Credential h = refl
 none_but_credential credential Memory h = absurd h
 
-from_credential : (other : SettingsFault) → StandsBy None false None false false true other → 7 ≤ number_of other
+from_credential : (other : SettingsFault) → StandsBy None false None false false true other → 7 ≤ fault_number other
 from_credential other h = rw (none_but_credential true other h) (omega arith)
 
 none_stands : (other : SettingsFault) → StandsBy None false None false false false other → ⊥
@@ -121,10 +121,10 @@ judged_unless Standing file None h = h
 judged_unless Standing file (Some fault) h = h
 
 -- the looks at an object, each for itself
-abbrev Looked : Data → SettingsFault → Type 0
-Looked file = StandsBy (first_missing file) (has_double_id file) (first_left_out file) (refuses_versions file) (refuses_modes file) (refuses_logins file)
+abbrev FaultInTurn : Data → SettingsFault → Type 0
+FaultInTurn file = StandsBy (first_missing file) (has_double_id file) (first_left_out file) (refuses_versions file) (refuses_modes file) (refuses_logins file)
 
-to_object : (file : Data) (fault : SettingsFault) → Looked file fault → StandsInObject file fault
+to_object : (file : Data) (fault : SettingsFault) → FaultInTurn file fault → StandsInObject file fault
 to_object file Text h = h
 to_object file (Missing field) h = h
 to_object file DoubleId h = h
@@ -134,7 +134,7 @@ to_object file Mode h = h
 to_object file Credential h = h
 to_object file Memory h = h
 
-from_object : (file : Data) (fault : SettingsFault) → StandsInObject file fault → Looked file fault
+from_object : (file : Data) (fault : SettingsFault) → StandsInObject file fault → FaultInTurn file fault
 from_object file Text h = h
 from_object file (Missing field) h = h
 from_object file DoubleId h = h
@@ -149,9 +149,9 @@ judged_alike Standing Other to from None h = λ fault other. h fault (from fault
 judged_alike Standing Other to from (Some fault) h = record { stands = to fault h.stands; lowest = λ other o. h.lowest other (from other o) }
 
 judged_object : (file : Data) → IsJudged (StandsInObject file) (contents_unless file (first_fault file))
-judged_object file = judged_unless (StandsInObject file) file (first_fault file) (judged_alike (Looked file) (StandsInObject file) (to_object file) (from_object file) (first_fault file) (judged_by (first_missing file) (has_double_id file) (first_left_out file) (refuses_versions file) (refuses_modes file) (refuses_logins file)))
+judged_object file = judged_unless (StandsInObject file) file (first_fault file) (judged_alike (FaultInTurn file) (StandsInObject file) (to_object file) (from_object file) (first_fault file) (judged_by (first_missing file) (has_double_id file) (first_left_out file) (refuses_versions file) (refuses_modes file) (refuses_logins file)))
 
-text_is_lowest : (other : SettingsFault) → 1 ≤ number_of other
+text_is_lowest : (other : SettingsFault) → 1 ≤ fault_number other
 text_is_lowest Text = omega arith
 text_is_lowest (Missing field) = omega arith
 text_is_lowest DoubleId = omega arith

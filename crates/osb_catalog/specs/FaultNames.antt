@@ -4,15 +4,15 @@ use Rattle.osb_catalog.specs.declared.field.Field.{Field}
 use Rattle.osb_catalog.specs.declared.fault.SettingsFault.{SettingsFault}
 use Rattle.osb_catalog.specs.declared.fault.SettingsFault.TheVariants.{Text, Missing, DoubleId, LeftOut, Version, Mode, Credential, Memory}
 
-abbrev pub number_of : SettingsFault → ℕ
-number_of Text = 1
-number_of (Missing field) = 2
-number_of DoubleId = 3
-number_of (LeftOut field) = 4
-number_of Version = 5
-number_of Mode = 6
-number_of Credential = 7
-number_of Memory = 8
+abbrev pub fault_number : SettingsFault → ℕ
+fault_number Text = 1
+fault_number (Missing field) = 2
+fault_number DoubleId = 3
+fault_number (LeftOut field) = 4
+fault_number Version = 5
+fault_number Mode = 6
+fault_number Credential = 7
+fault_number Memory = 8
 
 abbrev pub fault_name : SettingsFault → List ℕ
 fault_name Text = codes "Text"

@@ -114,14 +114,14 @@ first_planned ids fault file =
 abbrev pub first_of_plans : SettingsFault → Data → Option Place
 first_of_plans fault file = first_planned (plan_ids (services_of file)) fault file
 
-abbrev pub place_in : SettingsFault → Data → Option Place
-place_in fault file =
+abbrev pub id_position_in : SettingsFault → Data → Option Place
+id_position_in fault file =
     option_or (first_named fault file)
     (option_or (first_of_services fault file)
     (first_of_plans fault file))
 
 abbrev pub place_read : SettingsFault → Result Data TextFault → Option Place
-place_read fault (Ok file) = place_in fault file
+place_read fault (Ok file) = id_position_in fault file
 place_read fault (Err text) = None
 
 -- where the fault is in the file of these bytes, if it is there at all

@@ -4,7 +4,7 @@ use Rattle.osb_catalog.specs.declared.plan.Plan.{Plan}
 use Rattle.osb_catalog.specs.declared.plan.Service.{Service}
 use Rattle.osb_catalog.specs.declared.settings.Settings.TheInside.{Inside}
 use Rattle.osb_catalog.specs.SettingsData.{SettingsData}
-use Rattle.osb_catalog.specs.Places.{ArePlacesOf}
+use Rattle.osb_catalog.specs.IdPositions.{AreIdPositionsOf}
 use Rattle.osb_catalog.specs.Sound.{IsSettings}
 
 abbrev pub data_of : Inside → SettingsData
@@ -20,5 +20,5 @@ data_of s = record {
 -- the settings are sound, and their services and plans stand at the places that are kept of their ids
 pub record AreIndexed (s : Inside) : Type 0 where
   pub sound : IsSettings (data_of s)
-  pub services : ArePlacesOf s.service_places (map (λ (service : Service). service.id) s.services.items)
-  pub plans : ArePlacesOf s.plan_places (map (λ (plan : Plan). plan.id) s.plans.items)
+  pub services : AreIdPositionsOf s.service_places (map (λ (service : Service). service.id) s.services.items)
+  pub plans : AreIdPositionsOf s.plan_places (map (λ (plan : Plan). plan.id) s.plans.items)

@@ -52,8 +52,8 @@ abbrev pub has_text : Field → Data → Bool
 has_text field d = is_some_and is_text (value_at field d)
 
 -- an object with the texts `user` and `password`
-abbrev pub is_login : Data → Bool
-is_login d = is_object d && has_text the.User d && has_text the.Password d
+abbrev pub is_login_object : Data → Bool
+is_login_object d = is_object d && has_text the.User d && has_text the.Password d
 
 -- an object with the text `version`, and where it has a `description` that is a text
 abbrev pub is_maintenance_info : Data → Bool
@@ -65,7 +65,7 @@ fits a.Object d = is_object d
 fits a.ObjectOfObjects d = is_some_and (all_members is_object_or_null) (as_object d)
 fits a.ObjectList d = is_some_and are_objects (as_array d)
 fits a.NonEmptyObjectList d = is_some_and are_some_objects (as_array d)
-fits a.Login d = is_login d
+fits a.Login d = is_login_object d
 fits a.IdText d = is_some_and is_id (as_str d)
 fits a.NonEmptyText d = is_some_and (λ text. not (length text == 0)) (as_str d)
 fits a.TextList d = is_some_and (all_items is_text) (as_array d)

@@ -25,6 +25,6 @@ pub mod Catalog
 pub mod Found
 -- For contracts inside the crate.
 pub mod Inside
-pub mod Places
+pub mod IdPositions
 pub mod IdSet
 pub mod Pieces

@@ -5,7 +5,7 @@ use Rattle.osb_text.specs.Reading.{object_of}
 use Rattle.osb_text.specs.declared.fault.TextFault.{TextFault}
 use Rattle.osb_catalog.specs.declared.fault.SettingsFault.{SettingsFault}
 use Rattle.osb_catalog.specs.declared.fault.SettingsFault.TheVariants.{Text, Missing, DoubleId, LeftOut, Version, Mode, Credential, Memory}
-use Rattle.osb_catalog.specs.FaultNames.{number_of}
+use Rattle.osb_catalog.specs.FaultNames.{fault_number}
 use Rattle.osb_catalog.specs.Missing.{first_missing, first_left_out}
 use Rattle.osb_catalog.specs.Ids.{has_double_id}
 use Rattle.osb_catalog.specs.Versions.{refuses_versions}
@@ -35,7 +35,7 @@ Stands bytes e = StandsIn (object_of bytes) e
 -- the fault stands, and none of a lower number does
 pub record IsLowest (Standing : SettingsFault → Type 0) (e : SettingsFault) : Type 0 where
   pub stands : Standing e
-  pub lowest : (other : SettingsFault) → Standing other → number_of e ≤ number_of other
+  pub lowest : (other : SettingsFault) → Standing other → fault_number e ≤ fault_number other
 
 -- no fault stands where the file has settings, and otherwise the lowest is named
 abbrev pub IsJudged : (SettingsFault → Type 0) → Result SettingsData SettingsFault → Type 0

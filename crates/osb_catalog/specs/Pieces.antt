@@ -28,9 +28,9 @@ item_pieces show no_items = []
 item_pieces show (item d ds) = compact_text (show d) ∷ item_pieces show ds
 
 -- with commas between them, and one before the first where something stands before
-abbrev pub joined : Bool → List (List ℕ) → List ℕ
-joined later [] = []
-joined later (t ∷ ts) = (comma_if later ++ t) ++ joined true ts
+abbrev pub joined_by_commas : Bool → List (List ℕ) → List ℕ
+joined_by_commas later [] = []
+joined_by_commas later (t ∷ ts) = (comma_if later ++ t) ++ joined_by_commas true ts
 
 abbrev pub enclosed : List ℕ → List (List ℕ) → List ℕ → List ℕ
-enclosed before texts after = before ++ (joined false texts ++ after)
+enclosed before texts after = before ++ (joined_by_commas false texts ++ after)

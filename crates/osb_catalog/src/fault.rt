@@ -39,11 +39,11 @@ pub enum SettingsFault {
 }
 
 impl SettingsFault {
-    ghost use Rattle.osb_catalog.specs.FaultNames.{number_of, fault_name, field_in};
+    ghost use Rattle.osb_catalog.specs.FaultNames.{fault_number, fault_name, field_in};
 
     /// The number by which faults are ordered, from 1 to 8.
     pub fn number(self) -> u8
-        ensures { result ≡ number_of self }
+        ensures { result ≡ fault_number self }
     {
         match self {
             SettingsFault::Text => 1,

@@ -279,8 +279,12 @@ fn first_of_plans(
     first_planned(alloc, fault, file, &ids)
 }
 
-fn place_in(alloc: Global, fault: SettingsFault, file: &Value) -> Result<Option<Place>, AllocError>
-    ensures { IfOk result (λ place. place ≡ spec.place_in fault (view file.now)) }
+fn id_position_in(
+    alloc: Global,
+    fault: SettingsFault,
+    file: &Value,
+) -> Result<Option<Place>, AllocError>
+    ensures { IfOk result (λ place. place ≡ spec.id_position_in fault (view file.now)) }
 {
     let named = first_named(fault, file);
     if named.is_some() {
@@ -310,7 +314,7 @@ pub fn place_of(
         Err(TextFault::Memory) => return Err(AllocError),
         Err(_) => return Ok(None),
     };
-    let place = place_in(alloc, fault, object.value());
+    let place = id_position_in(alloc, fault, object.value());
     drop(object);
     place
 }

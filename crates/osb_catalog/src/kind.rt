@@ -3,7 +3,7 @@
 ghost use Rattle.std.specs.Prelude.{◌≡◌};
 ghost use Rattle.serde_json.specs.View.{view, items_view, members_view};
 ghost use Rattle.osb_catalog.specs.Items.{all_items, all_members};
-ghost use Rattle.osb_catalog.specs.Kinds.{fits, is_empty, is_text, is_object_or_null, are_objects, are_some_objects, has_text, is_login, is_maintenance_info, is_timing, is_order_limit};
+ghost use Rattle.osb_catalog.specs.Kinds.{fits, is_empty, is_text, is_object_or_null, are_objects, are_some_objects, has_text, is_login_object, is_maintenance_info, is_timing, is_order_limit};
 
 use crate::field::Field;
 use crate::member::value_at;
@@ -55,7 +55,7 @@ impl Kind {
             Kind::NonEmptyObjectList => value
                 .as_array()
                 .is_some_and(|items| are_some_objects(items)),
-            Kind::Login => is_login(value),
+            Kind::Login => is_login_object(value),
             Kind::IdText => value.as_str().is_some_and(|text| is_id(text)),
             Kind::NonEmptyText => value.as_str().is_some_and(|text| !text.is_empty()),
             Kind::TextList => value.as_array().is_some_and(|items| are_texts(items)),
@@ -123,8 +123,8 @@ fn has_text(object: &Value, field: Field) -> bool
     value_at(object, field).is_some_and(|found| found.is_string())
 }
 
-fn is_login(value: &Value) -> bool
-    ensures { result ≡ is_login (view value.now) }
+fn is_login_object(value: &Value) -> bool
+    ensures { result ≡ is_login_object (view value.now) }
 {
     value.is_object() && has_text(value, Field::User) && has_text(value, Field::Password)
 }

@@ -9,12 +9,12 @@ ghost use Rattle.osb_catalog.specs.Faults.{first_fault, settings_of};
 use crate::contents::{read_order_limit, read_plans, read_services};
 use crate::fault::SettingsFault;
 use crate::field::Field;
+use crate::id_positions::IdPositions;
 use crate::ids::{has_double_id, plan_ids, service_ids};
 use crate::login::{refuses_logins, token_at};
 use crate::member::services_of;
 use crate::missing::{first_left_out, first_missing};
 use crate::mode::refuses_modes;
-use crate::places::Places;
 use crate::settings::Settings;
 use crate::shown::catalog_text;
 use crate::version::refuses_versions;
@@ -80,9 +80,9 @@ fn read_contents(alloc: Global, file: &Value) -> Result<Settings, SettingsFault>
     Ok(Settings {
         catalog: catalog_text(alloc, file)?,
         services: read_services(alloc, services)?,
-        service_places: Places::new(alloc, service_ids.as_slice())?,
+        service_places: IdPositions::new(alloc, service_ids.as_slice())?,
         plans: read_plans(alloc, file, services)?,
-        plan_places: Places::new(alloc, plan_ids.as_slice())?,
+        plan_places: IdPositions::new(alloc, plan_ids.as_slice())?,
         order_limit: read_order_limit(file),
         platform_token: token_at(alloc, file, Field::Platform)?,
         backend_token: token_at(alloc, file, Field::Backend)?,

@@ -4,7 +4,7 @@ ghost use Rattle.std.specs.Prelude.{◌≡◌, ◌≤◌, option_map, is_some, l
 ghost use Rattle.osb_catalog.specs.Rules.{rules_of, allows_context_updates, service_named, plan_named};
 ghost use Rattle.osb_catalog.specs.Sound.{AreSound};
 
-use crate::places::Places;
+use crate::id_positions::IdPositions;
 use crate::plan::{Mode, Plan, PlanFacts, Service};
 use osb_text::Text;
 use std::marker::Model;
@@ -18,9 +18,9 @@ use std::marker::Model;
 pub struct Settings {
     pub(crate) catalog: Text,
     pub(crate) services: Vec<Service>,
-    pub(crate) service_places: Places,
+    pub(crate) service_places: IdPositions,
     pub(crate) plans: Vec<Plan>,
-    pub(crate) plan_places: Places,
+    pub(crate) plan_places: IdPositions,
     pub(crate) order_limit: u32,
     pub(crate) platform_token: Text,
     pub(crate) backend_token: Text,

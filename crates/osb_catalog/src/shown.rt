@@ -7,7 +7,7 @@ ghost use Rattle.osb_text.specs.Whole.{is_whole, items_are_whole};
 ghost use Rattle.osb_catalog.specs.declared.field.Field.TheVariants as the;
 ghost use Rattle.osb_catalog.specs.Fields.{value_at};
 ghost use Rattle.osb_catalog.specs.Catalog.{shown, shown_list, shown_in_maintenance_info, shown_in_plan, shown_in_service, shown_in_catalog, catalog_text};
-ghost use Rattle.osb_catalog.specs.Pieces.{member_text, piece, pieces, whole_pieces, item_pieces, joined, enclosed};
+ghost use Rattle.osb_catalog.specs.Pieces.{member_text, piece, pieces, whole_pieces, item_pieces, joined_by_commas, enclosed};
 
 use crate::field::Field;
 use crate::member::{items_or_none, value_at};
@@ -265,7 +265,7 @@ fn enclosed(alloc: Global, before: &str, texts: &[Text], after: &str) -> Result<
 }
 
 fn push_joined(whole: &mut String, texts: &[Text]) -> Result<(), AllocError>
-    ensures { OnOk result (string_bytes whole.new ≡ string_bytes whole.old ++ joined false texts.now) }
+    ensures { OnOk result (string_bytes whole.new ≡ string_bytes whole.old ++ joined_by_commas false texts.now) }
 {
     let mut later = false;
     for text in texts {

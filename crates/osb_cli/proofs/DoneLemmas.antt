@@ -4,9 +4,10 @@ use Rattle.std.proofs.lemmas.Bool.{false≢true}
 use Rattle.std.proofs.lemmas.List.{length-map}
 use Rattle.clap.specs.Words.{subcommand_of, takes}
 use Rattle.clap.proofs.OnLiterals.{clap_on_literals}
-use Rattle.osb_cli.specs.Done.{AreChecked, AreConnections, IsDone, IsReplayedBy, IsReplayedFor}
+use Rattle.osb_cli.specs.Done.{AreChecked, AreConnections, IsDone, IsReplayedBy}
+use Rattle.osb_cli.specs.Inside.{IsReplayedFor, AsksCheck, AsksReplay}
 use Rattle.osb_cli.specs.Grammar.{osb_broker}
-use Rattle.osb_cli.specs.Words.{AsksCheck, AsksReplay, Found, Names}
+use Rattle.osb_cli.specs.Words.{FoundCommand, Names}
 use Rattle.osb_cli.specs.declared.words.Check.{Check}
 use Rattle.osb_cli.specs.declared.words.Replay.{Replay}
 
@@ -25,7 +26,7 @@ of_files [] input files some same = absurd (some refl)
 of_files (name ∷ names) input files some same = same ∙ sym (length-map (name ∷ names) (λ it. it.now))
 
 -- no words name two commands
-pub not_both : (found : Found) → Names (codes "check") found → Names (codes "serve") found → ⊥
+pub not_both : (found : FoundCommand) → Names (codes "check") found → Names (codes "serve") found → ⊥
 not_both found checks serves = false≢true (sym (ap (λ (name : Option (List ℕ)). bytes_eq (unwrap_or name []) (codes "check")) (sym checks ∙ serves)))
 
 -- what was done well without a file was done well
@@ -42,7 +43,7 @@ pub if_failed : {A E : Type 0} (done : Result A E) (P : E → Type 0) → ((faul
 if_failed (Ok x) P known = tt
 if_failed (Err fault) P known = known fault
 
-module _ (found : Found) (input : Option (List ℕ)) (old new : List ℕ) where
+module _ (found : FoundCommand) (input : Option (List ℕ)) (old new : List ℕ) where
   pub is_checked : (asked : Check) → AsksCheck found asked
       → AreChecked (option_map (λ it. it.now) asked.settings) (option_map (λ it. it.now) asked.database) old new
       → IsDone found input old new

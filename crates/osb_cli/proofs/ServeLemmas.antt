@@ -11,9 +11,10 @@ use Rattle.osb_listen.specs.Held.{ServesFrom, IsInUse, LeavesOf}
 use Rattle.osb_cli.specs.declared.fault.Unserved.{Unserved}
 use Rattle.osb_cli.specs.declared.fault.Unserved.TheVariants.{Fault, PlanInUse}
 use Rattle.osb_cli.specs.Settings.{AreAccepted}
-use Rattle.osb_cli.specs.Words.{AsksServe, Found}
+use Rattle.osb_cli.specs.Words.{FoundCommand}
 use Rattle.osb_cli.specs.declared.words.Listen.{Listen}
-use Rattle.osb_cli.specs.Serve.{IsPlan, IsServed, IsServedAs, LacksPlan, NameOne, NamesInUse, NamesSome}
+use Rattle.osb_cli.specs.Serve.{IsServed, IsServedAs, LacksPlan, NamesSome}
+use Rattle.osb_cli.specs.Inside.{IsPlan, NameOne, NamesInUse, AsksServe}
 
 module _ (settings : SettingsData) (accepted : AreAccepted settings) (k count : ℕ) (db : Trees) (new : Lives) (told_old told_new : List ℕ) where
   pub is_served : ServesFrom (rules_of settings) k count db new told_old told_new → IsServed k count db new told_old told_new
@@ -38,7 +39,7 @@ module _ (settings : SettingsData) (accepted : AreAccepted settings) (k count : 
   names_in_use listen.FileTaken (PlanInUse found named) one leaves = absurd one
 
 -- as many connections as the words say
-pub served_as : (found : Found) (asked : Listen) (db : Trees) (new : Lives) (told_old told_new : List ℕ) → AsksServe found asked
+pub served_as : (found : FoundCommand) (asked : Listen) (db : Trees) (new : Lives) (told_old told_new : List ℕ) → AsksServe found asked
     → IsServed asked.per_connection.number asked.place.connections db new told_old told_new → IsServedAs found db new told_old told_new
 served_as found asked db new told_old told_new asks served = record {
   per_connection = asked.per_connection.number;

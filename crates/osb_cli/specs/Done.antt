@@ -1,5 +1,5 @@
 -- What a command that ends with status 0 has written.
-use Rattle.std.specs.Prelude.{◌≡◌, ℕ, List, [], ◌∷◌, ◌++◌, length, codes, decimal, map, Option, None, Some, option_map, IfSome}
+use Rattle.std.specs.Prelude.{◌≡◌, ℕ, List, [], ◌∷◌, ◌++◌, length, codes, decimal, Option, None, Some, IfSome}
 use Rattle.sqlite.specs.Files.{HoldsDatabase}
 use Rattle.sqlite_trees.specs.Tree.{Trees}
 use Rattle.osb_catalog.specs.Rules.{rules_of}
@@ -9,8 +9,7 @@ use Rattle.osb_file.specs.declared.copied.Copied.{Copied}
 use Rattle.osb_file.specs.Looked.{IsCounted, image_in}
 use Rattle.osb_cli.specs.Replay.{IsReplayed}
 use Rattle.osb_cli.specs.Settings.{AreAccepted, AreSettingsOf}
-use Rattle.osb_cli.specs.declared.words.Replay.{Replay}
-use Rattle.osb_cli.specs.Words.{Found, HasPerConnection, Names, text_in, texts_in}
+use Rattle.osb_cli.specs.Words.{FoundCommand, HasPerConnection, Names, text_in, texts_in}
 
 abbrev pub counts_line : ℕ → ℕ → List ℕ
 counts_line services plans =
@@ -64,13 +63,8 @@ pub record IsReplayedBy (file : Option (List ℕ)) (most : ℕ) (names : List (L
   pub given : AreConnections names input connections
   pub replayed : IsReplayed (rules_of settings) most connections old new
 
--- as a replay was asked for
-abbrev pub IsReplayedFor : Replay → Option (List ℕ) → List ℕ → List ℕ → Type 0
-IsReplayedFor asked = IsReplayedBy (option_map (λ it. it.now) asked.settings) asked.per_connection.number
-    (map (λ it. it.now) asked.connections.items)
-
 -- what `check` has written, and what `replay`, also without its name
-pub record IsDone (found : Found) (input : Option (List ℕ)) (old new : List ℕ) : Type 0 where
+pub record IsDone (found : FoundCommand) (input : Option (List ℕ)) (old new : List ℕ) : Type 0 where
   pub check : Names (codes "check") found →
       AreChecked (text_in (codes "settings") found) (text_in (codes "database") found) old new
   pub replay : ¬ Names (codes "check") found → ¬ Names (codes "serve") found → (most : ℕ) × HasPerConnection found most

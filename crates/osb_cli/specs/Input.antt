@@ -4,7 +4,7 @@ use Rattle.osb_cli.specs.declared.input.ReadFault.{ReadFault}
 use Rattle.osb_cli.specs.declared.input.ReadFault.TheVariants.{Failed, TooLarge, Memory}
 
 -- the fault has its cause: a read that failed, or more bytes than the limit
-abbrev pub HasCause : ReadFault → Type 0 → Type 0 → Type 0
-HasCause Failed failed large = failed
-HasCause TooLarge failed large = large
-HasCause Memory failed large = ⊤
+abbrev pub HasReadCause : ReadFault → Type 0 → Type 0 → Type 0
+HasReadCause Failed failed large = failed
+HasReadCause TooLarge failed large = large
+HasReadCause Memory failed large = ⊤

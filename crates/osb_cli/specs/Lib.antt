@@ -12,4 +12,5 @@ pub mod Serve
 pub mod Settings
 pub mod BuiltIn
 -- For contracts inside the crate.
+pub mod Inside
 pub mod Input

@@ -5,7 +5,7 @@ use Rattle.std.specs.FinMap.{empty}
 use Rattle.osb_frames.specs.declared.limits.Limits.{Limits}
 use Rattle.osb_catalog.specs.Rules.{Rules}
 use Rattle.osb_orders.specs.Lives.{Lives}
-use Rattle.osb_broker.specs.Steps.{crowded}
+use Rattle.osb_broker.specs.Steps.{capped}
 use Rattle.osb_broker.specs.Served.{AreStandard, RunServed}
 
 -- the texts of connections of these bytes were written, one after the other, from a broker over these rules that has no
@@ -15,5 +15,5 @@ pub record IsReplayed (rules : Rules) (most : ℕ) (connections : List (List ℕ
   pub standard : AreStandard limits
   pub outputs : List (List ℕ)
   pub lives : Lives
-  pub served : RunServed (crowded rules) limits most empty connections outputs lives
+  pub served : RunServed (capped rules) limits most empty connections outputs lives
   pub written : new ≡ old ++ concat outputs

@@ -1,16 +1,12 @@
 -- What `serve` leaves of a database file, of which is supposed what it held.
-use Rattle.std.specs.Prelude.{◌≡◌, ℕ, List, ⊤}
+use Rattle.std.specs.Prelude.{ℕ, List}
 use Rattle.sqlite.specs.Tree.{Trees}
 use Rattle.osb_catalog.specs.Rules.{rules_of}
 use Rattle.osb_catalog.specs.SettingsData.{SettingsData}
 use Rattle.osb_orders.specs.Lives.{Lives}
-use Rattle.osb_listen.specs.declared.fault.ListenFault.{ListenFault}
-use Rattle.osb_listen.specs.declared.fault.ListenFault.TheVariants as listen
 use Rattle.osb_listen.specs.Held.{ServesFrom, IsInUse}
-use Rattle.osb_cli.specs.declared.fault.Unserved.{Unserved}
-use Rattle.osb_cli.specs.declared.fault.Unserved.TheVariants.{Fault, PlanInUse}
 use Rattle.osb_cli.specs.Settings.{AreAccepted}
-use Rattle.osb_cli.specs.Words.{Found, HasConnections, HasPerConnection}
+use Rattle.osb_cli.specs.Words.{FoundCommand, HasConnections, HasPerConnection}
 
 -- so many connections were served, by accepted settings, from the lives that stand in these trees
 pub record IsServed (per_connection connections : ℕ) (db : Trees) (new : Lives) (told_old told_new : List ℕ) : Type 0 where
@@ -19,7 +15,7 @@ pub record IsServed (per_connection connections : ℕ) (db : Trees) (new : Lives
   pub served : ServesFrom (rules_of settings) per_connection connections db new told_old told_new
 
 -- as many as the words say
-pub record IsServedAs (found : Found) (db : Trees) (new : Lives) (told_old told_new : List ℕ) : Type 0 where
+pub record IsServedAs (found : FoundCommand) (db : Trees) (new : Lives) (told_old told_new : List ℕ) : Type 0 where
   pub per_connection : ℕ
   pub of_each : HasPerConnection found per_connection
   pub connections : ℕ
@@ -31,22 +27,6 @@ pub record LacksPlan (db : Trees) (service plan : List ℕ) : Type 0 where
   pub settings : SettingsData
   pub accepted : AreAccepted settings
   pub lacks : IsInUse (rules_of settings) db service plan
-
--- a plan that is named as in use is one
-abbrev pub NamesInUse : Trees → Unserved → Type 0
-NamesInUse db (PlanInUse service plan) = LacksPlan db service plan
-NamesInUse db (Fault fault) = ⊤
-
--- a fault of serving and the one that the command has for it name the same plan, or none
-abbrev pub NameOne : ListenFault → Unserved → Type 0
-NameOne (listen.PlanInUse service plan) (PlanInUse found named) = (found ≡ service) × (named ≡ plan)
-NameOne fault (PlanInUse found named) = ⊥
-NameOne fault (Fault other) = ⊤
-
--- the fault names a plan
-abbrev pub IsPlan : Unserved → Type 0
-IsPlan (PlanInUse service plan) = ⊤
-IsPlan (Fault fault) = ⊥
 
 -- some plan that the lives in these trees have in use is lacking
 abbrev pub NamesSome : Trees → Type 0

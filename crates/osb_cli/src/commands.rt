@@ -6,10 +6,11 @@ ghost use Rattle.clap.specs.Words.{kind_of};
 ghost use Rattle.sqlite.specs.Tree.{Trees};
 ghost use Rattle.sqlite_wal.specs.Files.{image_at};
 ghost use Rattle.sqlite.specs.Files.{file_state, HoldsDatabase};
-ghost use Rattle.osb_records.specs.Steps.{stored};
-ghost use Rattle.osb_broker.specs.Kept.{Works};
-ghost use Rattle.osb_cli.specs.Done.{IsDone, IsReplayedBy, IsReplayedFor};
-ghost use Rattle.osb_cli.specs.Serve.{IsPlan, IsServedAs, NamesInUse, NamesSome};
+ghost use Rattle.osb_statements.specs.Steps.{stored};
+ghost use Rattle.osb_broker.specs.BrokerState.{Works};
+ghost use Rattle.osb_cli.specs.Done.{IsDone, IsReplayedBy};
+ghost use Rattle.osb_cli.specs.Inside.{IsReplayedFor, IsPlan, NamesInUse};
+ghost use Rattle.osb_cli.specs.Serve.{IsServedAs, NamesSome};
 ghost use Rattle.osb_cli.specs.Words.{AreTaken, Names, found_by};
 
 use crate::check::check;
@@ -18,7 +19,7 @@ use crate::listen::listen;
 use crate::output::write;
 use crate::replay::{replay_files, replay_input};
 use crate::settings::settings_or_built_in;
-use crate::words::{Order, Replay, read};
+use crate::words::{Job, Replay, read};
 use clap::Error;
 use clap::error::ErrorKind;
 use osb_file::Opened;
@@ -101,9 +102,9 @@ fn perform<'a, S: Start, R: Source, W: Sink, E: Sink>(
         Err(error) => return without_file(answer_words(rt.alloc(), &error, output)),
     };
     match order {
-        Order::Check(asked) => without_file(check(rt, &asked, output)),
-        Order::Replay(asked) => without_file(replay(rt, &asked, input, output)),
-        Order::Serve(asked) => listen(rt, &asked, start, output, errors),
+        Job::Check(asked) => without_file(check(rt, &asked, output)),
+        Job::Replay(asked) => without_file(replay(rt, &asked, input, output)),
+        Job::Serve(asked) => listen(rt, &asked, start, output, errors),
     }
 }
 
@@ -118,7 +119,7 @@ fn status_of<E: Sink>(done: Result<(), Unserved<'_>>, errors: &mut E) -> u8
     let Err(fault) = done else {
         return 0;
     };
-    fault.tell(errors);
+    fault.print_line(errors);
     fault.status()
 }
 

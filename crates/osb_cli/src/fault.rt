@@ -95,7 +95,7 @@ pub(crate) fn say<E: Sink>(errors: &mut E, pieces: &[&str]) {
 }
 
 /// Writes the line of a settings fault: its number, its name and, where it has one, its field.
-fn tell_settings<E: Sink>(fault: SettingsFault, errors: &mut E) {
+fn print_settings_fault<E: Sink>(fault: SettingsFault, errors: &mut E) {
     let mut digits = Buffer::new();
     let number = digits.format(fault.number());
     match fault.field() {
@@ -140,14 +140,14 @@ fn tell_place<E: Sink>(place: &Place, errors: &mut E) {
 
 /// Writes the line of a database file that can't be looked at, and behind it the cause.
 fn tell_unseen<E: Sink>(unseen: Unseen, errors: &mut E) {
-    tell_database(unseen.store_fault(), errors);
+    print_database_fault(unseen.store_fault(), errors);
     if unseen != Unseen::NotOurs {
         say(errors, &[unseen.text(), "\n"]);
     }
 }
 
 /// Writes the line of a fault of the database: its number and its name.
-fn tell_database<E: Sink>(fault: StoreFault, errors: &mut E) {
+fn print_database_fault<E: Sink>(fault: StoreFault, errors: &mut E) {
     match fault {
         StoreFault::Refused => say(errors, &["database: 1 Refused\n"]),
         StoreFault::NotOurs => say(errors, &["database: 2 NotOurs\n"]),
@@ -175,12 +175,12 @@ impl Fault<'_> {
     }
 
     /// Writes the line that reports it. It takes no memory.
-    pub(crate) fn tell<E: Sink>(&self, errors: &mut E) {
+    pub(crate) fn print_line<E: Sink>(&self, errors: &mut E) {
         match self {
             Fault::CannotRead(file) => say(errors, &["osb-broker: cannot read ", file, "\n"]),
             Fault::TooLarge(file) => say(errors, &["osb-broker: too large ", file, "\n"]),
             Fault::OutOfMemory => say(errors, &["osb-broker: out of memory\n"]),
-            Fault::Database(fault) => tell_database(*fault, errors),
+            Fault::Database(fault) => print_database_fault(*fault, errors),
             Fault::CannotWrite => say(errors, &["osb-broker: cannot write\n"]),
             Fault::CannotListen(address) => say(
                 errors,
@@ -188,9 +188,9 @@ impl Fault<'_> {
             ),
             Fault::CannotAccept => say(errors, &["osb-broker: cannot accept\n"]),
             Fault::Words(text) => say(errors, &[text.as_str()]),
-            Fault::Settings(fault) => tell_settings(*fault, errors),
+            Fault::Settings(fault) => print_settings_fault(*fault, errors),
             Fault::Placed(fault, place) => {
-                tell_settings(*fault, errors);
+                print_settings_fault(*fault, errors);
                 tell_place(place, errors);
             }
             Fault::Unseen(unseen) => tell_unseen(*unseen, errors),
@@ -199,7 +199,7 @@ impl Fault<'_> {
 }
 
 impl Unserved<'_> {
-    ghost use Rattle.osb_cli.specs.Serve.{IsPlan};
+    ghost use Rattle.osb_cli.specs.Inside.{IsPlan};
 
     /// The status that the process ends with.
     pub(crate) fn status(&self) -> u8
@@ -214,9 +214,9 @@ impl Unserved<'_> {
     }
 
     /// Writes the line that reports it. It takes no memory.
-    pub(crate) fn tell<E: Sink>(&self, errors: &mut E) {
+    pub(crate) fn print_line<E: Sink>(&self, errors: &mut E) {
         match self {
-            Unserved::Fault(fault) => fault.tell(errors),
+            Unserved::Fault(fault) => fault.print_line(errors),
             Unserved::PlanInUse(service, plan) => say(
                 errors,
                 &["plan in use: ", service.as_str(), " ", plan.as_str(), "\n"],

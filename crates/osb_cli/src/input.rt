@@ -1,7 +1,7 @@
 //! Files and standard input, read whole up to a limit.
 
 ghost use Rattle.std.specs.Prelude.{◌≡◌, ◌≤◌, ◌<◌, ◌++◌, length, ◌+◌, IfOk, IfErr, IfSome};
-ghost use Rattle.osb_cli.specs.Input.{HasCause};
+ghost use Rattle.osb_cli.specs.Input.{HasReadCause};
 
 use crate::fault::Fault;
 use osb_frames::{Counted, Source};
@@ -52,7 +52,7 @@ pub(crate) fn read_whole<R: Source>(alloc: Global, source: &mut R) -> Result<Vec
     ensures whole { IfOk result (λ bytes. IfSome (R.rest source.old) (λ all. all ≡ bytes.items)) }
     ensures bounded { length (R.given source.new) ≤ length (R.given source.old) + 16777217 }
     ensures small { IfOk result (λ bytes. length bytes.items ≤ 16777216) }
-    ensures cause { IfErr result (λ fault. HasCause fault
+    ensures cause { IfErr result (λ fault. HasReadCause fault
         (R.failures source.old < R.failures source.new)
         (length (R.given source.old) + 16777216 < length (R.given source.new))) }
 {

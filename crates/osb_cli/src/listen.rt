@@ -4,9 +4,10 @@ ghost use Rattle.std.specs.Prelude.{IfSome, IsSome, OnOk, IfErr};
 ghost use Rattle.sqlite.specs.Tree.{Trees};
 ghost use Rattle.sqlite_wal.specs.Files.{image_at};
 ghost use Rattle.sqlite.specs.Files.{file_state, HoldsDatabase};
-ghost use Rattle.osb_records.specs.Steps.{stored};
-ghost use Rattle.osb_broker.specs.Kept.{Works};
-ghost use Rattle.osb_cli.specs.Serve.{IsServed, NameOne, NamesInUse};
+ghost use Rattle.osb_statements.specs.Steps.{stored};
+ghost use Rattle.osb_broker.specs.BrokerState.{Works};
+ghost use Rattle.osb_cli.specs.Serve.{IsServed};
+ghost use Rattle.osb_cli.specs.Inside.{NameOne, NamesInUse};
 
 use crate::fault::{Fault, Unserved};
 use crate::settings::read_settings;

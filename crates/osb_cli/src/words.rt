@@ -3,13 +3,14 @@
 ghost use Rattle.std.specs.Prelude.{◌≡◌, ◌≢◌, ◌*◌, ℕ, List, map, true, IfOk, IfErr, string_bytes, Some, None, [], codes, unwrap_or};
 ghost use Rattle.std.specs.Duration.{as_nanos};
 ghost use Rattle.clap.specs.Words.{kind_of, found_of, rows_of};
-ghost use Rattle.osb_cli.specs.Words.{AreTaken, Asks, HasNumber, found_by, number_of, texts_of};
+ghost use Rattle.osb_cli.specs.Words.{AreTaken, HasNumber, found_by};
+ghost use Rattle.osb_cli.specs.Inside.{Asks, number_text_of, option_texts_of};
 
 use crate::grammar::osb_broker;
 use crate::per_connection::PerConnection;
 use clap::error::ErrorKind;
 use clap::{ArgMatches, Error};
-use osb_listen::Place;
+use osb_listen::ListenOptions;
 use std::alloc::{AllocError, Global};
 use std::time::Duration;
 
@@ -29,7 +30,7 @@ pub(crate) struct Check<'a> {
 pub(crate) struct Listen<'a> {
     /// The name of the settings file.
     pub(crate) settings: &'a str,
-    pub(crate) place: Place<'a>,
+    pub(crate) place: ListenOptions<'a>,
     pub(crate) per_connection: PerConnection,
 }
 
@@ -45,7 +46,7 @@ pub(crate) struct Replay<'a> {
 
 /// What the words ask for.
 #[derive(Debug, Drop)]
-pub(crate) enum Order<'a> {
+pub(crate) enum Job<'a> {
     /// Check a settings file, a database file, or both.
     Check(Check<'a>),
     /// Serve connections whose bytes are all there.
@@ -61,7 +62,7 @@ const MOST_CONNECTIONS: u32 = 1_000_000;
 const TIME_LIMIT: u32 = 10;
 
 fn per_connection_of(found: &ArgMatches<'_>) -> PerConnection
-    ensures { HasNumber 1000 1 (number_of (codes "per-connection") found.now) result.number }
+    ensures { HasNumber 1000 1 (number_text_of (codes "per-connection") found.now) result.number }
 {
     match found.get_one::<u32>("per-connection") {
         Some(number) => PerConnection::of(number).unwrap_or(PerConnection::ONE),
@@ -70,7 +71,7 @@ fn per_connection_of(found: &ArgMatches<'_>) -> PerConnection
 }
 
 fn connections_of(found: &ArgMatches<'_>) -> u32
-    ensures { HasNumber 1000000 1000000 (number_of (codes "connections") found.now) result }
+    ensures { HasNumber 1000000 1000000 (number_text_of (codes "connections") found.now) result }
 {
     found
         .get_one::<u32>("connections")
@@ -79,7 +80,7 @@ fn connections_of(found: &ArgMatches<'_>) -> u32
 
 /// The time limit, in seconds.
 fn time_limit_of(found: &ArgMatches<'_>) -> u32
-    ensures { HasNumber 86400 10 (number_of (codes "time-limit") found.now) result }
+    ensures { HasNumber 86400 10 (number_text_of (codes "time-limit") found.now) result }
 {
     found.get_one::<u32>("time-limit").unwrap_or(TIME_LIMIT)
 }
@@ -87,7 +88,7 @@ fn time_limit_of(found: &ArgMatches<'_>) -> u32
 /// The files that the words after `replay` name.
 fn files_of<'a>(alloc: Global, found: &ArgMatches<'a>) -> Result<Vec<&'a str>, AllocError>
     ensures { IfOk result (λ names.
-        map (λ it. it.now) names.items ≡ texts_of (codes "connections") found.now) }
+        map (λ it. it.now) names.items ≡ option_texts_of (codes "connections") found.now) }
 {
     let mut names = Vec::new(alloc);
     if let Some(words) = found.get_strs("connections") {
@@ -97,10 +98,10 @@ fn files_of<'a>(alloc: Global, found: &ArgMatches<'a>) -> Result<Vec<&'a str>, A
 }
 
 /// The order to check, as the words after `check` say it.
-fn check_order<'a>(found: &ArgMatches<'a>) -> Order<'a>
+fn check_order<'a>(found: &ArgMatches<'a>) -> Job<'a>
     ensures { Asks (Some (codes "check", rows_of (found_of found.now))) result }
 {
-    Order::Check(Check {
+    Job::Check(Check {
         settings: found.get_str("settings"),
         explain: found.get_flag("explain"),
         database: found.get_str("database"),
@@ -108,11 +109,11 @@ fn check_order<'a>(found: &ArgMatches<'a>) -> Order<'a>
 }
 
 /// The order to replay, as the words after `replay` say it.
-fn replay_order<'a>(alloc: Global, found: &ArgMatches<'a>) -> Result<Order<'a>, AllocError>
+fn replay_order<'a>(alloc: Global, found: &ArgMatches<'a>) -> Result<Job<'a>, AllocError>
     ensures { (name : List ℕ) → name ≢ codes "check" → name ≢ codes "serve" →
         IfOk result (Asks (Some (name, rows_of (found_of found.now)))) }
 {
-    Ok(Order::Replay(Replay {
+    Ok(Job::Replay(Replay {
         settings: found.get_str("settings"),
         per_connection: per_connection_of(found),
         connections: files_of(alloc, found)?,
@@ -120,12 +121,12 @@ fn replay_order<'a>(alloc: Global, found: &ArgMatches<'a>) -> Result<Order<'a>, 
 }
 
 /// The order to serve, as the words after `serve` say it.
-fn serve_order<'a>(found: &ArgMatches<'a>) -> Order<'a>
+fn serve_order<'a>(found: &ArgMatches<'a>) -> Job<'a>
     ensures { Asks (Some (codes "serve", rows_of (found_of found.now))) result }
 {
-    Order::Serve(Listen {
+    Job::Serve(Listen {
         settings: found.get_str("settings").unwrap_or(""),
-        place: Place {
+        place: ListenOptions {
             database: found.get_str("database").unwrap_or(""),
             address: found.get_str("listen").unwrap_or(""),
             connections: connections_of(found),
@@ -137,7 +138,7 @@ fn serve_order<'a>(found: &ArgMatches<'a>) -> Order<'a>
 
 /// Reads the words that follow the program's name. Words that are those of a command fail for want of
 /// memory alone; others, and those that ask for help or the version, have an error with its text.
-pub(crate) fn read<'a>(alloc: Global, words: &'a [String]) -> Result<Order<'a>, Error>
+pub(crate) fn read<'a>(alloc: Global, words: &'a [String]) -> Result<Job<'a>, Error>
     ensures ok { IfOk result (Asks (found_by (map string_bytes words.now))) }
     ensures err { AreTaken (map string_bytes words.now) →
         IfErr result (λ error. kind_of error ≡ ErrorKind.OutOfMemory) }
@@ -147,7 +148,7 @@ pub(crate) fn read<'a>(alloc: Global, words: &'a [String]) -> Result<Order<'a>, 
         Some(("check", found)) => Ok(check_order(found)),
         Some(("serve", found)) => Ok(serve_order(found)),
         Some((_, found)) => Ok(replay_order(alloc, found)?),
-        None => Ok(Order::Replay(Replay {
+        None => Ok(Job::Replay(Replay {
             settings: None,
             per_connection: PerConnection::ONE,
             connections: Vec::new(alloc),

@@ -10,7 +10,7 @@ use Rattle.sqlite.specs.Listing.{understood}
 use Rattle.sqlite.specs.State.{State, mode_of, Executes, Shown}
 use Rattle.sqlite.proofs.Callers.{runs_as, reads_as, statement_of}
 use Rattle.sqlite_keyed.specs.Lists.{insert_sorted, update_where}
-use Rattle.osb_tables.specs.Tables.{tables_schema, second_schema, context_columns}
+use Rattle.osb_tables.specs.Tables.{tables_schema, second_schema, columns_of_contexts}
 use Rattle.osb_joined.specs.declared.entry.ContextEntry.{ContextEntry}
 use Rattle.osb_joined.specs.Contexts.{context_cmp, context_entry, is_context, with_context, AreRising}
 use Rattle.osb_contexts.specs.Contexts.{context_row, context_cells, contexts_in, HoldsContexts}
@@ -26,11 +26,11 @@ use Rattle.osb_contexts.proofs.StepLemmas.{Leaves}
 use Rattle.osb_contexts.proofs.TestLemmas.{at_key, at_updated, by_both, context_keeps, has_other, hit_key, key_free, one_keyed, other_keyed, updated_others}
 use Rattle.osb_contexts.proofs.Texts.{insert_context, insert_context_is, insert_context_terms, update_context, update_context_is, update_context_query, updated_cells, select_context, select_context_is, by_key, every, is_at, is_not_at}
 
-cast_row : (entry : ContextEntry) → cast_all context_columns (context_row entry) ≡ context_row entry
+cast_row : (entry : ContextEntry) → cast_all columns_of_contexts (context_row entry) ≡ context_row entry
 cast_row entry = rw (cast_int (pos entry.number)) refl
 
 updated_row : (params : Row) (context : List ℕ) (stored : Row) (entry : ContextEntry) → column params 0 ≡ Text context → context_cells stored ≡ context_row entry
-    → cast_all context_columns (eval_all updated_cells (params ∷ stored ∷ [])) ≡ context_row (with_context context entry)
+    → cast_all columns_of_contexts (eval_all updated_cells (params ∷ stored ∷ [])) ≡ context_row (with_context context entry)
 updated_row params context stored entry given is =
     let instance : column stored 1 ≡ Text entry.instance = ap (λ cells. column cells 0) is in
     let number : column stored 2 ≡ Int (pos entry.number) = ap (λ cells. column cells 1) is in
@@ -58,24 +58,24 @@ module _ (old new : State) (count : ℕ) (tables : HasContexts old.now) (id : Li
       let entry = context_entry id number context in
       let params = context_row entry in
       let w = runs_as insert_context params old new second_schema tables.schema _ insert_context_is.0 insert_context_is.1 count h in
-      let did = insert_does old.step_limit (mode_of old) params old.now new.now w.tally (statement_of insert_context (understood second_schema insert_context)) second_schema 4 (codes "contexts") 7 context_columns (1 ∷ 2 ∷ []) ((1 ∷ 2 ∷ []) ∷ []) tables.schema refl (λ _ _. refl)
+      let did = insert_does old.step_limit (mode_of old) params old.now new.now w.tally (statement_of insert_context (understood second_schema insert_context)) second_schema 4 (codes "contexts") 7 columns_of_contexts (1 ∷ 2 ∷ []) ((1 ∷ 2 ∷ []) ∷ []) tables.schema refl (λ _ _. refl)
       insert_context_terms 4 params refl w.changed in
       let others = did.1.tables in (
         (did.0, (others.0 (λ e. absurd (omega (arith, e))), (others.1.0 (λ e. absurd (omega (arith, e))), (others.1.1.0 (λ e. absurd (omega (arith, e))), (others.1.1.1.0 (λ e. absurd (omega (arith, e))), tt)))), w.sound),
-        insert_stores second_schema _ old.now.trees new.now.trees (codes "contexts") 7 context_columns (1 ∷ 2 ∷ []) ((1 ∷ 2 ∷ []) ∷ []) context_cmp context_total context_cells context_row entry entries (λ _. refl) (cast_row entry) (key_free id number context entries none) did.1 tables.holds,
+        insert_stores second_schema _ old.now.trees new.now.trees (codes "contexts") 7 columns_of_contexts (1 ∷ 2 ∷ []) ((1 ∷ 2 ∷ []) ∷ []) context_cmp context_total context_cells context_row entry entries (λ _. refl) (cast_row entry) (key_free id number context entries none) did.1 tables.holds,
       )
 
   pub updates_context : Executes update_context (Text context ∷ Text id ∷ Int (pos number) ∷ []) old new (Ok count) → Gives old new (update_where (is_context id number) (with_context context) entries)
   updates_context h =
       let params = Text context ∷ Text id ∷ Int (pos number) ∷ [] in
       let w = runs_as update_context params old new second_schema tables.schema _ update_context_is.0 update_context_is.1 count h in
-      let did = update_does old.step_limit (mode_of old) params old.now new.now w.tally (statement_of update_context (understood second_schema update_context)) second_schema 4 (codes "contexts") 7 context_columns (1 ∷ 2 ∷ []) ((1 ∷ 2 ∷ []) ∷ []) tables.schema refl (λ _ _. refl)
+      let did = update_does old.step_limit (mode_of old) params old.now new.now w.tally (statement_of update_context (understood second_schema update_context)) second_schema 4 (codes "contexts") 7 columns_of_contexts (1 ∷ 2 ∷ []) ((1 ∷ 2 ∷ []) ∷ []) tables.schema refl (λ _ _. refl)
       update_context_query w.changed in
       let applied = did.2.1 in
       let others = applied.tables in (
         (did.2.0, (others.0 (λ e. absurd (omega (arith, e))), (others.1.0 (λ e. absurd (omega (arith, e))), (others.1.1.0 (λ e. absurd (omega (arith, e))), (others.1.1.1.0 (λ e. absurd (omega (arith, e))), tt)))), w.sound),
         subst (λ next. HoldsContexts next new.now.trees) (updated_others context id number entries)
-            (update_stores second_schema _ old.now.trees new.now.trees (codes "contexts") 7 context_columns (1 ∷ 2 ∷ []) ((1 ∷ 2 ∷ []) ∷ []) context_cmp context_total context_cells context_row (overlay old.now.trees []) refl params (is_at 1 1 ∷ is_at 2 2 ∷ is_not_at 3 0 ∷ [])
+            (update_stores second_schema _ old.now.trees new.now.trees (codes "contexts") 7 columns_of_contexts (1 ∷ 2 ∷ []) ((1 ∷ 2 ∷ []) ∷ []) context_cmp context_total context_cells context_row (overlay old.now.trees []) refl params (is_at 1 1 ∷ is_at 2 2 ∷ is_not_at 3 0 ∷ [])
             (has_other context id number) (λ _. refl) (at_updated context id number) (other_keyed context id number) (with_context context) (context_keeps (has_other context id number) context) updated_cells (λ _ _. refl)
             (λ stored entry is hits. updated_row params context stored entry refl is) entries did.0 did.1 tables.holds applied),
       )

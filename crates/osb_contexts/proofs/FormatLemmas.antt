@@ -15,7 +15,7 @@ use Rattle.sqlite_trees.specs.Tree.{Trees}
 use Rattle.sqlite_rules.specs.Edit.{without_all}
 use Rattle.sqlite_rules.specs.Calls.{ids_of}
 use Rattle.sqlite_keyed.proofs.ListLemmas.{map-map}
-use Rattle.osb_tables.specs.Tables.{second_schema, format_columns, contexts_table}
+use Rattle.osb_tables.specs.Tables.{second_schema, columns_of_formats, contexts_table}
 use Rattle.osb_contexts.specs.Format.{version_cells, version_row, HoldsVersion}
 use Rattle.osb_contexts.specs.Inside.{lasting_tables}
 use Rattle.osb_contexts.specs.Made.{ClearsFormat}
@@ -30,7 +30,7 @@ use Rattle.osb_contexts.proofs.SortLemmas.{none_stored}
 use Rattle.osb_contexts.proofs.StepLemmas.{Leaves, within_then, within_later}
 use Rattle.osb_contexts.proofs.Texts.{clear_format, clear_format_is, clear_query, every, insert_version, insert_version_is, insert_version_terms}
 
-all_in : {A : Type 0} (items : List A) → filter (λ _. true) items ≡ items
+pub all_in : {A : Type 0} (items : List A) → filter (λ _. true) items ≡ items
 all_in [] = refl
 all_in (item ∷ items) = ap (λ rest. item ∷ rest) (all_in items)
 
@@ -69,7 +69,7 @@ module _ (old new : State) (count : ℕ) (has : old.now.schema ≡ second_schema
   pub clears : HaveRowids (old.now.trees 0) → Executes clear_format [] old new (Ok count) → Keeps × (new.now.trees 0 ≡ [])
   clears have h =
       let w = runs_as clear_format [] old new second_schema has _ clear_format_is.0 clear_format_is.1 count h in
-      let did = delete_does old.step_limit (mode_of old) [] old.now new.now w.tally (statement_of clear_format (understood second_schema clear_format)) second_schema 0 (codes "format") 0 format_columns [] [] has refl (λ _ _. refl)
+      let did = delete_does old.step_limit (mode_of old) [] old.now new.now w.tally (statement_of clear_format (understood second_schema clear_format)) second_schema 0 (codes "format") 0 columns_of_formats [] [] has refl (λ _ _. refl)
       clear_query w.changed in
       let applied = did.2.1 in
       let others = applied.tables in (
@@ -80,11 +80,11 @@ module _ (old new : State) (count : ℕ) (has : old.now.schema ≡ second_schema
   pub adds_version : old.now.trees 0 ≡ [] → Executes insert_version [] old new (Ok count) → Keeps × HoldsVersion 2 new.now.trees
   adds_version blank h =
       let w = runs_as insert_version [] old new second_schema has _ insert_version_is.0 insert_version_is.1 count h in
-      let did = insert_does old.step_limit (mode_of old) [] old.now new.now w.tally (statement_of insert_version (understood second_schema insert_version)) second_schema 0 (codes "format") 0 format_columns [] [] has refl (λ _ _. refl)
+      let did = insert_does old.step_limit (mode_of old) [] old.now new.now w.tally (statement_of insert_version (understood second_schema insert_version)) second_schema 0 (codes "format") 0 columns_of_formats [] [] has refl (λ _ _. refl)
       insert_version_terms 2 (version_row 2) refl w.changed in
       let others = did.1.tables in (
         (did.0, (others.1.1.1.1.0 (λ e. absurd (omega (arith, e))), (others.1.0 (λ e. absurd (omega (arith, e))), (others.1.1.0 (λ e. absurd (omega (arith, e))), (others.1.1.1.0 (λ e. absurd (omega (arith, e))), tt)))), w.sound),
-        insert_stores second_schema _ old.now.trees new.now.trees (codes "format") 0 format_columns [] [] nat_cmp nat_cmp_total version_cells version_row 2 [] (λ _. refl) (rw (cast_int (pos 2)) refl) tt did.1 (none_stored version_cells version_row nat_cmp _ blank),
+        insert_stores second_schema _ old.now.trees new.now.trees (codes "format") 0 columns_of_formats [] [] nat_cmp nat_cmp_total version_cells version_row 2 [] (λ _. refl) (rw (cast_int (pos 2)) refl) tt did.1 (none_stored version_cells version_row nat_cmp _ blank),
       )
 
 -- the check, the deletion and the insertion

@@ -2,12 +2,12 @@
 use Rattle.std.proofs.Common.{◌≡◌, ℕ, zero, suc, ◌+◌, ◌<◌, add-one, List, [], ◌∷◌, ◌++◌, length, map, take, get_or, refl, sym, ap, ◌∙◌, arith}
 use Rattle.std.proofs.lemmas.List.{map-append}
 
-told_next : {R A : Type 0} (told : R → A) (rows : List R) (i : ℕ) (row : R) → i < length rows → row ≡ get_or rows i row → map told (take (suc i) rows) ≡ map told (take i rows) ++ told row ∷ []
+pub told_next : {R A : Type 0} (told : R → A) (rows : List R) (i : ℕ) (row : R) → i < length rows → row ≡ get_or rows i row → map told (take (suc i) rows) ≡ map told (take i rows) ++ told row ∷ []
 told_next told [] i row low is = absurd (omega (arith, low))
 told_next told (first ∷ rows) zero row low is = ap (λ r. told r ∷ []) (sym is)
 told_next told (first ∷ rows) (suc i) row low is = ap (λ items. told first ∷ items) (told_next told rows i row (omega (arith, low)) is)
 
-told_push : {R A : Type 0} (told : R → A) (rows : List R) (i : ℕ) (row : R) (old new : List A) (item : A) → i < length rows → row ≡ get_or rows i row → old ≡ map told (take i rows) → new ≡ old ++ item ∷ [] → item ≡ told row
+pub told_push : {R A : Type 0} (told : R → A) (rows : List R) (i : ℕ) (row : R) (old new : List A) (item : A) → i < length rows → row ≡ get_or rows i row → old ≡ map told (take i rows) → new ≡ old ++ item ∷ [] → item ≡ told row
     → new ≡ map told (take (i + 1) rows)
 told_push told rows i row old new item low at was grown is =
     grown ∙ ap (λ items. items ++ item ∷ []) was ∙ ap (λ last. map told (take i rows) ++ last ∷ []) is ∙ sym (told_next told rows i row low at) ∙ ap (λ n. map told (take n rows)) (sym (add-one i))

@@ -13,14 +13,14 @@ use Rattle.sqlite_keyed.proofs.SortLemmas.{sorted_is-sort_by}
 use Rattle.osb_rows.specs.Rows.{Stores}
 use Rattle.osb_joined.specs.declared.entry.ContextEntry.{ContextEntry}
 use Rattle.osb_joined.specs.Contexts.{context_cmp}
-use Rattle.osb_contexts.specs.Contexts.{context_row, context_told, context_cells, contexts_in, HoldsContexts}
+use Rattle.osb_contexts.specs.Contexts.{context_row, context_decoded, context_cells, contexts_in, HoldsContexts}
 use Rattle.osb_rows.proofs.RowLemmas.{ascending_permuted, untied_back}
 
 pub context_total : IsTotalOrder context_cmp
 context_total = then_total (on_total (λ (entry : ContextEntry). entry.instance) nat_list_cmp_total) (on_total (λ (entry : ContextEntry). entry.number) nat_cmp_total)
 
--- a row tells the context that it shows
-pub context_back : (e : ContextEntry) → context_told (context_row e) ≡ e
+-- a row is decoded to the context that it shows
+pub context_back : (e : ContextEntry) → context_decoded (context_row e) ≡ e
 context_back e = refl
 
 module _ {E : Type 0} (cmp : E → E → Ordering) (total : IsTotalOrder cmp) where
@@ -38,7 +38,7 @@ module _ {E : Type 0} (cmp : E → E → Ordering) (total : IsTotalOrder cmp) wh
       sym (sorted_is-sort_by cmp total xs es (ascending_permuted (λ a b. is_eq (cmp a b) ≡ false) (untied_back cmp total) es xs (IsPermutation-sym _ _ same) apart) same (sorted es h.rising))
 
 pub contexts_are : (db : Trees) (entries : List ContextEntry) → HoldsContexts entries db → contexts_in db ≡ entries
-contexts_are db entries h = sort_is context_cmp context_total context_cells context_row context_told context_back (db 7) entries h
+contexts_are db entries h = sort_is context_cmp context_total context_cells context_row context_decoded context_back (db 7) entries h
 
 pub held_again : (db : Trees) (entries : List ContextEntry) → HoldsContexts entries db → HoldsContexts (contexts_in db) db
 held_again db entries h = subst (λ es. HoldsContexts es db) (sym (contexts_are db entries h)) h

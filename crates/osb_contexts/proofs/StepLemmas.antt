@@ -22,7 +22,7 @@ abbrev pub IsOver : State → Result ℕ Error → Error → Type 0
 IsOver old result why = old.in_transaction ≡ false → result ≡ Err why
 
 -- a statement that was run found a transaction
-was_inside : (old : State) (count : ℕ) (why : Error) → IsOver old (Ok count) why → IsTrue old.in_transaction
+pub was_inside : (old : State) (count : ℕ) (why : Error) → IsOver old (Ok count) why → IsTrue old.in_transaction
 was_inside old count why ended = elim (cases_Bool old.in_transaction) [
   | inl inside ↦ inside
   | inr over ↦ absurd (let e = ended over in cc)

@@ -10,7 +10,7 @@ use Rattle.sqlite.proofs.Callers.{reads_as}
 use Rattle.osb_tables.specs.Tables.{second_schema}
 use Rattle.osb_joined.specs.declared.entry.ContextEntry.{ContextEntry}
 use Rattle.osb_joined.specs.Contexts.{context_cmp}
-use Rattle.osb_contexts.specs.Contexts.{context_row, context_cells, context_told, AreContextsOf}
+use Rattle.osb_contexts.specs.Contexts.{context_row, context_cells, context_decoded, AreContextsOf}
 use Rattle.osb_contexts.specs.Read.{AreRowids, HaveRowids, context_columns}
 use Rattle.osb_rows.proofs.AnswerLemmas.{over}
 use Rattle.osb_contexts.proofs.SortLemmas.{context_total, context_back}
@@ -24,7 +24,7 @@ contexts_read old mid new ids rows entries has same first second are is =
     let found = reads_as context_rowids [] old mid second_schema has _ context_rowids_is.0 context_rowids_is.2 context_rowids_is.1 ids first in
     let read = reads_as select_contexts [] mid new second_schema (ap (λ (d : Database). d.schema) same ∙ has) _ select_contexts_is.0 select_contexts_is.2 select_contexts_is.1 rows second in
     let answer = subst (λ (d : Database). IsAnswer (over 7 [] all_cells by_key every) (overlay d.trees []) [] rows) same (read.answer Null) in
-    let list = is_list 7 old.now.trees refl context_cells context_row context_cmp context_total context_told context_back all_cells by_key (λ _. refl) (λ _. refl) (λ _. refl) (λ a b less. by_both a b ∙ less) context_columns (λ _. refl) (λ _. refl) rows entries answer
+    let list = is_list 7 old.now.trees refl context_cells context_row context_cmp context_total context_decoded context_back all_cells by_key (λ _. refl) (λ _. refl) (λ _. refl) (λ a b less. by_both a b ∙ less) context_columns (λ _. refl) (λ _. refl) rows entries answer
     (rowids_shown 7 old.now.trees refl ids (found.answer Null) are) is in
     record { held = list.0; only = list.1 }
 

@@ -23,11 +23,11 @@ use Rattle.osb_joined.specs.Contexts.{context_cmp, is_context, context_entry, wi
 use Rattle.osb_contexts.specs.Contexts.{context_row}
 use Rattle.osb_contexts.proofs.Texts.{is_at, is_not_at}
 
-truth_back : (b : Bool) → is_true (from_truth (Some b)) ≡ b
+pub truth_back : (b : Bool) → is_true (from_truth (Some b)) ≡ b
 truth_back true = refl
 truth_back false = refl
 
-same_text : (a b : List ℕ) → is_true (binary (Compare Eq Binary) (Text a) (Text b)) ≡ bytes_eq a b
+pub same_text : (a b : List ℕ) → is_true (binary (Compare Eq Binary) (Text a) (Text b)) ≡ bytes_eq a b
 unfolding binary
 same_text a b = truth_back _ ∙ ap is_eq (value_cmp-Text a b) ∙ is_eq-slice_cmp a b
 
@@ -40,14 +40,14 @@ other_text a b = truth_back _ ∙ ap is_ne (value_cmp-Text a b) ∙ turned (slic
     turned Equal = refl
     turned Greater = refl
 
-same_number : (m n : ℕ) → is_true (binary (Compare Eq Binary) (Int (pos m)) (Int (pos n))) ≡ (m == n)
+pub same_number : (m n : ℕ) → is_true (binary (Compare Eq Binary) (Int (pos m)) (Int (pos n))) ≡ (m == n)
 unfolding binary
 same_number m n = truth_back _ ∙ ap is_eq (value_cmp-Int (pos m) (pos n)) ∙ number m n
   where
     number : (m n : ℕ) → is_eq (cond (ltb m n) Less (cond (ltb n m) Greater Equal)) ≡ (m == n)
     number m n = grind (arith, nat_tests)
 
-and_true : (a : Bool) → (a && true) ≡ a
+pub and_true : (a : Bool) → (a && true) ≡ a
 and_true true = refl
 and_true false = refl
 
@@ -76,7 +76,7 @@ at_updated context id number entry = rw (same_text entry.instance id, same_numbe
 
 -- ---- ORDER BY
 
-then_equal : (o : Ordering) → ordering_then o Equal ≡ o
+pub then_equal : (o : Ordering) → ordering_then o Equal ≡ o
 then_equal Less = refl
 then_equal Equal = refl
 then_equal Greater = refl
@@ -87,7 +87,7 @@ by_both a b = rw (value_cmp-Text a.instance b.instance, number_cmp a.number b.nu
 
 -- ---- the keys
 
-same_bytes : (a b : List ℕ) → bytes_eq a b ≡ true → a ≡ b
+pub same_bytes : (a b : List ℕ) → bytes_eq a b ≡ true → a ≡ b
 same_bytes a b = (bytes_eq-Decides a b).0
 
 text_itself : (a : List ℕ) → slice_cmp nat_cmp a a ≡ Equal
@@ -98,10 +98,10 @@ text_itself a = equal _ (is_eq-slice_cmp a a ∙ (bytes_eq-Decides a a).1 refl)
     equal Equal h = refl
     equal Greater h = absurd (cc)
 
-number_itself : (n : ℕ) → nat_cmp n n ≡ Equal
+pub number_itself : (n : ℕ) → nat_cmp n n ≡ Equal
 number_itself n = grind (arith, nat_tests)
 
-same_nat : (m n : ℕ) → (m == n) ≡ true → m ≡ n
+pub same_nat : (m n : ℕ) → (m == n) ≡ true → m ≡ n
 same_nat m n h = grind (arith, nat_tests)
 
 -- the key that was hit is the entry's

@@ -19,7 +19,8 @@ use Rattle.sqlite.specs.Change.{created, without_index}
 use Rattle.sqlite.specs.Table.{Table}
 use Rattle.sqlite.specs.Schema.{Schema}
 use Rattle.sqlite_schema.specs.declared.schema.Index.{Index}
-use Rattle.osb_tables.specs.Tables.{instances_table, orders_table, busy_index, subject_index, tables_schema, five_tables, listed_schema, record_schema, second_listed, second_schema, plain_table, context_columns}
+use Rattle.osb_tables.specs.Tables.{instances_table, orders_table, busy_index, subject_index, tables_schema, five_tables, second_listed, second_schema, plain_table, columns_of_contexts}
+use Rattle.osb_tables.specs.Inside.{listed_schema, record_schema}
 use Rattle.osb_rows.proofs.AnswerLemmas.{over}
 
 -- no LIMIT
@@ -38,7 +39,7 @@ is_not_at place param = op2 (Compare Ne Binary) (col 1 place) (col 0 param)
 
 -- the table as its text has it, before it has a tree
 abbrev pub contexts_made : Table
-contexts_made = plain_table (codes "contexts") 0 context_columns (1 ∷ 2 ∷ []) ((1 ∷ 2 ∷ []) ∷ [])
+contexts_made = plain_table (codes "contexts") 0 columns_of_contexts (1 ∷ 2 ∷ []) ((1 ∷ 2 ∷ []) ∷ [])
 
 abbrev pub create_contexts : List ℕ
 create_contexts = codes "CREATE TABLE contexts (instance_id TEXT NOT NULL, seq INTEGER NOT NULL, context TEXT NOT NULL, PRIMARY KEY (instance_id, seq)) STRICT"

@@ -33,7 +33,7 @@ none_left (item ∷ items) = ap (λ rest. item ∷ rest) (none_left items)
 
 -- ---- rowids
 
-less_below : (m n : ℕ) → true ≡ nat_lt m n → nat_cmp m n ≡ Less
+pub less_below : (m n : ℕ) → true ≡ nat_lt m n → nat_cmp m n ≡ Less
 less_below m n h = grind (arith, nat_tests)
 
 pub rises : (ids : List ℕ) (answer : Bool) → IsAllAdjacentAnswer (λ a b c. c ≡ nat_lt a b) ids answer → answer ≡ true → IsStrictlySortedBy nat_cmp ids
@@ -42,7 +42,7 @@ rises [] answer h is = tt
 rises (id ∷ ids) true h is = sorted_from_all_adjacent nat_cmp_total (id ∷ ids) id (λ k below. less_below _ _ (h k id below))
 rises (id ∷ ids) false h is = absurd (cc)
 
-apart_ids : (ids : List ℕ) → IsStrictlySortedBy nat_cmp ids → IsAscending (λ a b. is_eq (value_cmp a b) ≡ false) (map rowid_shown ids)
+pub apart_ids : (ids : List ℕ) → IsStrictlySortedBy nat_cmp ids → IsAscending (λ a b. is_eq (value_cmp a b) ≡ false) (map rowid_shown ids)
 unfolding IsStrictlySortedBy
 apart_ids [] up = tt
 apart_ids (id ∷ ids) up = (above ids up.0, apart_ids ids up.1)
@@ -51,12 +51,12 @@ apart_ids (id ∷ ids) up = (above ids up.0, apart_ids ids up.1)
     above [] h = tt
     above (other ∷ others) h = (ap is_eq (number_cmp id other ∙ h.0), above others h.1)
 
-all_ints : (ids : List ℕ) → AllByRecursion (λ value. is_int value ≡ true) (map rowid_shown ids)
+pub all_ints : (ids : List ℕ) → AllByRecursion (λ value. is_int value ≡ true) (map rowid_shown ids)
 all_ints [] = tt
 all_ints (id ∷ ids) = (refl, all_ints ids)
 
 -- the rows of the table have the rowids that were read
-have_rowids : (rows read : List Row) → IsPermutation (map (λ row. rowid row ∷ []) rows) read → AreRowids read → HaveRowids rows
+pub have_rowids : (rows read : List Row) → IsPermutation (map (λ row. rowid row ∷ []) rows) read → AreRowids read → HaveRowids rows
 have_rowids rows read same are =
     let ids = subst₂ IsPermutation (map-map rowid (λ row. rowid row ∷ []) rows) (sym are.shown) (IsPermutation-map rowid _ _ same) in
     let back = IsPermutation-sym _ _ ids in
@@ -73,7 +73,7 @@ module _ (tree : ℕ) (db : Trees) where
 
   module _ (sees : seen tree ≡ db tree) where
     -- what a query of the whole table shows
-    all_shown : (project : List Term) (order : List (Term × Key)) (rows : List Row) → IsAnswer (over tree [] project order every) seen [] rows → IsPermutation (map (λ row. (out tree [] project order every seen [] row).1) (db tree)) rows
+    pub all_shown : (project : List Term) (order : List (Term × Key)) (rows : List Row) → IsAnswer (over tree [] project order every) seen [] rows → IsPermutation (map (λ row. (out tree [] project order every seen [] row).1) (db tree)) rows
     all_shown project order rows a =
         let whole = subst (λ own. IsPermutation (map (out tree [] project order every seen []) own) a.ordered) (none_left (seen tree) ∙ sees) (answered tree [] project order every seen [] rows a) in
         subst₂ IsPermutation (map-map (λ (o : Output). o.1) (out tree [] project order every seen []) (db tree)) (sym a.shown) (IsPermutation-map (λ (o : Output). o.1) _ _ whole)

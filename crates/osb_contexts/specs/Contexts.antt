@@ -18,8 +18,8 @@ number_in (Int (pos n)) = n
 number_in _ = 0
 
 -- the entry that columns hold
-abbrev pub context_told : Row → ContextEntry
-context_told cells = record { instance = bytes (column cells 0); number = number_in (column cells 1); context = bytes (column cells 2) }
+abbrev pub context_decoded : Row → ContextEntry
+context_decoded cells = record { instance = bytes (column cells 0); number = number_in (column cells 1); context = bytes (column cells 2) }
 
 -- the columns of a stored row, which has its rowid first
 abbrev pub context_cells : Row → Row
@@ -31,7 +31,7 @@ HoldsContexts entries db = Stores context_cells context_row context_cmp (db 7) e
 
 -- the entries in the order of their keys, whatever the order of the rows
 abbrev pub contexts_in : Trees → List ContextEntry
-contexts_in db = sort_by context_cmp (map context_told (map context_cells (db 7)))
+contexts_in db = sort_by context_cmp (map context_decoded (map context_cells (db 7)))
 
 -- These entries were read of the table: its rows show them, each under a rowid of its own, and if it holds entries at all,
 -- it holds these.

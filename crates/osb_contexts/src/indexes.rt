@@ -1,7 +1,8 @@
 //! Making the tables of version 1 those of version 2.
 
 ghost use Rattle.std.specs.Prelude.{[]};
-ghost use Rattle.osb_tables.specs.Tables.{tables_schema, five_tables, listed_schema, record_schema, second_listed, second_schema, made};
+ghost use Rattle.osb_tables.specs.Tables.{tables_schema, five_tables, second_listed, second_schema, made};
+ghost use Rattle.osb_tables.specs.Inside.{listed_schema, record_schema};
 ghost use Rattle.osb_contexts.specs.Inside.{ShowsSchema, Reshapes, second_lacking};
 ghost use Rattle.osb_contexts.specs.Made.{MakesContexts};
 ghost use Rattle.osb_contexts.specs.Steps.{ContextSteps};

@@ -4,8 +4,8 @@ use Rattle.sqlite_wal.specs.Recovery.{Image}
 use Rattle.osb_orders.specs.Lives.{Lives}
 use Rattle.osb_audit.specs.declared.counting.Counts.{Counts}
 use Rattle.osb_audit.specs.Counts.{AreCounts}
-use Rattle.osb_records.specs.declared.fault.StoreFault.{StoreFault}
-use Rattle.osb_records.specs.declared.fault.StoreFault.TheVariants as fault
+use Rattle.osb_statements.specs.declared.fault.StoreFault.{StoreFault}
+use Rattle.osb_statements.specs.declared.fault.StoreFault.TheVariants as fault
 use Rattle.osb_file.specs.declared.unseen.Unseen.{Unseen}
 use Rattle.osb_file.specs.declared.unseen.Unseen.TheVariants as unseen
 use Rattle.osb_file.specs.declared.copied.Copied.{Copied}

@@ -1,7 +1,7 @@
 //! Which file a database is kept in.
 
 ghost use Rattle.std.specs.Prelude.{◌≡◌, IfOk, IsOkUnless};
-ghost use Rattle.osb_records.specs.declared.fault.StoreFault.TheVariants.{Refused};
+ghost use Rattle.osb_statements.specs.declared.fault.StoreFault.TheVariants.{Refused};
 
 use crate::first_page::make_new;
 use osb_records::StoreFault;

@@ -6,8 +6,8 @@ ghost use Rattle.sqlite_wal.specs.Files.{image_at};
 ghost use Rattle.sqlite.specs.State.{HasCleanDisk};
 ghost use Rattle.sqlite.specs.Files.{file_state, HoldsDatabase};
 ghost use Rattle.osb_orders.specs.Lives.{Lives};
-ghost use Rattle.osb_records.specs.declared.fault.StoreFault.TheVariants.{Refused, NotOurs};
-ghost use Rattle.osb_records.specs.Steps.{stored};
+ghost use Rattle.osb_statements.specs.declared.fault.StoreFault.TheVariants.{Refused, NotOurs};
+ghost use Rattle.osb_statements.specs.Steps.{stored};
 ghost use Rattle.osb_file.specs.File.{AreLivesOf};
 
 use crate::database_file::DatabaseFile;

@@ -8,9 +8,9 @@ ghost use Rattle.sqlite_disk.specs.Memory.{memory_bytes, memory_is_usable};
 ghost use Rattle.sqlite_trees.specs.Tree.{Trees};
 ghost use Rattle.osb_orders.specs.Lives.{Lives};
 ghost use Rattle.osb_audit.specs.Counts.{AreCounts};
-ghost use Rattle.osb_records.specs.declared.fault.StoreFault.TheVariants as faults;
-ghost use Rattle.osb_records.specs.Opened.{StandIn};
-ghost use Rattle.osb_records.specs.Steps.{stored};
+ghost use Rattle.osb_statements.specs.declared.fault.StoreFault.TheVariants as faults;
+ghost use Rattle.osb_records.specs.Opened.{AreLivesOfDatabase};
+ghost use Rattle.osb_statements.specs.Steps.{stored};
 ghost use Rattle.osb_file.specs.declared.unseen.Unseen.TheVariants.{NotOurs};
 ghost use Rattle.osb_file.specs.File.{AreLivesOf};
 ghost use Rattle.osb_file.specs.Looked.{IsCounted};
@@ -61,9 +61,9 @@ fn counts_of<S: Alter + Drop>(alloc: Global, mut records: Records<S>) -> Result<
 fn count_in<S: Alter + Drop>(alloc: Global, conn: Connection<S>) -> Result<Counts, Unseen>
     requires clean { (held : Held S) → HasCleanDisk (state S.Store held) }
     ensures counted { IfOk result (λ counts. (lives : Lives) ×
-        StandIn (state S.Store conn).now lives × AreCounts lives counts) }
+        AreLivesOfDatabase (state S.Store conn).now lives × AreCounts lives counts) }
     ensures not_ours { result ≡ Err NotOurs → (lives : Lives) →
-        ¬ StandIn (state S.Store conn).now lives }
+        ¬ AreLivesOfDatabase (state S.Store conn).now lives }
 {
     match Records::adopt(alloc, conn) {
         Ok(records) => counts_of(alloc, records),

@@ -14,7 +14,7 @@ use Rattle.osb_frames.specs.declared.step.StopKind.TheVariants.{NoHead, Host, Co
 use Rattle.osb_frames.specs.Fields.{Line, values_of, length_given}
 use Rattle.osb_frames.specs.Heads.{HeadAt, HasNoHead, lines_of}
 use Rattle.osb_frames.specs.Cuts.{Message, has_bad_host, length_fault, fault_of, body_length, Front, nothing, fault, whole, front_from, front_of, IsFront, empty, headless, headed}
-use Rattle.osb_frames.specs.Steps.{message, Tells, Waits, Says, IfWhole, IsWhole, IsFinal, Shows}
+use Rattle.osb_frames.specs.Steps.{message, ReportsFault, Waits, Says, IfWhole, IsWhole, IsFinal, Shows}
 use Rattle.osb_frames.specs.Found.{HoldsHead}
 
 -- a request, or a fault of a whole head
@@ -89,7 +89,7 @@ module _ (limits : Limits) (bytes : List ℕ) where
       headed h (drop n bytes) hold.head
       (held_from q n h hold f ∙ ap (front_from h (drop n bytes)) (sym e ∙ (λ i. fault_of limits (hold.minor i) (hold.lines i))))
 
-  final_tells : (over : Bool) (f : StopKind) → IsFinal f → IsFront limits bytes (fault f) → Tells limits bytes over f
+  final_tells : (over : Bool) (f : StopKind) → IsFinal f → IsFront limits bytes (fault f) → ReportsFault limits bytes over f
   final_tells over NoHead final at = absurd final
   final_tells over Host final at = at
   final_tells over Coding final at = at
@@ -97,7 +97,7 @@ module _ (limits : Limits) (bytes : List ℕ) where
   final_tells over TooLarge final at = at
   final_tells over Cut final at = absurd final
 
-  pub tells_fault : (over : Bool) (q : Request) (n : ℕ) (h : RequestHead) (f : StopKind) → HoldsHead limits bytes q n h → fault_of limits q.minor (message q).lines ≡ Some f → Tells limits bytes over f
+  pub tells_fault : (over : Bool) (q : Request) (n : ℕ) (h : RequestHead) (f : StopKind) → HoldsHead limits bytes q n h → fault_of limits q.minor (message q).lines ≡ Some f → ReportsFault limits bytes over f
   tells_fault over q n h f hold e =
       final_tells over f (subst IsFinalIfSome e (fault_is_final limits q.minor (message q).lines)) (front_held q n h (Some f) hold e)
 
@@ -110,7 +110,7 @@ module _ (limits : Limits) (bytes : List ℕ) where
 
   -- ---- what a step says
 
-  told_now : (over : Bool) (f : StopKind) → Tells limits bytes over f → IsFront limits bytes (fault f)
+  told_now : (over : Bool) (f : StopKind) → ReportsFault limits bytes over f → IsFront limits bytes (fault f)
   told_now over NoHead (inl here) = here.1
   told_now over NoHead (inr always) = subst (λ l. IsFront limits l (fault NoHead)) (append-nil bytes) (always [])
   told_now over Host at = at

@@ -14,7 +14,7 @@ use Rattle.osb_frames.specs.declared.step.StopKind.TheVariants.{NoHead, Host, Co
 use Rattle.osb_frames.specs.Fields.{Line, values_of, length_given}
 use Rattle.osb_frames.specs.Heads.{HeadAt, lines_of}
 use Rattle.osb_frames.specs.Cuts.{length_fault, fault_of, number_or_zero, body_length, Front, fault, whole, with_body, front_from, IsFront, empty, headless, headed}
-use Rattle.osb_frames.specs.Steps.{message, Tells, Says, FaultStays, Stays, IfMore}
+use Rattle.osb_frames.specs.Steps.{message, ReportsFault, Says, FaultStays, Stays, IfMore}
 use Rattle.osb_frames.proofs.FrontLemmas.{IsSettled, IsFinalIfSome, fault_is_final}
 
 head_stays : (limits : Limits) (bytes more : List ℕ) (h : RequestHead) (rest : List ℕ) → HeadAt limits bytes h rest → HeadAt limits (bytes ++ more) h (rest ++ more)
@@ -48,7 +48,7 @@ front_stays limits bytes front settled (headless some none e) more = absurd (sub
 front_stays limits bytes front settled (headed h rest x e) more =
     headed h (rest ++ more) (head_stays limits bytes more h rest x) (from_stays h rest more (fault_of limits h.minor (lines_of h)) front settled e)
 
-told_stays : (limits : Limits) (bytes : List ℕ) (over : Bool) (f : StopKind) → Tells limits bytes over f → FaultStays limits bytes over f
+told_stays : (limits : Limits) (bytes : List ℕ) (over : Bool) (f : StopKind) → ReportsFault limits bytes over f → FaultStays limits bytes over f
 told_stays limits bytes over NoHead (inl here) = inr (here.1, here.0)
 told_stays limits bytes over NoHead (inr always) = inl always
 told_stays limits bytes over Host at = inl (front_stays limits bytes (fault Host) tt at)

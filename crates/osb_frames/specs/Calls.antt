@@ -14,10 +14,10 @@ is_failure (Some bytes) = false
 is_failure None = true
 
 -- the call failed, or no byte went over
-abbrev pub is_fruitless : Call → Bool
-is_fruitless (Some []) = true
-is_fruitless (Some (byte ∷ bytes)) = false
-is_fruitless None = true
+abbrev pub is_failed_or_empty : Call → Bool
+is_failed_or_empty (Some []) = true
+is_failed_or_empty (Some (byte ∷ bytes)) = false
+is_failed_or_empty None = true
 
 -- the bytes that went over, in all
 abbrev pub all_bytes : List Call → List ℕ
@@ -26,5 +26,5 @@ all_bytes calls = flat_map call_bytes calls
 abbrev pub failure_count : List Call → ℕ
 failure_count calls = count_by is_failure calls
 
-abbrev pub fruitless_count : List Call → ℕ
-fruitless_count calls = count_by is_fruitless calls
+abbrev pub failed_or_empty_count : List Call → ℕ
+failed_or_empty_count calls = count_by is_failed_or_empty calls

@@ -41,12 +41,12 @@ abbrev pub is_number : List ℕ → Bool
 is_number value = nat_lt 0 (length value) && (nat_le (length value) 19 && list_all is_ascii_digit value)
 
 -- the number that 1 to 19 digits write
-unfoldable pub number_in : List ℕ → Option ℕ
-number_in value = if is_number value then Some (digits_value 10 value) else None
+unfoldable pub digits_number : List ℕ → Option ℕ
+digits_number value = if is_number value then Some (digits_value 10 value) else None
 
 -- the length of the body, from the values of Content-Length (RFC 9112, 6.3): 0 where there is none, and no
 -- length where there are several
 abbrev pub length_given : List (List ℕ) → Option ℕ
 length_given [] = Some 0
-length_given (value ∷ []) = number_in value
+length_given (value ∷ []) = digits_number value
 length_given (value ∷ again ∷ values) = None

@@ -22,5 +22,5 @@ pub record HoldsHead (limits : Limits) (bytes : List ℕ) (q : Request) (n : ℕ
 abbrev pub IsFound : Limits → List ℕ → FoundOf Request → Type 0
 IsFound limits bytes (found.Head q n) = (h : RequestHead) × HoldsHead limits bytes q n h
 IsFound limits bytes found.Unfinished = HasNoHead limits bytes × (length bytes < limits.head) × MayBecomeRequest bytes
-IsFound limits bytes found.Crowded = ((more : List ℕ) → HasNoHead limits (bytes ++ more)) × (length bytes < limits.head) × RequestExceeds limits.fields bytes
+IsFound limits bytes found.TooManyFields = ((more : List ℕ) → HasNoHead limits (bytes ++ more)) × (length bytes < limits.head) × RequestExceeds limits.fields bytes
 IsFound limits bytes found.Never = (more : List ℕ) → HasNoHead limits (bytes ++ more)

@@ -11,7 +11,7 @@ pub mod Line
 -- The calls that are made of a source or a sink.
 pub mod Calls
 pub mod Counted
-pub mod Kept
+pub mod InMemory
 pub mod Writers
 -- For contracts inside the crate.
 pub mod Found

@@ -21,12 +21,12 @@ message q = record {
 }
 
 -- the fault f is reported: NoHead where no bytes that follow mend it, or none will come; Cut where none will come
-abbrev pub Tells : Limits → List ℕ → Bool → StopKind → Type 0
-Tells limits bytes over NoHead =
+abbrev pub ReportsFault : Limits → List ℕ → Bool → StopKind → Type 0
+ReportsFault limits bytes over NoHead =
     (IsTrue over × IsFront limits bytes (fault NoHead))
     ⊎ ((more : List ℕ) → IsFront limits (bytes ++ more) (fault NoHead))
-Tells limits bytes over Cut = IsTrue over × IsFront limits bytes (fault Cut)
-Tells limits bytes over f = IsFront limits bytes (fault f)
+ReportsFault limits bytes over Cut = IsTrue over × IsFront limits bytes (fault Cut)
+ReportsFault limits bytes over f = IsFront limits bytes (fault f)
 
 -- no head stands there yet, the limit of a head isn't reached, and a head may still come
 abbrev pub Waits : Limits → List ℕ → Type 0
@@ -36,7 +36,7 @@ Waits limits bytes =
 -- a step says what stands at the front of the bytes, or wants more of them: a body lacks a part, or a head may come
 abbrev pub Says : Limits → List ℕ → Bool → Step Request → Type 0
 Says limits bytes over (Whole q n) = IsFront limits bytes (whole (message q) n)
-Says limits bytes over (Stop f) = Tells limits bytes over f
+Says limits bytes over (Stop f) = ReportsFault limits bytes over f
 Says limits bytes over Ended = IsTrue over × (bytes ≡ [])
 Says limits bytes over More = IsFalse over × (IsFront limits bytes (fault Cut) ⊎ Waits limits bytes)
 

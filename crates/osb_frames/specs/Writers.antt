@@ -7,5 +7,5 @@ pub record WritesNothing {W : Type 0} (sink : Ghosts W) (old new : W) : Type 0 w
   pub taken : sink.taken new ≡ sink.taken old
   pub writes : sink.writes new ≡ sink.writes old
   pub failures : sink.failures new ≡ sink.failures old
-  pub fruitless : sink.fruitless new ≡ sink.fruitless old
+  pub failed_or_empty : sink.failed_or_empty new ≡ sink.failed_or_empty old
   pub contents : sink.contents new ≡ sink.contents old

@@ -1,7 +1,7 @@
 //! A reader or a writer of std as a `Source` or a `Sink`.
 
 ghost use Rattle.std.specs.Prelude.{◌≡◌, [], length};
-ghost use Rattle.osb_frames.specs.Calls.{all_bytes, failure_count, fruitless_count};
+ghost use Rattle.osb_frames.specs.Calls.{all_bytes, failure_count, failed_or_empty_count};
 
 use crate::calls::Calls;
 use crate::sink::Sink;
@@ -75,7 +75,7 @@ impl<T: Write> Sink for Counted<T> {
 
     ghost failures = { λ s. failure_count (calls_of s) };
 
-    ghost fruitless = { λ s. fruitless_count (calls_of s) };
+    ghost failed_or_empty = { λ s. failed_or_empty_count (calls_of s) };
 
     ghost contents = { λ s. T.contents (inner_of s) };
 

@@ -4,7 +4,7 @@ ghost use Rattle.std.specs.Prelude.{◌≡◌, reverse};
 ghost use Rattle.std.specs.List.{list_all};
 ghost use Rattle.std.specs.Char.{is_ascii_digit};
 ghost use Rattle.httparse.specs.Grammar.{skip_ows, trim_ows};
-ghost use Rattle.osb_frames.specs.Fields.{same_ignoring_case, lists_item, is_number, number_in};
+ghost use Rattle.osb_frames.specs.Fields.{same_ignoring_case, lists_item, is_number, digits_number};
 
 use httparse::is_space_or_tab;
 
@@ -67,9 +67,9 @@ fn is_number(value: &[u8]) -> bool
 }
 
 /// The number that 1 to 19 digits write, leading zeros among them.
-#[tactic(auto, unfolding(crate::specs::Fields::number_in))]
-pub(crate) fn number_in(value: &[u8]) -> Option<u64>
-    ensures { result ≡ number_in value.now }
+#[tactic(auto, unfolding(crate::specs::Fields::digits_number))]
+pub(crate) fn digits_number(value: &[u8]) -> Option<u64>
+    ensures { result ≡ digits_number value.now }
 {
     if !is_number(value) {
         return None;

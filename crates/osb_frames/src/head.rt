@@ -19,7 +19,7 @@ pub(crate) enum FoundOf<R> {
     Unfinished,
     /// No head, whatever follows, since there are too many field lines. The limit of a head isn't
     /// reached.
-    Crowded,
+    TooManyFields,
     /// No head, whatever follows.
     Never,
 }
@@ -75,7 +75,7 @@ pub(crate) fn head_at<'a>(buf: &'a [u8], limits: &Limits) -> Found<'a>
                 Found::Never
             }
         }
-        Err(Error::TooManyHeaders) if buf.len() < limits.head => Found::Crowded,
+        Err(Error::TooManyHeaders) if buf.len() < limits.head => Found::TooManyFields,
         Err(_) => Found::Never,
     }
 }

@@ -10,7 +10,7 @@ mod calls;
 mod counted;
 mod field;
 mod head;
-mod kept;
+mod in_memory;
 mod laws;
 mod limits;
 mod line_span;
@@ -21,7 +21,7 @@ mod source;
 mod step;
 
 pub use counted::Counted;
-pub use kept::Kept;
+pub use in_memory::InMemory;
 pub use laws::{one_cut, one_front, one_head};
 pub use limits::{Limits, MOST_BODY, MOST_FIELDS, MOST_HEAD};
 pub use request::Request;

@@ -17,7 +17,7 @@ pub trait Sink {
     ghost failures: { Self → ℕ };
 
     /// How many of the writes failed or took nothing. None of them was of no bytes.
-    ghost fruitless: { Self → ℕ };
+    ghost failed_or_empty: { Self → ℕ };
 
     /// All bytes that it holds, where they are known.
     ghost contents: { Self → Option (List ℕ) };
@@ -38,8 +38,8 @@ pub trait Sink {
             (λ _. failures self.new ≡ failures self.old)
             (λ _. failures self.new ≡ failures self.old + 1) }
         ensures took { MatchResult result
-            (λ n. fruitless self.new ≡ (if length bytes.now == 0 then fruitless self.old else (if n == 0 then fruitless self.old + 1 else fruitless self.old)))
-            (λ _. fruitless self.new ≡ fruitless self.old + 1) }
+            (λ n. failed_or_empty self.new ≡ (if length bytes.now == 0 then failed_or_empty self.old else (if n == 0 then failed_or_empty self.old + 1 else failed_or_empty self.old)))
+            (λ _. failed_or_empty self.new ≡ failed_or_empty self.old + 1) }
         ensures roomy { 0 < length bytes.now → length bytes.now ≤ room self.old →
             result ≡ Ok (length bytes.now) }
         ensures room_left { IfOk result (λ n. room self.old ≤ room self.new + n) }

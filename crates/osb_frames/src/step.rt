@@ -2,7 +2,7 @@
 
 ghost use Rattle.std.specs.Prelude.{◌≡◌, ℕ, ◌+◌, ◌<◌, ◌≤◌, length, IsTrue, IsFalse, MatchResult};
 
-use crate::field::number_in;
+use crate::field::digits_number;
 use crate::head::{Found, head_at};
 use crate::limits::Limits;
 use crate::request::Request;
@@ -61,7 +61,7 @@ fn body_length(request: &Request<'_>, limits: &Limits) -> Result<usize, StopKind
             if request.count_named(b"content-length") > 1 {
                 return Err(StopKind::Length);
             }
-            let Some(length) = number_in(value) else {
+            let Some(length) = digits_number(value) else {
                 return Err(StopKind::Length);
             };
             length as usize
@@ -84,8 +84,8 @@ fn step_at<'a>(buf: &'a [u8], ended: bool, limits: &Limits, patient: bool) -> St
     }
     match head_at(buf, limits) {
         Found::Unfinished if !ended => Step::More,
-        Found::Crowded if patient && !ended => Step::More,
-        Found::Unfinished | Found::Crowded | Found::Never => Step::Stop(StopKind::NoHead),
+        Found::TooManyFields if patient && !ended => Step::More,
+        Found::Unfinished | Found::TooManyFields | Found::Never => Step::Stop(StopKind::NoHead),
         Found::Head(mut request, used) => {
             let rest = &buf[used..];
             match body_length(&request, limits) {

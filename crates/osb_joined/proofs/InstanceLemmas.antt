@@ -29,7 +29,7 @@ abbrev pub IsNumberedFrom : ℕ → Life → Type 0
 IsNumberedFrom n [] = Unit {0}
 IsNumberedFrom n (order ∷ later) = (order.number ≡ n + 1) × IsNumberedFrom (n + 1) later
 
-length_one_more : (before : Life) (order : Order) → length (before ++ order ∷ []) ≡ length before + 1
+pub length_one_more : (before : Life) (order : Order) → length (before ++ order ∷ []) ≡ length before + 1
 length_one_more [] order = refl
 length_one_more (first ∷ before) order = omega (arith, length_one_more before order)
 

@@ -18,7 +18,8 @@ use Rattle.osb_bare.specs.Context.{standing_context}
 use Rattle.osb_joined.specs.declared.entry.ContextEntry.{ContextEntry}
 use Rattle.osb_joined.specs.Contexts.{context_entry, context_cmp, AreRising}
 use Rattle.osb_joined.specs.Joined.{order_with, standing_with, row_with}
-use Rattle.osb_joined.specs.Join.{context_of_entry, context_of_row, bare_instance_entry, is_of_standing, is_of_order, fits_order, fits_row, AreOrdersWith, AreRowsWith}
+use Rattle.osb_joined.specs.Join.{context_of_entry, context_of_row, bare_instance_entry, is_of_standing, is_of_order, AreOrdersWith, AreRowsWith}
+use Rattle.osb_joined.specs.Fits.{fits_order, fits_row}
 use Rattle.osb_joined.proofs.ListLemmas.{ascending, sorted_by}
 use Rattle.osb_joined.proofs.InstanceLemmas.{context_total, same_number}
 use Rattle.osb_joined.proofs.PassLemmas.{pass, pass_gives, pass_finds}

@@ -5,7 +5,7 @@ use Rattle.osb_audit.specs.declared.entry.BindingEntry.{BindingEntry}
 use Rattle.osb_audit.specs.Orders.{Entry, lives_in}
 use Rattle.osb_audit.specs.Instances.{InstanceEntry, InstancesStand}
 use Rattle.osb_audit.specs.Bindings.{AllBindingsStand}
-use Rattle.osb_audit.specs.Audit.{Rise}
+use Rattle.osb_audit.specs.Audit.{AreSorted}
 use Rattle.osb_bare.specs.Bare.{bare_entry}
 use Rattle.osb_joined.specs.declared.entry.ContextEntry.{ContextEntry}
 use Rattle.osb_joined.specs.Contexts.{contexts_of}
@@ -20,7 +20,7 @@ pub record HaveNoContexts (orders : List Entry) (instances : List InstanceEntry)
 -- each list rises strictly by its keys, the orders make up well-formed lives with the contexts, and the rows and the
 -- contexts are theirs
 pub record AreRowsWithContexts (contexts : List ContextEntry) (orders : List Entry) (instances : List InstanceEntry) (bindings : List BindingEntry) : Type 0 where
-  pub rise : Rise orders instances bindings
+  pub rise : AreSorted orders instances bindings
   pub lives : IsLives (joined_lives contexts (lives_in orders))
   pub instances_stand : InstancesStand (lives_in orders) instances
   pub bindings_stand : AllBindingsStand (lives_in orders) bindings

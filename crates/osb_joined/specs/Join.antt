@@ -1,5 +1,5 @@
 -- That orders and rows of instances are given ones with the contexts of a list of entries.
-use Rattle.std.specs.Prelude.{◌≡◌, Bool, not, ◌&&◌, ◌||◌, ◌==◌, List, map, filter, length, is_some, bytes_eq}
+use Rattle.std.specs.Prelude.{◌≡◌, Bool, not, ◌==◌, List, map, filter}
 use Rattle.osb_audit.specs.Orders.{Entry}
 use Rattle.osb_audit.specs.Instances.{InstanceEntry}
 use Rattle.osb_bare.specs.Bare.{bare_entry, bare_row}
@@ -22,14 +22,6 @@ is_of_standing entry = entry.number == 0
 
 abbrev pub is_of_order : ContextEntry → Bool
 is_of_order entry = not (entry.number == 0)
-
--- the context is of this order
-abbrev pub fits_order : ContextEntry → Entry → Bool
-fits_order context entry = bytes_eq context.instance entry.0 && (context.number == entry.1.number)
-
--- it is of this row; what is absent has no context
-abbrev pub fits_row : ContextEntry → InstanceEntry → Bool
-fits_row context entry = bytes_eq context.instance entry.0 && (is_some entry.1.standing || (length context.context == 0))
 
 -- they are the orders but for their contexts, and their contexts are those of the list
 pub record AreOrdersWith (contexts : List ContextEntry) (orders joined : List Entry) : Type 0 where

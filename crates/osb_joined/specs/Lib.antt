@@ -9,3 +9,5 @@ pub mod Join
 pub mod Audit
 -- Laws.
 pub mod Laws
+-- For contracts inside the crate.
+pub mod Fits

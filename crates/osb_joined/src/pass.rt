@@ -6,7 +6,8 @@ ghost use Rattle.osb_audit.specs.Orders.{Entry};
 ghost use Rattle.osb_audit.specs.Instances.{InstanceEntry};
 ghost use Rattle.osb_joined.specs.Contexts.{context_cmp, AreRising};
 ghost use Rattle.osb_joined.specs.Joined.{attributes_with, order_with, standing_with, row_with};
-ghost use Rattle.osb_joined.specs.Join.{fits_order, fits_row, AreOrdersWith, AreRowsWith, AreJoined};
+ghost use Rattle.osb_joined.specs.Join.{AreOrdersWith, AreRowsWith, AreJoined};
+ghost use Rattle.osb_joined.specs.Fits.{fits_order, fits_row};
 
 use crate::entry::ContextEntry;
 use osb_orders::{Attributes, Order, Standing};

@@ -31,10 +31,10 @@ use Rattle.osb_orders.specs.Lists.{from_last, last_where, last_of}
 use Rattle.osb_orders.specs.Orders.{is_a, is_now, state_number, has_succeeded, is_of_instance, is_of_binding}
 use Rattle.osb_orders.specs.Life.{Life, since_birth, phase_by, standing_of, standing_since}
 use Rattle.osb_orders.specs.Bindings.{since_bind, binding_phase_by, of_binding, binding_of, binding_since, has_bindings}
-use Rattle.osb_orders.specs.Facts.{Facts, facts_of}
+use Rattle.osb_orders.specs.ViewData.{ViewData, view_data_of}
 use Rattle.osb_orders.specs.Changed.{changed}
 use Rattle.osb_orders.specs.IsLife.{is_empty, is_absent, IsLifeAfter}
-use Rattle.osb_machine.specs.Reaction.{Reaction, done, empty_object}
+use Rattle.osb_machine.specs.Decision.{Decision, done, empty_object}
 use Rattle.osb_machine.specs.Plans.{catalog_version, is_bindable}
 use Rattle.osb_machine.specs.Same.{are_same}
 use Rattle.osb_machine.specs.Opened.{Opening, running, succeeded_with, next_order, opened, is_busy, is_unlike}
@@ -132,18 +132,18 @@ same_twice a = rw (same_bytes a.service, same_bytes a.plan, same_bytes a.place, 
 
 -- Answers that change nothing, to what is there
 
-checked_quiet : (rules : Rules) (facts : Facts) (a : Update) (s : Standing) → (update_by s.phase rules facts s.attributes a (target rules s.attributes a)).change ≡ Nothing → (update_checked rules facts s a).change ≡ Nothing
+checked_quiet : (rules : Rules) (facts : ViewData) (a : Update) (s : Standing) → (update_by s.phase rules facts s.attributes a (target rules s.attributes a)).change ≡ Nothing → (update_checked rules facts s a).change ≡ Nothing
 checked_quiet rules facts a s quiet =
-    let Quiet : Reaction → Type 0 = λ reaction. reaction.change ≡ Nothing in
+    let Quiet : Decision → Type 0 = λ decision. decision.change ≡ Nothing in
     choose Quiet (not (bytes_eq a.service s.attributes.service)) _ _ (λ _. refl)
     (λ _. choose Quiet (is_unlike a.maintenance (catalog_version rules s.attributes.service (target_plan s.attributes a))) _ _ (λ _. refl) (λ _. quiet))
 
-ready_quiet : (rules : Rules) (facts : Facts) (a : Update) (s : Attributes) → target rules s a ≡ s → (update_ready rules facts s a (target rules s a)).change ≡ Nothing
+ready_quiet : (rules : Rules) (facts : ViewData) (a : Update) (s : Attributes) → target rules s a ≡ s → (update_ready rules facts s a (target rules s a)).change ≡ Nothing
 ready_quiet rules facts a s is =
     let same : are_same (target rules s a) s ≡ true = ap (λ aim. are_same aim s) is ∙ same_twice s in
-    choose (λ (r : Reaction). r.change ≡ Nothing) (are_same (target rules s a) s) done _ (λ _. refl) (λ other. absurd (true≢false (sym same ∙ other)))
+    choose (λ (r : Decision). r.change ≡ Nothing) (are_same (target rules s a) s) done _ (λ _. refl) (λ other. absurd (true≢false (sym same ∙ other)))
 
-bind_quiet : (rules : Rules) (facts : Facts) (a : Bind) (b : BindingNow) (s : Option Standing) → facts.binding ≡ Some b → (bind_at rules facts a s).change ≡ Nothing
+bind_quiet : (rules : Rules) (facts : ViewData) (a : Bind) (b : BindingNow) (s : Option Standing) → facts.binding ≡ Some b → (bind_at rules facts a s).change ≡ Nothing
 bind_quiet rules facts a b None is = refl
 bind_quiet rules facts a b (Some s) is = over s.phase
   where
@@ -158,7 +158,7 @@ bind_quiet rules facts a b (Some s) is = over s.phase
 report_quiet : (a : Report) (named : Option Order) → ((o : Order) → named ≡ Some o → is_now Running o ≡ false) → (report a named).change ≡ Nothing
 report_quiet a None ended = refl
 report_quiet a (Some o) ended =
-    let Quiet : Reaction → Type 0 = λ reaction. reaction.change ≡ Nothing in
+    let Quiet : Decision → Type 0 = λ decision. decision.change ≡ Nothing in
     choose Quiet (is_now Running o) _ _ (λ runs. absurd (true≢false (sym runs ∙ ended o refl)))
     (λ _. choose Quiet (is_outcome o.outcome (kept_outcome a o)) _ _ (λ _. refl) (λ _. refl))
 
@@ -177,43 +177,43 @@ module _ (rules : Rules) (life : Life) (listing : List (List ℕ × Order)) wher
   Rests ask o = change_of rules (life ++ o ∷ []) listing ask ≡ Nothing
 
   module _ (ask : Ask) where
-    abbrev Settles : Reaction → Type 0
-    Settles reaction = Settled ask reaction.change
+    abbrev Settles : Decision → Type 0
+    Settles decision = Settled ask decision.change
 
     still : (c : Change) → c ≡ Nothing → Settled ask c
     still c is = subst (Settled ask) (sym is) (λ own. own)
 
-    past : (test : Bool) (here other : Reaction) → here.change ≡ Nothing → Settles other → Settles (cond test here other)
+    past : (test : Bool) (here other : Decision) → here.change ≡ Nothing → Settles other → Settles (cond test here other)
     past test here other quiet otherwise = choose Settles test here other (λ _. still here.change quiet) (λ _. otherwise)
 
-    opening : (o : Opening) → Rests ask (next_order (length life) o running) → Rests ask (next_order (length life) o (succeeded_with o.credentials)) → Settles (opened rules (facts_of life listing ask) o)
+    opening : (o : Opening) → Rests ask (next_order (length life) o running) → Rests ask (next_order (length life) o (succeeded_with o.credentials)) → Settles (opened rules (view_data_of life listing ask) o)
     opening o later now =
         past (o.asynchronous && not o.accepts_incomplete) _ _ refl
         (past (nat_le rules.order_limit (length life)) _ _ refl
         (choose Settles o.asynchronous _ _ (λ _ _. later) (λ _ _. now)))
 
-  provision_settles : (a : Provision) → Settles (the.Provision a) (provision rules (facts_of life listing (the.Provision a)) a)
+  provision_settles : (a : Provision) → Settles (the.Provision a) (provision rules (view_data_of life listing (the.Provision a)) a)
   provision_settles a = past (the.Provision a) (is_unlike a.maintenance (catalog_version rules a.service a.plan)) _ _ refl (at (standing_of life))
     where
       created : (o : Order) → is_a kind.Create o ≡ true → Rests (the.Provision a) o
       created o creates =
-          let facts = facts_of (life ++ o ∷ []) listing (the.Provision a) in
-          choose (λ (r : Reaction). r.change ≡ Nothing) (is_unlike a.maintenance (catalog_version rules a.service a.plan)) _ (provision_at rules facts a facts.standing) (λ _. refl)
+          let facts = view_data_of (life ++ o ∷ []) listing (the.Provision a) in
+          choose (λ (r : Decision). r.change ≡ Nothing) (is_unlike a.maintenance (catalog_version rules a.service a.plan)) _ (provision_at rules facts a facts.standing) (λ _. refl)
           (λ _. subst (λ s. (provision_at rules facts a s).change ≡ Nothing) (sym (ap standing_since (since_birth-create life o creates)))
           (provision_over_quiet (phase_by o.outcome.state o.kind o.outcome.state) _ a facts))
 
-      at : (s : Option Standing) → Settles (the.Provision a) (provision_at rules (facts_of life listing (the.Provision a)) a s)
+      at : (s : Option Standing) → Settles (the.Provision a) (provision_at rules (view_data_of life listing (the.Provision a)) a s)
       at None = opening (the.Provision a) (creation rules a) (created _ refl) (created _ refl)
-      at (Some s) = still (the.Provision a) _ (provision_over_quiet s.phase _ a (facts_of life listing (the.Provision a)))
+      at (Some s) = still (the.Provision a) _ (provision_over_quiet s.phase _ a (view_data_of life listing (the.Provision a)))
 
-  deprovision_settles : (a : Deprovision) (s : Standing) → is_absent life ≡ false → Settles (the.Deprovision a) (deprovision_at rules (facts_of life listing (the.Deprovision a)) a (Some s))
+  deprovision_settles : (a : Deprovision) (s : Standing) → is_absent life ≡ false → Settles (the.Deprovision a) (deprovision_at rules (view_data_of life listing (the.Deprovision a)) a (Some s))
   deprovision_settles a s present = over s.phase
     where
       o : Outcome → Order
       o outcome = next_order (length life) (deletion rules s.attributes a) outcome
 
-      rests : (outcome : Outcome) (now : Option Standing) → standing_of (life ++ o outcome ∷ []) ≡ now → (deprovision_at rules (facts_of (life ++ o outcome ∷ []) listing (the.Deprovision a)) a now).change ≡ Nothing → Rests (the.Deprovision a) (o outcome)
-      rests outcome now is quiet = subst (λ s. (deprovision_at rules (facts_of (life ++ o outcome ∷ []) listing (the.Deprovision a)) a s).change ≡ Nothing) (sym is) quiet
+      rests : (outcome : Outcome) (now : Option Standing) → standing_of (life ++ o outcome ∷ []) ≡ now → (deprovision_at rules (view_data_of (life ++ o outcome ∷ []) listing (the.Deprovision a)) a now).change ≡ Nothing → Rests (the.Deprovision a) (o outcome)
+      rests outcome now is quiet = subst (λ s. (deprovision_at rules (view_data_of (life ++ o outcome ∷ []) listing (the.Deprovision a)) a s).change ≡ Nothing) (sym is) quiet
 
       runs : Rests (the.Deprovision a) (o running)
       runs = rests running _ (ap standing_since (since_birth-later life (o running) refl refl) ∙ (standing_grown (since_birth life) (o running) present refl false refl).2) (accepted_quiet a.accepts_incomplete (last_of (life ++ o running ∷ [])))
@@ -221,11 +221,11 @@ module _ (rules : Rules) (life : Life) (listing : List (List ℕ × Order)) wher
       ended : Rests (the.Deprovision a) (o (succeeded_with empty_object))
       ended = rests (succeeded_with empty_object) None (ap standing_since (since_birth-deleted life (o (succeeded_with empty_object)) refl refl)) refl
 
-      over : (p : InstancePhase) → Settles (the.Deprovision a) (deprovision_over p rules (facts_of life listing (the.Deprovision a)) s.attributes a)
+      over : (p : InstancePhase) → Settles (the.Deprovision a) (deprovision_over p rules (view_data_of life listing (the.Deprovision a)) s.attributes a)
       over phase.Deleting = still (the.Deprovision a) _ (accepted_quiet a.accepts_incomplete (last_of life))
-      over _ = past (the.Deprovision a) (is_busy (facts_of life listing (the.Deprovision a))) _ _ refl (past (the.Deprovision a) (has_bindings life) _ _ refl (opening (the.Deprovision a) (deletion rules s.attributes a) runs ended))
+      over _ = past (the.Deprovision a) (is_busy (view_data_of life listing (the.Deprovision a))) _ _ refl (past (the.Deprovision a) (has_bindings life) _ _ refl (opening (the.Deprovision a) (deletion rules s.attributes a) runs ended))
 
-  update_settles : (a : Update) (s : Standing) → is_absent life ≡ false → Settles (the.Update a) (update_at rules (facts_of life listing (the.Update a)) a (Some s))
+  update_settles : (a : Update) (s : Standing) → is_absent life ≡ false → Settles (the.Update a) (update_at rules (view_data_of life listing (the.Update a)) a (Some s))
   update_settles a s present = over s.phase
     where
       aim : Attributes
@@ -234,8 +234,8 @@ module _ (rules : Rules) (life : Life) (listing : List (List ℕ × Order)) wher
       o : Outcome → Order
       o outcome = next_order (length life) (update_opening rules s.attributes a aim) outcome
 
-      facts : Outcome → Facts
-      facts outcome = facts_of (life ++ o outcome ∷ []) listing (the.Update a)
+      facts : Outcome → ViewData
+      facts outcome = view_data_of (life ++ o outcome ∷ []) listing (the.Update a)
 
       rests : (outcome : Outcome) (now : Standing) → standing_since (grow (since_birth life) (o outcome)) ≡ Some now → (update_at rules (facts outcome) a (Some now)).change ≡ Nothing → Rests (the.Update a) (o outcome)
       rests outcome now is quiet = subst (λ s. (update_at rules (facts outcome) a s).change ≡ Nothing) (sym (ap standing_since (since_birth-later life (o outcome) refl refl) ∙ is)) quiet
@@ -252,53 +252,53 @@ module _ (rules : Rules) (life : Life) (listing : List (List ℕ × Order)) wher
           rests outcome (record { phase = phase.Ready; attributes = aim }) (standing_grown (since_birth life) (o outcome) present refl true refl).2
           (checked_quiet rules (facts outcome) a (record { phase = phase.Ready; attributes = aim }) (ready_quiet rules (facts outcome) a aim (target_twice rules s.attributes a)))
 
-      by : (p : InstancePhase) → Settles (the.Update a) (update_by p rules (facts_of life listing (the.Update a)) s.attributes a aim)
-      by phase.Updating = still (the.Update a) _ (update_running_quiet (facts_of life listing (the.Update a)) a aim)
+      by : (p : InstancePhase) → Settles (the.Update a) (update_by p rules (view_data_of life listing (the.Update a)) s.attributes a aim)
+      by phase.Updating = still (the.Update a) _ (update_running_quiet (view_data_of life listing (the.Update a)) a aim)
       by _ =
           past (the.Update a) (are_same aim s.attributes) _ _ refl
-          (past (the.Update a) (is_busy (facts_of life listing (the.Update a))) _ _ refl
+          (past (the.Update a) (is_busy (view_data_of life listing (the.Update a))) _ _ refl
           (past (the.Update a) (forbids_change rules s.attributes aim) _ _ refl (opening (the.Update a) (update_opening rules s.attributes a aim) runs ended)))
 
-      checked : Settles (the.Update a) (update_checked rules (facts_of life listing (the.Update a)) s a)
+      checked : Settles (the.Update a) (update_checked rules (view_data_of life listing (the.Update a)) s a)
       checked =
           past (the.Update a) (not (bytes_eq a.service s.attributes.service)) _ _ refl
           (past (the.Update a) (is_unlike a.maintenance (catalog_version rules s.attributes.service (target_plan s.attributes a))) _ _ refl (by s.phase))
 
-      over : (p : InstancePhase) → Settles (the.Update a) (update_over p rules (facts_of life listing (the.Update a)) s a)
+      over : (p : InstancePhase) → Settles (the.Update a) (update_over p rules (view_data_of life listing (the.Update a)) s a)
       over phase.Failed = λ own. own
       over phase.Creating = λ own. own
       over phase.Deleting = λ own. own
       over _ = checked
 
-  bind_settles : (a : Bind) (s : Standing) → is_absent life ≡ false → Settles (the.Bind a) (bind_at rules (facts_of life listing (the.Bind a)) a (Some s))
+  bind_settles : (a : Bind) (s : Standing) → is_absent life ≡ false → Settles (the.Bind a) (bind_at rules (view_data_of life listing (the.Bind a)) a (Some s))
   bind_settles a s present = over s.phase
     where
       rests : (outcome : Outcome) → Rests (the.Bind a) (next_order (length life) (bind_opening rules s.attributes a) outcome)
       rests outcome =
           let o = next_order (length life) (bind_opening rules s.attributes a) outcome in
-          bind_quiet rules (facts_of (life ++ o ∷ []) listing (the.Bind a)) a _ (standing_of (life ++ o ∷ []))
+          bind_quiet rules (view_data_of (life ++ o ∷ []) listing (the.Bind a)) a _ (standing_of (life ++ o ∷ []))
           (ap (λ since. binding_since a.binding (since_bind a.binding since)) (since_birth-later life o refl refl) ∙ ap (binding_since a.binding) (bind_grown a.binding (since_birth life) o present (same_bytes a.binding) refl))
 
-      by : (b : Option BindingNow) → Settles (the.Bind a) (bind_by rules (facts_of life listing (the.Bind a)) s.attributes a b)
+      by : (b : Option BindingNow) → Settles (the.Bind a) (bind_by rules (view_data_of life listing (the.Bind a)) s.attributes a b)
       by None =
-          past (the.Bind a) (is_busy (facts_of life listing (the.Bind a))) _ _ refl
+          past (the.Bind a) (is_busy (view_data_of life listing (the.Bind a))) _ _ refl
           (past (the.Bind a) (not (is_of_plan a s.attributes)) _ _ refl
           (past (the.Bind a) (not (is_bindable rules s.attributes.service s.attributes.plan)) _ _ refl (opening (the.Bind a) (bind_opening rules s.attributes a) (rests running) (rests (succeeded_with (bind_opening rules s.attributes a).credentials)))))
-      by (Some b) = still (the.Bind a) _ (bind_over_quiet b.phase _ b (facts_of life listing (the.Bind a)) a)
+      by (Some b) = still (the.Bind a) _ (bind_over_quiet b.phase _ b (view_data_of life listing (the.Bind a)) a)
 
-      over : (p : InstancePhase) → Settles (the.Bind a) (bind_in p rules (facts_of life listing (the.Bind a)) s.attributes a)
+      over : (p : InstancePhase) → Settles (the.Bind a) (bind_in p rules (view_data_of life listing (the.Bind a)) s.attributes a)
       over phase.Failed = λ own. own
       over phase.Creating = λ own. own
       over _ = by (binding_of a.binding life)
 
-  unbind_settles : (a : Unbind) (b : BindingNow) → Settles (the.Unbind a) (unbind_at rules (facts_of life listing (the.Unbind a)) a (Some b))
+  unbind_settles : (a : Unbind) (b : BindingNow) → Settles (the.Unbind a) (unbind_at rules (view_data_of life listing (the.Unbind a)) a (Some b))
   unbind_settles a b = over b.phase
     where
       o : Outcome → Order
       o outcome = next_order (length life) (unbind_opening rules (standing_of life) b a) outcome
 
-      facts : Outcome → Facts
-      facts outcome = facts_of (life ++ o outcome ∷ []) listing (the.Unbind a)
+      facts : Outcome → ViewData
+      facts outcome = view_data_of (life ++ o outcome ∷ []) listing (the.Unbind a)
 
       kept : Life
       kept = from_last (is_bind_of a.binding) (since_birth life)
@@ -314,10 +314,10 @@ module _ (rules : Rules) (life : Life) (listing : List (List ℕ × Order)) wher
           subst (λ (last : Order). (unbind_at rules (facts running) a (Some (record { phase = binding_phase_by last.kind last.outcome.state; attributes = of_binding bind.attributes; credentials = bind.outcome.credentials }))).change ≡ Nothing)
           (sym (last_where-hit (is_unbind_of a.binding) bind later (o running) (same_bytes a.binding))) (accepted_quiet a.accepts_incomplete (last_of (life ++ o running ∷ [])))
 
-      over : (p : BindingPhase) → Settles (the.Unbind a) (unbind_over p rules (facts_of life listing (the.Unbind a)) b a)
+      over : (p : BindingPhase) → Settles (the.Unbind a) (unbind_over p rules (view_data_of life listing (the.Unbind a)) b a)
       over bindings.Unbinding = still (the.Unbind a) _ (accepted_quiet a.accepts_incomplete (last_of life))
       over _ =
-          past (the.Unbind a) (is_busy (facts_of life listing (the.Unbind a))) _ _ refl
+          past (the.Unbind a) (is_busy (view_data_of life listing (the.Unbind a))) _ _ refl
           (opening (the.Unbind a) (unbind_opening rules (standing_of life) b a)
           (rests running _ (unless-miss (is_unbound a.binding) kept (o running) refl) (unbinding (unless (is_unbound a.binding) kept)))
           (rests (succeeded_with empty_object) [] (unless-hit (is_unbound a.binding) kept (o (succeeded_with empty_object)) (same_bytes a.binding)) refl))
@@ -330,19 +330,19 @@ module _ (rules : Rules) (life : Life) (listing : List (List ℕ × Order)) wher
       (λ _. past (the.Report a) (is_outcome o.outcome (kept_outcome a o)) _ _ refl (λ own. own))
 
   -- where there is none, nothing is changed in either turn
-  update_at_settles : (a : Update) (s : Option Standing) → standing_of life ≡ s → Settles (the.Update a) (update_at rules (facts_of life listing (the.Update a)) a s)
+  update_at_settles : (a : Update) (s : Option Standing) → standing_of life ≡ s → Settles (the.Update a) (update_at rules (view_data_of life listing (the.Update a)) a s)
   update_at_settles a None is = λ own. own
   update_at_settles a (Some s) is = update_settles a s (absent_by life (Some s) is)
 
-  deprovision_at_settles : (a : Deprovision) (s : Option Standing) → standing_of life ≡ s → Settles (the.Deprovision a) (deprovision_at rules (facts_of life listing (the.Deprovision a)) a s)
+  deprovision_at_settles : (a : Deprovision) (s : Option Standing) → standing_of life ≡ s → Settles (the.Deprovision a) (deprovision_at rules (view_data_of life listing (the.Deprovision a)) a s)
   deprovision_at_settles a None is = λ own. own
   deprovision_at_settles a (Some s) is = deprovision_settles a s (absent_by life (Some s) is)
 
-  bind_at_settles : (a : Bind) (s : Option Standing) → standing_of life ≡ s → Settles (the.Bind a) (bind_at rules (facts_of life listing (the.Bind a)) a s)
+  bind_at_settles : (a : Bind) (s : Option Standing) → standing_of life ≡ s → Settles (the.Bind a) (bind_at rules (view_data_of life listing (the.Bind a)) a s)
   bind_at_settles a None is = λ own. own
   bind_at_settles a (Some s) is = bind_settles a s (absent_by life (Some s) is)
 
-  unbind_at_settles : (a : Unbind) (b : Option BindingNow) → Settles (the.Unbind a) (unbind_at rules (facts_of life listing (the.Unbind a)) a b)
+  unbind_at_settles : (a : Unbind) (b : Option BindingNow) → Settles (the.Unbind a) (unbind_at rules (view_data_of life listing (the.Unbind a)) a b)
   unbind_at_settles a None = λ own. own
   unbind_at_settles a (Some b) = unbind_settles a b
 
@@ -354,10 +354,10 @@ again_all rules life listing again (the.Provision a) h = provision_settles rules
 again_all rules life listing again (the.Fetch id) h = fetch_quiet _
 again_all rules life listing again (the.Update a) h = update_at_settles rules life again a (standing_of life) refl refl
 again_all rules life listing again (the.Deprovision a) h = deprovision_at_settles rules life again a (standing_of life) refl refl
-again_all rules life listing again (the.InstanceOp a) h = poll_quiet kind.Delete a.operation (facts_of (after_ask rules life listing (the.InstanceOp a)) again (the.InstanceOp a))
+again_all rules life listing again (the.InstanceOp a) h = poll_quiet kind.Delete a.operation (view_data_of (after_ask rules life listing (the.InstanceOp a)) again (the.InstanceOp a))
 again_all rules life listing again (the.Bind a) h = bind_at_settles rules life again a (standing_of life) refl refl
 again_all rules life listing again (the.FetchBinding a) h = fetch_binding_quiet _
 again_all rules life listing again (the.Unbind a) h = unbind_at_settles rules life again a (binding_of a.binding life) refl
-again_all rules life listing again (the.BindingOp a) h = poll_quiet kind.Unbind a.operation (facts_of (after_ask rules life listing (the.BindingOp a)) again (the.BindingOp a))
+again_all rules life listing again (the.BindingOp a) h = poll_quiet kind.Unbind a.operation (view_data_of (after_ask rules life listing (the.BindingOp a)) again (the.BindingOp a))
 again_all rules life listing again (the.Orders after) h = refl
 again_all rules life listing again (the.Report a) h = report_settles rules life again a (find (λ o. o.number == a.number) life) h refl

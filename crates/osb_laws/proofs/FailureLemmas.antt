@@ -28,8 +28,8 @@ use Rattle.osb_orders.specs.declared.view.BindingPhase.TheVariants as bindings
 use Rattle.osb_orders.specs.declared.view.Standing.{Standing}
 use Rattle.osb_orders.specs.declared.view.BindingNow.{BindingNow}
 use Rattle.osb_orders.specs.Lives.{Lives}
-use Rattle.osb_orders.specs.Facts.{Facts, view_of}
-use Rattle.osb_machine.specs.Reaction.{Reaction}
+use Rattle.osb_orders.specs.ViewData.{ViewData, view_of}
+use Rattle.osb_machine.specs.Decision.{Decision}
 use Rattle.osb_machine.specs.Opened.{Opening, opened, accepted, is_busy, is_unlike}
 use Rattle.osb_machine.specs.Provision.{creation, provision_over, provision_at, provision}
 use Rattle.osb_machine.specs.Fetch.{fetch, fetch_over}
@@ -38,18 +38,18 @@ use Rattle.osb_machine.specs.Deprovision.{deletion, deprovision_idle, deprovisio
 use Rattle.osb_machine.specs.Bind.{bind_opening, is_of_plan, bind_new, bind_over, bind_by, bind_in, bind_at}
 use Rattle.osb_machine.specs.FetchBinding.{fetch_binding, fetch_binding_over}
 use Rattle.osb_machine.specs.Unbind.{unbind_opening, unbind_idle, unbind_over, unbind_at}
-use Rattle.osb_machine.specs.Polls.{told, poll_at}
+use Rattle.osb_machine.specs.Polls.{polled_answer, poll_at}
 use Rattle.osb_machine.specs.Report.{is_outcome, kept_outcome, report}
 use Rattle.osb_machine.specs.Answer.{answer}
 use Rattle.osb_machine.specs.Machine.{answer_to}
 use Rattle.osb_laws.specs.Failures.{is_500}
 
--- a reaction whose status is another
-record Good (r : Reaction) : Type 0 where
+-- a decision whose status is another
+record Good (r : Decision) : Type 0 where
   good : is_500 r.status ≡ false
 
 -- what a test leads to
-past : (test : Bool) (here other : Reaction) → Good here → Good other → Good (cond test here other)
+past : (test : Bool) (here other : Decision) → Good here → Good other → Good (cond test here other)
 past true here other good later = good
 past false here other good later = later
 
@@ -75,7 +75,7 @@ fixed_good told.NoPlanChange = refl
 fixed_good told.BindingsRemain = refl
 fixed_good told.Full = refl
 
-opening : (rules : Rules) (facts : Facts) (o : Opening) → is_500 o.status ≡ false → Good (opened rules facts o)
+opening : (rules : Rules) (facts : ViewData) (o : Opening) → is_500 o.status ≡ false → Good (opened rules facts o)
 opening rules facts o good = past (o.asynchronous && not o.accepts_incomplete) _ _ (record { good = refl }) (past (nat_le rules.order_limit facts.count) _ _ (record { good = refl }) (past o.asynchronous _ _ (record { good = refl }) (record { good = good })))
 
 accepting : (accepts : Bool) (last : Option Order) → Good (accepted accepts last)
@@ -83,7 +83,7 @@ accepting accepts None = record { good = refl }
 accepting true (Some o) = record { good = refl }
 accepting false (Some o) = record { good = refl }
 
-provisioning : (rules : Rules) (facts : Facts) (a : Provision) → Good (provision rules facts a)
+provisioning : (rules : Rules) (facts : ViewData) (a : Provision) → Good (provision rules facts a)
 provisioning rules facts a = past (is_unlike a.maintenance _) _ _ (record { good = refl }) (at facts.standing)
   where
     over : (p : InstancePhase) (same : Bool) → Good (provision_over p same a facts)
@@ -111,7 +111,7 @@ fetching (Some s) = over s.phase
     over phase.Deleting = record { good = refl }
     over phase.Ready = record { good = refl }
 
-updating : (rules : Rules) (facts : Facts) (a : Update) (s : Option Standing) → Good (update_at rules facts a s)
+updating : (rules : Rules) (facts : ViewData) (a : Update) (s : Option Standing) → Good (update_at rules facts a s)
 updating rules facts a None = record { good = refl }
 updating rules facts a (Some s) = over s.phase
   where
@@ -138,7 +138,7 @@ updating rules facts a (Some s) = over s.phase
     over phase.Ready = checked
     over phase.Updating = checked
 
-deprovisioning : (rules : Rules) (facts : Facts) (a : Deprovision) (s : Option Standing) → Good (deprovision_at rules facts a s)
+deprovisioning : (rules : Rules) (facts : ViewData) (a : Deprovision) (s : Option Standing) → Good (deprovision_at rules facts a s)
 deprovisioning rules facts a None = record { good = refl }
 deprovisioning rules facts a (Some s) = over s.phase
   where
@@ -152,7 +152,7 @@ deprovisioning rules facts a (Some s) = over s.phase
     over phase.Updating = idle
     over phase.Failed = idle
 
-telling : (removal : Bool) (o : Order) → Good (told removal o)
+telling : (removal : Bool) (o : Order) → Good (polled_answer removal o)
 telling removal o = past (removal && is_now Succeeded o) _ _ (record { good = refl }) (record { good = refl })
 
 polling : (removal : OrderKind) (operation : Option (List ℕ)) (named last : Option Order) → Good (poll_at removal operation named last)
@@ -161,7 +161,7 @@ polling removal None named (Some last) = telling _ last
 polling removal (Some name) None (Some last) = record { good = refl }
 polling removal (Some name) (Some o) (Some last) = telling _ o
 
-binding : (rules : Rules) (facts : Facts) (a : Bind) (s : Option Standing) → Good (bind_at rules facts a s)
+binding : (rules : Rules) (facts : ViewData) (a : Bind) (s : Option Standing) → Good (bind_at rules facts a s)
 binding rules facts a None = record { good = refl }
 binding rules facts a (Some s) = at s.phase
   where
@@ -197,7 +197,7 @@ fetching_binding (Some b) = over b.phase
     over bindings.Unbinding = record { good = refl }
     over bindings.Failed = record { good = refl }
 
-unbinding : (rules : Rules) (facts : Facts) (a : Unbind) (b : Option BindingNow) → Good (unbind_at rules facts a b)
+unbinding : (rules : Rules) (facts : ViewData) (a : Unbind) (b : Option BindingNow) → Good (unbind_at rules facts a b)
 unbinding rules facts a None = record { good = refl }
 unbinding rules facts a (Some b) = over b.phase
   where
@@ -214,7 +214,7 @@ reporting : (a : Report) (o : Option Order) → Good (report a o)
 reporting a None = record { good = refl }
 reporting a (Some o) = past (is_now Running o) _ _ (record { good = refl }) (past (is_outcome o.outcome (kept_outcome a o)) _ _ (record { good = refl }) (record { good = refl }))
 
-answer_good : (rules : Rules) (facts : Facts) (ask : Ask) → Good (answer rules facts ask)
+answer_good : (rules : Rules) (facts : ViewData) (ask : Ask) → Good (answer rules facts ask)
 answer_good rules facts the.Catalog = record { good = refl }
 answer_good rules facts (the.Provision a) = provisioning rules facts a
 answer_good rules facts (the.Fetch a) = fetching facts.standing

@@ -13,7 +13,7 @@ use Rattle.osb_catalog.specs.Rules.{Rules}
 use Rattle.osb_catalog.specs.Sound.{AreSound}
 use Rattle.osb_asks.specs.declared.ask.Ask.{Ask}
 use Rattle.osb_asks.specs.declared.ask.Ask.TheVariants as the
-use Rattle.osb_asks.specs.Worded as asks
+use Rattle.osb_asks.specs.ValidTexts as asks
 use Rattle.osb_orders.specs.declared.order.Order.{Order}
 use Rattle.osb_orders.specs.declared.order.Outcome.{Outcome}
 use Rattle.osb_orders.specs.declared.order.Change.{Change}
@@ -22,33 +22,33 @@ use Rattle.osb_orders.specs.Life.{Life}
 use Rattle.osb_orders.specs.Lives.{Lives, life_of, named_life}
 use Rattle.osb_orders.specs.Named.{instance_in}
 use Rattle.osb_orders.specs.Listing.{listing_for}
-use Rattle.osb_orders.specs.Facts.{Facts, facts_of, listing_in}
+use Rattle.osb_orders.specs.ViewData.{ViewData, view_data_of, listing_in}
 use Rattle.osb_orders.specs.Changed.{changed, with_last_ended, after_change}
-use Rattle.osb_orders.specs.IsLife.{IsLife, IsWorded, IsInstance, IsLives}
+use Rattle.osb_orders.specs.IsLife.{IsLife, HasValidTexts, IsInstance, IsLives}
 use Rattle.osb_orders.specs.Allowed.{IsFinishable, IsAllowed}
 use Rattle.osb_machine.specs.Answer.{answer}
 use Rattle.osb_machine.specs.Machine.{answer_to, after_step}
-use Rattle.osb_laws.specs.Exclusive.{Steps, ChangesKeepLives, NoLivesAreWellFormed, StepsAreAllowed, StepsKeepLives, LivesStep}
+use Rattle.osb_laws.specs.Exclusive.{LifeSteps, ChangesKeepLives, NoLivesAreWellFormed, StepsAreAllowed, StepsKeepLives, LivesStep}
 use Rattle.osb_laws.specs.AskedAgain.{AskedAgainStays}
 use Rattle.osb_laws.specs.Apart.{AnsweredByOneLife, OthersStay, UnnamedStay}
 use Rattle.osb_orders.proofs.GrowLemmas.{choose}
 use Rattle.osb_laws.proofs.LifeLemmas.{length-push, life_push, life_ended}
 use Rattle.osb_laws.proofs.StepLemmas.{change_of, IsStep, steps_allowed}
 use Rattle.osb_laws.proofs.AgainLemmas.{again_all}
-use Rattle.osb_laws.proofs.WordLemmas.{IsWordedChange, rules_worded, steps_worded}
+use Rattle.osb_laws.proofs.WordLemmas.{ChangeHasValidTexts, rules_valid_texts, steps_valid_texts}
 
 -- One life
 
 within : (n limit : ℕ) → n < limit → limit ≤ 1000000 → n < 1000000
 within n limit h k = omega (arith)
 
-allowed_of : (rules : Rules) (life : Life) (c : Change) → AreSound rules → IsStep rules life c → IsWordedChange c → IsAllowed life c
+allowed_of : (rules : Rules) (life : Life) (c : Change) → AreSound rules → IsStep rules life c → ChangeHasValidTexts c → IsAllowed life c
 allowed_of rules life Nothing sound step words = tt
 allowed_of rules life (Append order) sound step words = record { room = within (length life) rules.order_limit step.1 sound.most_orders; next = step.0; texts = words }
 allowed_of rules life (Finish number outcome) sound step words = record { runs = step.0; last = step.1; ends = step.2; credentials = words }
 
-allowed_by : (rules : Rules) (life : Life) (listing : List (List ℕ × Order)) (a : Ask) → AreSound rules → IsLife life → asks.IsWorded a → IsAllowed life (change_of rules life listing a)
-allowed_by rules life listing a sound h words = allowed_of rules life _ sound (steps_allowed rules life listing a h.orders) (steps_worded rules life listing a h.texts (rules_worded rules sound) words)
+allowed_by : (rules : Rules) (life : Life) (listing : List (List ℕ × Order)) (a : Ask) → AreSound rules → IsLife life → asks.AskHasValidTexts a → IsAllowed life (change_of rules life listing a)
+allowed_by rules life listing a sound h words = allowed_of rules life _ sound (steps_allowed rules life listing a h.orders) (steps_valid_texts rules life listing a h.texts (rules_valid_texts rules sound) words)
 
 all-push : {A : Type 0} (P : A → Type 0) (xs : List A) (y : A) → AllByRecursion P xs → P y → AllByRecursion P (xs ++ y ∷ [])
 all-push P [] y h p = (p, tt)
@@ -59,10 +59,10 @@ ended_length outcome [] = refl
 ended_length outcome (o ∷ []) = refl
 ended_length outcome (o ∷ p ∷ os) = ap suc (ended_length outcome (p ∷ os))
 
-ended_texts : (outcome : Outcome) (life : Life) (c : _) → AllByRecursion IsWorded life → IsFinishable life c outcome → AllByRecursion IsWorded (with_last_ended outcome life)
+ended_texts : (outcome : Outcome) (life : Life) (c : _) → AllByRecursion HasValidTexts life → IsFinishable life c outcome → AllByRecursion HasValidTexts (with_last_ended outcome life)
 ended_texts outcome life c h f = texts life h
   where
-    texts : (life : Life) → AllByRecursion IsWorded life → AllByRecursion IsWorded (with_last_ended outcome life)
+    texts : (life : Life) → AllByRecursion HasValidTexts life → AllByRecursion HasValidTexts (with_last_ended outcome life)
     texts [] h = tt
     texts (o ∷ []) h = (record { texts = h.0.texts; credentials = f.credentials }, tt)
     texts (o ∷ p ∷ os) h = (h.0, texts (p ∷ os) h.1)
@@ -73,7 +73,7 @@ kept_life life Nothing h a = h
 kept_life life (Append order) h a = record {
   count = subst (λ n. n ≤ 1000000) (sym (length-push life order)) (fits (length life) a.room);
   orders = life_push [] life order h.orders a.next;
-  texts = all-push IsWorded life order h.texts a.texts;
+  texts = all-push HasValidTexts life order h.texts a.texts;
 }
   where
     fits : (n : ℕ) → n < 1000000 → n + 1 ≤ 1000000
@@ -84,7 +84,7 @@ kept_life life (Finish number outcome) h a = record {
   texts = ended_texts outcome life number h.texts a;
 }
 
-steps_of : (life : Life) (c : Change) → IsAllowed life c → Steps life (changed c life)
+steps_of : (life : Life) (c : Change) → IsAllowed life c → LifeSteps life (changed c life)
 steps_of life Nothing a = inl refl
 steps_of life (Append order) a = inr (inl (record { order = order; ended = a.next.ended; more = refl }))
 steps_of life (Finish number outcome) a = inr (inr (record { outcome = outcome; runs = a.runs; ends = a.ends; ended = refl }))
@@ -127,7 +127,7 @@ named_at lives None h = no_orders
 named_at lives (Some id) h = life_at lives id h
 
 -- the instance that an ask names has an id text
-named_words : (a : Ask) → asks.IsWorded a → IfSome (instance_in a) (λ id. is_id id ≡ true)
+named_words : (a : Ask) → asks.AskHasValidTexts a → IfSome (instance_in a) (λ id. is_id id ≡ true)
 named_words the.Catalog h = tt
 named_words (the.Provision a) h = h.0
 named_words (the.Fetch a) h = h
@@ -164,12 +164,12 @@ changes_keep_lives lives c id h word a = kept_change lives c (Some id) h word a
 pub no_lives : NoLivesAreWellFormed
 no_lives id = subst (λ (found : Option Life). IfSome found (IsInstance id)) (sym (get-empty (slice_cmp nat_cmp) id)) tt
 
-stepped : (lives : Lives) (c : Change) (at id : List ℕ) → Steps (life_of lives at) (changed c (life_of lives at)) → Steps (life_of lives id) (life_of (insert lives at (changed c (life_of lives at))) id)
+stepped : (lives : Lives) (c : Change) (at id : List ℕ) → LifeSteps (life_of lives at) (changed c (life_of lives at)) → LifeSteps (life_of lives id) (life_of (insert lives at (changed c (life_of lives at))) id)
 stepped lives c at id h =
-    life_of-put (Steps (life_of lives id)) lives at id (changed c (life_of lives at))
-    (λ e. subst (λ (i : List ℕ). Steps (life_of lives i) (changed c (life_of lives at))) (sym e) h) (inl refl)
+    life_of-put (LifeSteps (life_of lives id)) lives at id (changed c (life_of lives at))
+    (λ e. subst (λ (i : List ℕ). LifeSteps (life_of lives i) (changed c (life_of lives at))) (sym e) h) (inl refl)
 
-stepped_change : (lives : Lives) (c : Change) (at : Option (List ℕ)) (id : List ℕ) → IsAllowed (named_life lives at) c → Steps (life_of lives id) (life_of (after_change c lives at) id)
+stepped_change : (lives : Lives) (c : Change) (at : Option (List ℕ)) (id : List ℕ) → IsAllowed (named_life lives at) c → LifeSteps (life_of lives id) (life_of (after_change c lives at) id)
 stepped_change lives c None id a = inl refl
 stepped_change lives Nothing (Some at) id a = inl refl
 stepped_change lives (Append o) (Some at) id a = stepped lives (Append o) at id (steps_of (life_of lives at) (Append o) a)
@@ -243,14 +243,14 @@ listing_apart (the.Unbind a) x y id e = refl
 listing_apart (the.BindingOp a) x y id e = refl
 listing_apart (the.Report a) x y id e = refl
 
-facts_apart : (life : Life) (a : Ask) (x y : List (List ℕ × Order)) → listing_in a x ≡ listing_in a y → facts_of life x a ≡ facts_of life y a
-facts_apart life a x y e = λ i. record (facts_of life x a) { listing = e i }
+facts_apart : (life : Life) (a : Ask) (x y : List (List ℕ × Order)) → listing_in a x ≡ listing_in a y → view_data_of life x a ≡ view_data_of life y a
+facts_apart life a x y e = λ i. record (view_data_of life x a) { listing = e i }
 
 pub answers_apart : AnsweredByOneLife
 answers_apart rules lives others a id e same =
     let life : named_life lives (instance_in a) ≡ named_life others (instance_in a) = ap (named_life lives) e ∙ same ∙ sym (ap (named_life others) e) in
-    ap (λ (l : Life). answer rules (facts_of l (listing_for lives a) a) a) life
-    ∙ ap (λ (f : Facts). answer rules f a) (facts_apart (named_life others (instance_in a)) a (listing_for lives a) (listing_for others a) (listing_apart a _ _ id e))
+    ap (λ (l : Life). answer rules (view_data_of l (listing_for lives a) a) a) life
+    ∙ ap (λ (f : ViewData). answer rules f a) (facts_apart (named_life others (instance_in a)) a (listing_for lives a) (listing_for others a) (listing_apart a _ _ id e))
 
 stays_put : (lives : Lives) (at id : List ℕ) (life : Life) → id ≢ at → life_of (insert lives at life) id ≡ life_of lives id
 stays_put lives at id life differ = life_of-put (λ (l : Life). l ≡ life_of lives id) lives at id life (λ e. absurd (differ e)) refl

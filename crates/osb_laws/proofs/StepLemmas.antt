@@ -29,11 +29,11 @@ use Rattle.osb_orders.specs.declared.view.BindingNow.{BindingNow}
 use Rattle.osb_orders.specs.Orders.{is_a, is_now, kind_number, state_number}
 use Rattle.osb_orders.specs.Life.{Life, since_birth, standing_of}
 use Rattle.osb_orders.specs.Bindings.{since_bind, binding_of, binding_since}
-use Rattle.osb_orders.specs.Facts.{Facts, facts_of}
+use Rattle.osb_orders.specs.ViewData.{ViewData, view_data_of}
 use Rattle.osb_orders.specs.Named.{order_numbered}
 use Rattle.osb_orders.specs.Changed.{changed}
 use Rattle.osb_orders.specs.IsLife.{is_empty, is_absent, ends_running, IsNext, IsLifeAfter}
-use Rattle.osb_machine.specs.Reaction.{Reaction}
+use Rattle.osb_machine.specs.Decision.{Decision}
 use Rattle.osb_machine.specs.Plans.{is_bindable}
 use Rattle.osb_machine.specs.Same.{are_same}
 use Rattle.osb_machine.specs.Opened.{Opening, running, succeeded_with, next_order, opened, accepted, is_busy, is_unlike}
@@ -44,7 +44,7 @@ use Rattle.osb_machine.specs.Deprovision.{deletion, deprovision_over, deprovisio
 use Rattle.osb_machine.specs.Bind.{bind_opening, is_of_plan, bind_over, bind_by, bind_in, bind_at}
 use Rattle.osb_machine.specs.FetchBinding.{fetch_binding, fetch_binding_over}
 use Rattle.osb_machine.specs.Unbind.{unbind_opening, unbind_over, unbind_at}
-use Rattle.osb_machine.specs.Polls.{told, poll_at, poll}
+use Rattle.osb_machine.specs.Polls.{polled_answer, poll_at, poll}
 use Rattle.osb_machine.specs.Report.{reported_state, kept_outcome, is_outcome, report}
 use Rattle.osb_machine.specs.Answer.{answer}
 use Rattle.std.proofs.lemmas.Bool.{leb-false}
@@ -53,7 +53,7 @@ use Rattle.osb_laws.proofs.LifeLemmas.{absent_by, absent_not_running, found_runn
 
 -- the change that an ask makes to a life
 abbrev pub change_of : Rules → Life → List (List ℕ × Order) → Ask → Change
-change_of rules life listing ask = (answer rules (facts_of life listing ask) ask).change
+change_of rules life listing ask = (answer rules (view_data_of life listing ask) ask).change
 
 abbrev pub after_ask : Rules → Life → List (List ℕ × Order) → Ask → Life
 after_ask rules life listing ask = changed (change_of rules life listing ask) life
@@ -71,16 +71,16 @@ accepted_quiet accepts None = refl
 accepted_quiet true (Some o) = refl
 accepted_quiet false (Some o) = refl
 
-pub provision_over_quiet : (p : InstancePhase) (same : Bool) (a : Provision) (facts : Facts) → (provision_over p same a facts).change ≡ Nothing
+pub provision_over_quiet : (p : InstancePhase) (same : Bool) (a : Provision) (facts : ViewData) → (provision_over p same a facts).change ≡ Nothing
 provision_over_quiet phase.Creating true a facts = accepted_quiet a.accepts_incomplete facts.last
 provision_over_quiet phase.Ready true a facts = refl
 provision_over_quiet phase.Updating true a facts = refl
 provision_over_quiet _ _ _ _ = refl
 
-pub update_running_quiet : (facts : Facts) (a : Update) (aim : Attributes) → (update_running facts a aim).change ≡ Nothing
-update_running_quiet facts a aim = choose (λ (r : Reaction). r.change ≡ Nothing) (is_order_to aim facts.last) _ _ (λ _. accepted_quiet a.accepts_incomplete facts.last) (λ _. refl)
+pub update_running_quiet : (facts : ViewData) (a : Update) (aim : Attributes) → (update_running facts a aim).change ≡ Nothing
+update_running_quiet facts a aim = choose (λ (r : Decision). r.change ≡ Nothing) (is_order_to aim facts.last) _ _ (λ _. accepted_quiet a.accepts_incomplete facts.last) (λ _. refl)
 
-pub bind_over_quiet : (p : BindingPhase) (same : Bool) (b : BindingNow) (facts : Facts) (a : Bind) → (bind_over p same b facts a).change ≡ Nothing
+pub bind_over_quiet : (p : BindingPhase) (same : Bool) (b : BindingNow) (facts : ViewData) (a : Bind) → (bind_over p same b facts a).change ≡ Nothing
 bind_over_quiet bindings.Binding true b facts a = accepted_quiet a.accepts_incomplete facts.last
 bind_over_quiet bindings.Bound true b facts a = refl
 bind_over_quiet _ _ _ _ _ = refl
@@ -101,10 +101,10 @@ fetch_binding_quiet (Some b) = over b.phase
     over bindings.Bound = refl
     over _ = refl
 
-told_quiet : (removal : Bool) (o : Order) → (told removal o).change ≡ Nothing
-told_quiet removal o = choose (λ (r : Reaction). r.change ≡ Nothing) (removal && is_now Succeeded o) _ _ (λ _. refl) (λ _. refl)
+told_quiet : (removal : Bool) (o : Order) → (polled_answer removal o).change ≡ Nothing
+told_quiet removal o = choose (λ (r : Decision). r.change ≡ Nothing) (removal && is_now Succeeded o) _ _ (λ _. refl) (λ _. refl)
 
-pub poll_quiet : (removal : OrderKind) (operation : Option (List ℕ)) (facts : Facts) → (poll removal operation facts).change ≡ Nothing
+pub poll_quiet : (removal : OrderKind) (operation : Option (List ℕ)) (facts : ViewData) → (poll removal operation facts).change ≡ Nothing
 poll_quiet removal operation facts = at operation facts.named facts.subject_last
   where
     at : (operation : Option (List ℕ)) (named last : Option Order) → (poll_at removal operation named last).change ≡ Nothing
@@ -118,12 +118,12 @@ poll_quiet removal operation facts = at operation facts.named facts.subject_last
 quiet : (rules : Rules) (life : Life) (c : Change) → c ≡ Nothing → IsStep rules life c
 quiet rules life c is = subst (IsStep rules life) (sym is) tt
 
-module _ (rules : Rules) (life : Life) (facts : Facts) (busy : is_busy facts ≡ ends_running life) (count : facts.count ≡ length life) where
-  abbrev May : Reaction → Type 0
-  May reaction = IsStep rules life reaction.change
+module _ (rules : Rules) (life : Life) (facts : ViewData) (busy : is_busy facts ≡ ends_running life) (count : facts.count ≡ length life) where
+  abbrev May : Decision → Type 0
+  May decision = IsStep rules life decision.change
 
   -- what a test leads to
-  past : (test : Bool) (here other : Reaction) → May here → (test ≡ false → May other) → May (cond test here other)
+  past : (test : Bool) (here other : Decision) → May here → (test ≡ false → May other) → May (cond test here other)
   past test here other may otherwise = choose May test here other (λ _. may) otherwise
 
   opening : (o : Opening) → ends_running life ≡ false → (kind_number o.kind == 1) ≡ is_absent life → May (opened rules facts o)
@@ -203,7 +203,7 @@ ended_state said.Failed is = omega arith
 reporting : (rules : Rules) (life : Life) (a : Report) (named : Option Order) → order_numbered a.number life ≡ named → IsLifeAfter [] life → IsStep rules life (report a named).change
 reporting rules life a None is h = tt
 reporting rules life a (Some o) is h =
-    let May : Reaction → Type 0 = λ reaction. IsStep rules life reaction.change in
+    let May : Decision → Type 0 = λ decision. IsStep rules life decision.change in
     choose May (is_now Running o) _ _
     (λ runs. let last = found_running (λ o. o.number == a.number) [] life o h runs is in (last.0, last.1, ended_state a.state))
     (λ _. choose May (is_outcome o.outcome (kept_outcome a o)) _ _ (λ _. tt) (λ _. tt))
@@ -213,32 +213,32 @@ reporting rules life a (Some o) is h =
 pub steps_allowed : (rules : Rules) (life : Life) (listing : List (List ℕ × Order)) (ask : Ask) → IsLifeAfter [] life → IsStep rules life (change_of rules life listing ask)
 steps_allowed rules life listing ask h = step ask
   where
-    update : (a : Update) (s : Option Standing) → standing_of life ≡ s → IsStep rules life (update_at rules (facts_of life listing (the.Update a)) a s).change
+    update : (a : Update) (s : Option Standing) → standing_of life ≡ s → IsStep rules life (update_at rules (view_data_of life listing (the.Update a)) a s).change
     update a None is = tt
     update a (Some s) is = updating rules life _ refl refl (absent_by life (Some s) is) a s
 
-    deprovision : (a : Deprovision) (s : Option Standing) → standing_of life ≡ s → IsStep rules life (deprovision_at rules (facts_of life listing (the.Deprovision a)) a s).change
+    deprovision : (a : Deprovision) (s : Option Standing) → standing_of life ≡ s → IsStep rules life (deprovision_at rules (view_data_of life listing (the.Deprovision a)) a s).change
     deprovision a None is = tt
     deprovision a (Some s) is = deprovisioning rules life _ refl refl (absent_by life (Some s) is) a s.phase s.attributes
 
-    bind : (a : Bind) (s : Option Standing) → standing_of life ≡ s → IsStep rules life (bind_at rules (facts_of life listing (the.Bind a)) a s).change
+    bind : (a : Bind) (s : Option Standing) → standing_of life ≡ s → IsStep rules life (bind_at rules (view_data_of life listing (the.Bind a)) a s).change
     bind a None is = tt
     bind a (Some s) is = binding rules life _ refl refl (absent_by life (Some s) is) a s
 
-    unbind : (a : Unbind) (b : Option BindingNow) → binding_of a.binding life ≡ b → IsStep rules life (unbind_at rules (facts_of life listing (the.Unbind a)) a b).change
+    unbind : (a : Unbind) (b : Option BindingNow) → binding_of a.binding life ≡ b → IsStep rules life (unbind_at rules (view_data_of life listing (the.Unbind a)) a b).change
     unbind a None is = tt
     unbind a (Some b) is = unbinding rules life _ refl refl (bound_there a.binding (since_birth life) b is) a b.phase b
 
     step : (ask : Ask) → IsStep rules life (change_of rules life listing ask)
     step the.Catalog = tt
-    step (the.Provision a) = provisioning rules life (facts_of life listing (the.Provision a)) refl refl a refl h
+    step (the.Provision a) = provisioning rules life (view_data_of life listing (the.Provision a)) refl refl a refl h
     step (the.Fetch id) = quiet rules life _ (fetch_quiet (standing_of life))
     step (the.Update a) = update a (standing_of life) refl
     step (the.Deprovision a) = deprovision a (standing_of life) refl
-    step (the.InstanceOp a) = quiet rules life _ (poll_quiet kind.Delete a.operation (facts_of life listing (the.InstanceOp a)))
+    step (the.InstanceOp a) = quiet rules life _ (poll_quiet kind.Delete a.operation (view_data_of life listing (the.InstanceOp a)))
     step (the.Bind a) = bind a (standing_of life) refl
     step (the.FetchBinding a) = quiet rules life _ (fetch_binding_quiet (binding_of a.binding life))
     step (the.Unbind a) = unbind a (binding_of a.binding life) refl
-    step (the.BindingOp a) = quiet rules life _ (poll_quiet kind.Unbind a.operation (facts_of life listing (the.BindingOp a)))
+    step (the.BindingOp a) = quiet rules life _ (poll_quiet kind.Unbind a.operation (view_data_of life listing (the.BindingOp a)))
     step (the.Orders after) = tt
     step (the.Report a) = reporting rules life a (order_numbered a.number life) refl h

@@ -32,9 +32,9 @@ use Rattle.osb_orders.specs.Lists.{or_else, from_last, last_from, last_where}
 use Rattle.osb_orders.specs.Orders.{is_a, is_now, kind_number, has_succeeded, is_of_binding, is_about_binding}
 use Rattle.osb_orders.specs.Life.{Life, since_birth, standing_of, standing_since}
 use Rattle.osb_orders.specs.Bindings.{since_bind, binding_of, binding_since}
-use Rattle.osb_orders.specs.Facts.{Facts, facts_of}
-use Rattle.osb_orders.specs.IsLife.{AreOfInstance, AreOfBinding, AreWorded, IsWorded, is_id_or_empty}
-use Rattle.osb_machine.specs.Reaction.{Reaction, empty_object}
+use Rattle.osb_orders.specs.ViewData.{ViewData, view_data_of}
+use Rattle.osb_orders.specs.IsLife.{AreOfInstance, AreOfBinding, AreValidTexts, HasValidTexts, is_id_or_empty}
+use Rattle.osb_machine.specs.Decision.{Decision, empty_object}
 use Rattle.osb_machine.specs.Plans.{catalog_version, is_bindable, plan_credentials}
 use Rattle.osb_machine.specs.Same.{are_same}
 use Rattle.osb_machine.specs.Opened.{Opening, opened, is_busy, is_unlike}
@@ -49,7 +49,7 @@ use Rattle.osb_text.specs.ObjectText.{is_object_text}
 use Rattle.osb_text.proofs.ReadableLemmas.{empty_object as empty_is_object}
 use Rattle.osb_catalog.specs.declared.plan.Mode.{Mode}
 use Rattle.osb_catalog.specs.Sound.{AreSound}
-use Rattle.osb_asks.specs.Worded as asks
+use Rattle.osb_asks.specs.ValidTexts as asks
 use Rattle.osb_orders.proofs.GrowLemmas.{choose, unless}
 use Rattle.osb_laws.proofs.StepLemmas.{change_of, accepted_quiet, provision_over_quiet, bind_over_quiet, poll_quiet, update_running_quiet, fetch_quiet, fetch_binding_quiet}
 
@@ -60,59 +60,59 @@ abbrev IsObject : List ℕ → Type 0
 IsObject text = is_object_text text ≡ true
 
 -- what a change writes has its texts
-abbrev pub IsWordedChange : Change → Type 0
-IsWordedChange Nothing = Unit {0}
-IsWordedChange (Append order) = IsWorded order
-IsWordedChange (Finish number outcome) = IsObject outcome.credentials
+abbrev pub ChangeHasValidTexts : Change → Type 0
+ChangeHasValidTexts Nothing = Unit {0}
+ChangeHasValidTexts (Append order) = HasValidTexts order
+ChangeHasValidTexts (Finish number outcome) = IsObject outcome.credentials
 
-abbrev pub AreWordedRules : Rules → Type 0
-AreWordedRules rules = (plan : List ℕ) → IsObject (plan_credentials rules plan)
+abbrev pub RulesHaveValidTexts : Rules → Type 0
+RulesHaveValidTexts rules = (plan : List ℕ) → IsObject (plan_credentials rules plan)
 
 mode_words : (mode : Option Mode) → IfSome mode (λ mode. IsObject mode.credentials) → IsObject (option_map_or (λ mode. mode.credentials) mode empty_object)
 mode_words None h = empty_is_object
 mode_words (Some mode) h = h
 
-pub rules_worded : (rules : Rules) → AreSound rules → AreWordedRules rules
-rules_worded rules sound plan = mode_words (rules.mode plan) (sound.credentials plan)
+pub rules_valid_texts : (rules : Rules) → AreSound rules → RulesHaveValidTexts rules
+rules_valid_texts rules sound plan = mode_words (rules.mode plan) (sound.credentials plan)
 
 -- The orders from a birth on: the first is one, and all have their texts
 
 module _ (births : Order → Bool) where
   abbrev Era : Life → Type 0
   Era [] = Unit {0}
-  Era (birth ∷ later) = (births birth ≡ true) × AllByRecursion IsWorded (birth ∷ later)
+  Era (birth ∷ later) = (births birth ≡ true) × AllByRecursion HasValidTexts (birth ∷ later)
 
   either_era : (found others : Life) → Era found → Era others → Era (or_else found others)
   either_era [] others none era = era
   either_era (o ∷ os) others era other = era
 
-  from_birth : (orders : Life) → AllByRecursion IsWorded orders → Era (from_last births orders)
+  from_birth : (orders : Life) → AllByRecursion HasValidTexts orders → Era (from_last births orders)
   from_birth [] h = tt
   from_birth (o ∷ os) h = either_era (from_last births os) (cond (births o) (o ∷ os) []) (from_birth os h.1) (choose Era (births o) (o ∷ os) [] (λ is. (is, h)) (λ _. tt))
 
-  unremoved : (removes : Order → Bool) (orders : Life) → AllByRecursion IsWorded orders → Era (unless removes (from_last births orders))
+  unremoved : (removes : Order → Bool) (orders : Life) → AllByRecursion HasValidTexts orders → Era (unless removes (from_last births orders))
   unremoved removes orders h = choose Era (list_any removes (from_last births orders)) [] (from_last births orders) (λ _. tt) (λ _. from_birth orders h)
 
-  all_in : (orders : Life) → Era orders → AllByRecursion IsWorded orders
+  all_in : (orders : Life) → Era orders → AllByRecursion HasValidTexts orders
   all_in [] era = tt
   all_in (o ∷ os) era = era.1
 
 -- the last that passes, or the given one
-of_last_where : (Holds : Order → Type 0) (passes : Order → Bool) (given : Order) (orders : Life) → Holds given → AllByRecursion IsWorded orders → ((o : Order) → IsWorded o → passes o ≡ true → Holds o) → Holds (last_where passes given orders)
+of_last_where : (Holds : Order → Type 0) (passes : Order → Bool) (given : Order) (orders : Life) → Holds given → AllByRecursion HasValidTexts orders → ((o : Order) → HasValidTexts o → passes o ≡ true → Holds o) → Holds (last_where passes given orders)
 of_last_where Holds passes given [] holds h step = holds
 of_last_where Holds passes given (o ∷ os) holds h step =
     choose (λ later. Holds (last_from given later)) (passes o) (o ∷ filter passes os) (filter passes os)
     (λ is. of_last_where Holds passes o os (step o h.0 is) h.1 step) (λ _. of_last_where Holds passes given os holds h.1 step)
 
-create_words : (k : OrderKind) (binding : List ℕ) (a : Attributes) → (kind_number k == 1) ≡ true → AreWorded (is_about_binding k) binding a → AreOfInstance a
+create_words : (k : OrderKind) (binding : List ℕ) (a : Attributes) → (kind_number k == 1) ≡ true → AreValidTexts (is_about_binding k) binding a → AreOfInstance a
 create_words kind.Create binding a is words = words.1
 create_words _ binding a is words = cc
 
-update_words : (k : OrderKind) (succeeded : Bool) (binding : List ℕ) (a : Attributes) → ((kind_number k == 2) && succeeded) ≡ true → AreWorded (is_about_binding k) binding a → AreOfInstance a
+update_words : (k : OrderKind) (succeeded : Bool) (binding : List ℕ) (a : Attributes) → ((kind_number k == 2) && succeeded) ≡ true → AreValidTexts (is_about_binding k) binding a → AreOfInstance a
 update_words kind.Update succeeded binding a is words = words.1
 update_words _ succeeded binding a is words = cc
 
-bind_words : (k : OrderKind) (named : Bool) (binding : List ℕ) (a : Attributes) → ((kind_number k == 4) && named) ≡ true → AreWorded (is_about_binding k) binding a → AreOfBinding a
+bind_words : (k : OrderKind) (named : Bool) (binding : List ℕ) (a : Attributes) → ((kind_number k == 4) && named) ≡ true → AreValidTexts (is_about_binding k) binding a → AreOfBinding a
 bind_words kind.Bind named binding a is words = words.1
 bind_words _ named binding a is words = cc
 
@@ -143,30 +143,30 @@ kept_words : (state : ReportState) (a : Report) (o : Order) → IsObject a.crede
 kept_words said.Succeeded a o h = choose IsObject (is_a kind.Bind o) a.credentials empty_object (λ _. h) (λ _. empty_is_object)
 kept_words said.Failed a o h = empty_is_object
 
-quiet : (c : Change) → c ≡ Nothing → IsWordedChange c
-quiet c is = subst IsWordedChange (sym is) tt
+quiet : (c : Change) → c ≡ Nothing → ChangeHasValidTexts c
+quiet c is = subst ChangeHasValidTexts (sym is) tt
 
-module _ (rules : Rules) (facts : Facts) where
-  abbrev Words : Reaction → Type 0
-  Words reaction = IsWordedChange reaction.change
+module _ (rules : Rules) (facts : ViewData) where
+  abbrev Words : Decision → Type 0
+  Words decision = ChangeHasValidTexts decision.change
 
-  past : (test : Bool) (here other : Reaction) → Words here → Words other → Words (cond test here other)
+  past : (test : Bool) (here other : Decision) → Words here → Words other → Words (cond test here other)
   past test here other words otherwise = choose Words test here other (λ _. words) (λ _. otherwise)
 
-  opening : (o : Opening) → AreWorded (is_about_binding o.kind) o.binding o.attributes → IsObject o.credentials → Words (opened rules facts o)
+  opening : (o : Opening) → AreValidTexts (is_about_binding o.kind) o.binding o.attributes → IsObject o.credentials → Words (opened rules facts o)
   opening o texts credentials =
       past (o.asynchronous && not o.accepts_incomplete) _ _ tt
       (past (nat_le rules.order_limit facts.count) _ _ tt
       (past o.asynchronous _ _ (record { texts = texts; credentials = empty_is_object }) (record { texts = texts; credentials = credentials })))
 
-  provisioning : (a : Provision) → asks.IsWorded (the.Provision a) → Words (provision rules facts a)
+  provisioning : (a : Provision) → asks.AskHasValidTexts (the.Provision a) → Words (provision rules facts a)
   provisioning a asked = past (is_unlike a.maintenance (catalog_version rules a.service a.plan)) _ _ tt (at facts.standing)
     where
       at : (s : Option Standing) → Words (provision_at rules facts a s)
       at None = opening (creation rules a) (refl, record { service = asked.1; plan = asked.2; organization = asked.3; space = asked.4; parameters = asked.6; context = asked.5 }) empty_is_object
       at (Some s) = quiet _ (provision_over_quiet s.phase _ a facts)
 
-  updating : (a : Update) (s : Option Standing) → asks.IsWorded (the.Update a) → IfSome s (λ s. AreOfInstance s.attributes) → Words (update_at rules facts a s)
+  updating : (a : Update) (s : Option Standing) → asks.AskHasValidTexts (the.Update a) → IfSome s (λ s. AreOfInstance s.attributes) → Words (update_at rules facts a s)
   updating a None asked words = tt
   updating a (Some s) asked words = over s.phase
     where
@@ -206,7 +206,7 @@ module _ (rules : Rules) (facts : Facts) where
       over phase.Deleting = quiet _ (accepted_quiet a.accepts_incomplete facts.last)
       over _ = past (is_busy facts) _ _ tt (past facts.bound _ _ tt (opening (deletion rules s.attributes a) (refl, words) empty_is_object))
 
-  binding : (a : Bind) (s : Option Standing) → asks.IsWorded (the.Bind a) → AreWordedRules rules → Words (bind_at rules facts a s)
+  binding : (a : Bind) (s : Option Standing) → asks.AskHasValidTexts (the.Bind a) → RulesHaveValidTexts rules → Words (bind_at rules facts a s)
   binding a None asked good = tt
   binding a (Some s) asked good = over s.phase
     where
@@ -221,7 +221,7 @@ module _ (rules : Rules) (facts : Facts) where
       over phase.Creating = tt
       over _ = by facts.binding
 
-  unbinding : (a : Unbind) (b : Option BindingNow) → asks.IsWorded (the.Unbind a) → IfSome b (λ b. AreOfBinding b.attributes) → Words (unbind_at rules facts a b)
+  unbinding : (a : Unbind) (b : Option BindingNow) → asks.AskHasValidTexts (the.Unbind a) → IfSome b (λ b. AreOfBinding b.attributes) → Words (unbind_at rules facts a b)
   unbinding a None asked words = tt
   unbinding a (Some b) asked words = over b.phase
     where
@@ -229,15 +229,15 @@ module _ (rules : Rules) (facts : Facts) where
       over bindings.Unbinding = quiet _ (accepted_quiet a.accepts_incomplete facts.last)
       over _ = past (is_busy facts) _ _ tt (opening (unbind_opening rules facts.standing b a) (asked.1, words) empty_is_object)
 
-  reporting : (a : Report) (named : Option Order) → asks.IsWorded (the.Report a) → Words (report a named)
+  reporting : (a : Report) (named : Option Order) → asks.AskHasValidTexts (the.Report a) → Words (report a named)
   reporting a None asked = tt
   reporting a (Some o) asked = past (is_now Running o) _ _ (kept_words a.state a o asked.3) (past (is_outcome o.outcome (kept_outcome a o)) _ _ tt tt)
 
-pub steps_worded : (rules : Rules) (life : Life) (listing : List (List ℕ × Order)) (ask : Ask) → AllByRecursion IsWorded life → AreWordedRules rules → asks.IsWorded ask → IsWordedChange (change_of rules life listing ask)
-steps_worded rules life listing ask h good = step ask
+pub steps_valid_texts : (rules : Rules) (life : Life) (listing : List (List ℕ × Order)) (ask : Ask) → AllByRecursion HasValidTexts life → RulesHaveValidTexts rules → asks.AskHasValidTexts ask → ChangeHasValidTexts (change_of rules life listing ask)
+steps_valid_texts rules life listing ask h good = step ask
   where
-    facts : Ask → Facts
-    facts ask = facts_of life listing ask
+    facts : Ask → ViewData
+    facts ask = view_data_of life listing ask
 
     era : Era (is_a kind.Create) (since_birth life)
     era = unremoved (is_a kind.Create) (has_succeeded kind.Delete) life h
@@ -248,7 +248,7 @@ steps_worded rules life listing ask h good = step ask
     bound : (id : List ℕ) → IfSome (binding_of id life) (λ b. AreOfBinding b.attributes)
     bound id = binding_words id (since_bind id (since_birth life)) (unremoved (λ o. is_a kind.Bind o && is_of_binding id o) (λ o. has_succeeded kind.Unbind o && is_of_binding id o) (since_birth life) (all_in (is_a kind.Create) (since_birth life) era))
 
-    step : (ask : Ask) → asks.IsWorded ask → IsWordedChange (change_of rules life listing ask)
+    step : (ask : Ask) → asks.AskHasValidTexts ask → ChangeHasValidTexts (change_of rules life listing ask)
     step the.Catalog asked = tt
     step (the.Provision a) asked = provisioning rules (facts (the.Provision a)) a asked
     step (the.Fetch id) asked = quiet _ (fetch_quiet (standing_of life))

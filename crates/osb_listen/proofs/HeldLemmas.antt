@@ -5,18 +5,19 @@ use Rattle.osb_frames.specs.declared.limits.Limits.{Limits}
 use Rattle.osb_catalog.specs.Rules.{Rules}
 use Rattle.osb_orders.specs.Lives.{Lives}
 use Rattle.osb_audit.specs.Plans.{plans_in_use}
-use Rattle.osb_records.specs.declared.fault.StoreFault.{StoreFault}
-use Rattle.osb_records.specs.declared.fault.StoreFault.TheVariants.{Refused, NotOurs}
+use Rattle.osb_statements.specs.declared.fault.StoreFault.{StoreFault}
+use Rattle.osb_statements.specs.declared.fault.StoreFault.TheVariants.{Refused, NotOurs}
 use Rattle.osb_file.specs.File.{AreLivesOf}
-use Rattle.osb_broker.specs.Plans.{first_lacking, Tells}
+use Rattle.osb_broker.specs.Plans.{first_lacking, ReportsLacking}
 use Rattle.osb_broker.specs.Served.{AreStandard}
 use Rattle.osb_broker.specs.declared.fault.NewFault.{NewFault}
 use Rattle.osb_broker.specs.declared.fault.NewFault.TheVariants as new
 use Rattle.osb_listen.specs.declared.fault.ListenFault.{ListenFault}
 use Rattle.osb_listen.specs.declared.fault.ListenFault.TheVariants.{Database, PlanInUse, Memory, CannotListen, CannotWrite, CannotAccept, FileTaken}
-use Rattle.osb_listen.specs.Connections.{After, AfterFewer}
+use Rattle.osb_listen.specs.Connections.{AfterConnections, AfterFewer}
 use Rattle.osb_listen.specs.Held.{ServesFrom, ServesFewerFrom, NoBroker, LeavesOf}
-use Rattle.osb_listen.specs.Listen.{IsOfAddress, IsOfServing, NamesLacking, fault_of}
+use Rattle.osb_listen.specs.Listen.{IsOfServing, NamesLackingPlan, listen_fault_of}
+use Rattle.osb_listen.specs.Inside.{IsOfAddress}
 
 pub if_some_under : {A : Type 0} (o : Option A) (N : Type 0) (P Q : A → Type 0) → (N → IfSome o P) → ((a : A) → (N → P a) → Q a) → IfSome o Q
 if_some_under None N P Q known f = tt
@@ -27,12 +28,12 @@ pub not_taken : (rules : Rules) (db : Trees) (fault : StoreFault) → (fault ≡
 not_taken rules db Refused not_ours = tt
 not_taken rules db NotOurs not_ours = not_ours refl
 
-lacking : (rules : Rules) (db : Trees) (lives : Lives) (fault : NewFault) → AreLivesOf db lives → Tells fault (first_lacking rules (plans_in_use lives)) → NoBroker rules db (fault_of fault)
+lacking : (rules : Rules) (db : Trees) (lives : Lives) (fault : NewFault) → AreLivesOf db lives → ReportsLacking fault (first_lacking rules (plans_in_use lives)) → NoBroker rules db (listen_fault_of fault)
 lacking rules db lives (new.PlanInUse service plan) stand tells = record { lives = lives; stand = stand; first = tells }
 lacking rules db lives new.Refused stand tells = tt
 
 -- a broker that can't be made over the lives that were found
-pub not_made : (rules : Rules) (db : Trees) (lives : Lives) (fault : NewFault) (told : ListenFault) → told ≡ fault_of fault → AreLivesOf db lives → Tells fault (first_lacking rules (plans_in_use lives)) → NoBroker rules db told
+pub not_made : (rules : Rules) (db : Trees) (lives : Lives) (fault : NewFault) (told : ListenFault) → told ≡ listen_fault_of fault → AreLivesOf db lives → ReportsLacking fault (first_lacking rules (plans_in_use lives)) → NoBroker rules db told
 not_made rules db lives fault told is stand tells =
     subst (λ (found : ListenFault). NoBroker rules db found) (sym is) (lacking rules db lives fault stand tells)
 
@@ -47,7 +48,7 @@ without_broker rules k all db left told_old told_new CannotAccept why = absurd w
 without_broker rules k all db left told_old told_new FileTaken why = absurd why
 
 -- once there is a broker, no plan is named as lacking
-pub names_none : (rules : Rules) (fault : ListenFault) → IsOfAddress fault → NamesLacking rules fault
+pub names_none : (rules : Rules) (fault : ListenFault) → IsOfAddress fault → NamesLackingPlan rules fault
 names_none rules (Database fault) is = tt
 names_none rules (PlanInUse service plan) is = absurd is
 names_none rules Memory is = tt
@@ -58,18 +59,18 @@ names_none rules FileTaken is = tt
 
 -- what was served is said of the settings, the number of requests and the lives that a caller knows
 module _ (given rules : Rules) (most k all : ℕ) (db : Trees) (old left new : Lives) (told_old told_new : List ℕ) (is_rules : given ≡ rules) (is_most : most ≡ k) (is_new : left ≡ new) (stand : AreLivesOf db old) where
-  known : (limits : Limits) (count : ℕ) → AreStandard limits → After given limits most count old left told_old told_new → ServesFrom rules k count db new told_old told_new
+  known : (limits : Limits) (count : ℕ) → AreStandard limits → AfterConnections given limits most count old left told_old told_new → ServesFrom rules k count db new told_old told_new
   known limits count standard after = record {
     old = old;
     stand = stand;
     limits = limits;
     standard = standard;
-    after = subst (λ (lives : Lives). After rules limits k count old lives told_old told_new) is_new
-        (subst (λ (number : ℕ). After rules limits number count old left told_old told_new) is_most
-        (subst (λ (found : Rules). After found limits most count old left told_old told_new) is_rules after));
+    after = subst (λ (lives : Lives). AfterConnections rules limits k count old lives told_old told_new) is_new
+        (subst (λ (number : ℕ). AfterConnections rules limits number count old left told_old told_new) is_most
+        (subst (λ (found : Rules). AfterConnections found limits most count old left told_old told_new) is_rules after));
   }
 
-  pub all_served : ((limits : Limits) × AreStandard limits × After given limits most all old left told_old told_new) → ServesFrom rules k all db new told_old told_new
+  pub all_served : ((limits : Limits) × AreStandard limits × AfterConnections given limits most all old left told_old told_new) → ServesFrom rules k all db new told_old told_new
   all_served (limits, standard, after) = known limits all standard after
 
   fewer_served : ((limits : Limits) × AreStandard limits × AfterFewer given limits most all old left told_old told_new) → ServesFewerFrom rules k all db new told_old told_new

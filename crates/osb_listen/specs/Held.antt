@@ -5,13 +5,13 @@ use Rattle.osb_frames.specs.declared.limits.Limits.{Limits}
 use Rattle.osb_catalog.specs.Rules.{Rules}
 use Rattle.osb_orders.specs.Lives.{Lives}
 use Rattle.osb_audit.specs.Plans.{plans_in_use}
-use Rattle.osb_records.specs.declared.fault.StoreFault.TheVariants.{Refused, NotOurs}
+use Rattle.osb_statements.specs.declared.fault.StoreFault.TheVariants.{Refused, NotOurs}
 use Rattle.osb_file.specs.File.{AreLivesOf}
 use Rattle.osb_broker.specs.Plans.{first_lacking}
 use Rattle.osb_broker.specs.Served.{AreStandard}
 use Rattle.osb_listen.specs.declared.fault.ListenFault.{ListenFault}
 use Rattle.osb_listen.specs.declared.fault.ListenFault.TheVariants.{Database, PlanInUse, Memory, CannotListen, CannotWrite, CannotAccept, FileTaken}
-use Rattle.osb_listen.specs.Connections.{After}
+use Rattle.osb_listen.specs.Connections.{AfterConnections}
 
 -- so many connections were served, within the standard limits, from the lives that stand in these trees
 pub record ServesFrom (rules : Rules) (k count : ℕ) (db : Trees) (new : Lives) (told_old told_new : List ℕ) : Type 0 where
@@ -19,7 +19,7 @@ pub record ServesFrom (rules : Rules) (k count : ℕ) (db : Trees) (new : Lives)
   pub stand : AreLivesOf db old
   pub limits : Limits
   pub standard : AreStandard limits
-  pub after : After rules limits k count old new told_old told_new
+  pub after : AfterConnections rules limits k count old new told_old told_new
 
 -- fewer than so many were
 abbrev pub ServesFewerFrom : Rules → ℕ → ℕ → Trees → Lives → List ℕ → List ℕ → Type 0

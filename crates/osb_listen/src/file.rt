@@ -6,16 +6,17 @@ ghost use Rattle.sqlite_wal.specs.Files.{image_at};
 ghost use Rattle.sqlite.specs.Files.{file_state, over_files, HoldsDatabase};
 ghost use Rattle.osb_catalog.specs.Rules as catalog;
 ghost use Rattle.osb_file.specs.File.{AreLivesOf};
-ghost use Rattle.osb_broker.specs.Kept.{Works, lives_of, most_of, rules_of, store_of};
+ghost use Rattle.osb_broker.specs.BrokerState.{Works, lives_of, most_of, rules_in, store_of};
 ghost use Rattle.osb_broker.specs.Plans.{OffersInUse};
-ghost use Rattle.osb_records.specs.Steps.{stored};
-ghost use Rattle.osb_records.specs.declared.fault.StoreFault.TheVariants.{Refused};
+ghost use Rattle.osb_statements.specs.Steps.{stored};
+ghost use Rattle.osb_statements.specs.declared.fault.StoreFault.TheVariants.{Refused};
 ghost use Rattle.osb_listen.specs.declared.fault.ListenFault.TheVariants.{CannotWrite, Database};
 ghost use Rattle.osb_listen.specs.Held.{ServesFrom, NoBroker, LeavesOf};
-ghost use Rattle.osb_listen.specs.Listen.{listening_line, IsAddress, IsOfDatabase, IsOfServing, NamesLacking, Told};
+ghost use Rattle.osb_listen.specs.Listen.{listening_line, IsAddress, IsOfServing, NamesLackingPlan, WroteLine};
+ghost use Rattle.osb_listen.specs.Inside.{IsOfDatabase};
 
 use crate::fault::ListenFault;
-use crate::listen::{Place, serve_at};
+use crate::listen::{ListenOptions, serve_at};
 use osb_broker::Broker;
 use osb_catalog::Settings;
 use osb_file::{DatabaseFile, HeldFile, Opened, open_file};
@@ -44,7 +45,7 @@ fn broker_over<'s, S: Start>(
     requires some { 1 ≤ per_connection }
     requires few { per_connection ≤ 1000 }
     ensures most { IfOk result (λ broker. most_of broker ≡ per_connection) }
-    ensures rules { IfOk result (λ broker. rules_of broker ≡ catalog.rules_of settings.now) }
+    ensures rules { IfOk result (λ broker. rules_in broker ≡ catalog.rules_of settings.now) }
     ensures offered { IfOk result (λ broker. Works (store_of over_files broker) →
         OffersInUse (catalog.rules_of settings.now) (lives_of over_files broker)) }
     ensures found { IfOk result (λ broker. Works (store_of over_files broker) →
@@ -80,7 +81,7 @@ fn broker_over<'s, S: Start>(
 pub fn serve_file<S: Start, W: Sink, E: Sink>(
     rt: &HostRuntime,
     settings: &Settings,
-    place: &Place<'_>,
+    place: &ListenOptions<'_>,
     per_connection: u32,
     start: S,
     output: &mut W,
@@ -98,13 +99,13 @@ pub fn serve_file<S: Start, W: Sink, E: Sink>(
         (stored (file_state conn)) (E.taken errors.old) (E.taken errors.new) fault)) }
     ensures opened { IfNone result.1 (result.0 ≡ Err (Database Refused)) }
     ensures address { OnOk result.0 (IsAddress place.now.address.now) }
-    ensures lacks { IfErr result.0 (NamesLacking (catalog.rules_of settings.now)) }
+    ensures lacks { IfErr result.0 (NamesLackingPlan (catalog.rules_of settings.now)) }
     ensures told { OnOk result.0
         (W.taken output.new ≡ W.taken output.old ++ listening_line place.now.address.now) }
-    ensures told_before { IfErr result.0 (λ fault. Told fault
+    ensures told_before { IfErr result.0 (λ fault. WroteLine fault
         (listening_line place.now.address.now) (W.taken output.old) (W.taken output.new)) }
     ensures cause { IfErr result.0 (λ fault. fault ≡ CannotWrite →
-        W.fruitless output.old < W.fruitless output.new) }
+        W.failed_or_empty output.old < W.failed_or_empty output.new) }
     ensures quiet { IfErr result.0 (λ fault. ¬ IsOfServing fault →
         E.taken errors.new ≡ E.taken errors.old) }
 {

@@ -11,5 +11,5 @@ mod stream;
 
 pub use fault::ListenFault;
 pub use file::serve_file;
-pub use listen::{Entrance, Place, serve_listener};
+pub use listen::{Acceptor, ListenOptions, serve_listener};
 pub use stream::serve_stream;

@@ -2,12 +2,13 @@
 
 ghost use Rattle.std.specs.Prelude.{◌≡◌, ◌<◌, ◌++◌, IfOk, IfErr, OnOk, OnErr, IsOkUnless};
 ghost use Rattle.osb_frames.specs.declared.limits.Limits.{Limits};
-ghost use Rattle.osb_broker.specs.Kept.{Works, lives_of, most_of, rules_of, store_of};
+ghost use Rattle.osb_broker.specs.BrokerState.{Works, lives_of, most_of, rules_in, store_of};
 ghost use Rattle.osb_broker.specs.Room.{limits_of};
 ghost use Rattle.osb_broker.specs.Served.{AreStandard};
 ghost use Rattle.osb_listen.specs.declared.fault.ListenFault.TheVariants.{CannotListen, CannotWrite};
-ghost use Rattle.osb_listen.specs.Connections.{After, AfterFewer, AfterOne, IsWrittenInPart};
-ghost use Rattle.osb_listen.specs.Listen.{listening_line, IsAddress, IsOfAddress, IsOfServing, Told};
+ghost use Rattle.osb_listen.specs.Connections.{AfterConnections, AfterFewer, AfterOne, IsWrittenInPart};
+ghost use Rattle.osb_listen.specs.Listen.{listening_line, IsAddress, IsOfServing, WroteLine};
+ghost use Rattle.osb_listen.specs.Inside.{IsOfAddress};
 
 use crate::accepting::accept;
 use crate::fault::ListenFault;
@@ -22,7 +23,7 @@ use std::time::Duration;
 
 /// Where orders are kept and connections are taken, how many of these, and for how long each.
 #[derive(Clone, Copy, Debug)]
-pub struct Place<'a> {
+pub struct ListenOptions<'a> {
     /// The name of the database file.
     pub database: &'a str,
     /// An IP address and a port.
@@ -35,7 +36,7 @@ pub struct Place<'a> {
 
 /// A listener, and what holds of each connection that it takes.
 #[derive(Clone, Copy)]
-pub struct Entrance<'a> {
+pub struct Acceptor<'a> {
     /// Where connections are taken.
     pub listener: &'a TcpListener,
     /// The file of the broker's database. Once it is taken away no connection is answered.
@@ -44,7 +45,7 @@ pub struct Entrance<'a> {
     pub time_limit: Duration,
 }
 
-impl Entrance<'_> {
+impl Acceptor<'_> {
     /// Takes the next connection, as long as the database file is there.
     fn take(&self, rt: &HostRuntime) -> Result<TcpStream, ListenFault>
         ensures { IfErr result IsOfServing }
@@ -64,16 +65,16 @@ fn serve_next<S: Alter, E: Sink>(
     rt: &HostRuntime,
     broker: &mut Broker<'_, S>,
     buffer: &mut Buffer,
-    entrance: &Entrance<'_>,
+    entrance: &Acceptor<'_>,
     errors: &mut E,
 ) -> Result<(), ListenFault>
-    ensures ok { Works (store_of S.Store broker.new) → OnOk result (AfterOne (rules_of broker.old) (limits_of buffer.old) (most_of broker.old) (lives_of S.Store broker.old) (lives_of S.Store broker.new) (E.taken errors.old) (E.taken errors.new)) }
+    ensures ok { Works (store_of S.Store broker.new) → OnOk result (AfterOne (rules_in broker.old) (limits_of buffer.old) (most_of broker.old) (lives_of S.Store broker.old) (lives_of S.Store broker.new) (E.taken errors.old) (E.taken errors.new)) }
     ensures fault { IfErr result IsOfServing }
     ensures same { OnErr result (lives_of S.Store broker.new ≡ lives_of S.Store broker.old) }
     ensures quiet { OnErr result (E.taken errors.new ≡ E.taken errors.old) }
     ensures works { Works (store_of S.Store broker.new) → Works (store_of S.Store broker.old) }
     ensures most { most_of broker.new ≡ most_of broker.old }
-    ensures rules { rules_of broker.new ≡ rules_of broker.old }
+    ensures rules { rules_in broker.new ≡ rules_in broker.old }
     ensures limits { limits_of buffer.new ≡ limits_of buffer.old }
 {
     let stream = entrance.take(rt)?;
@@ -91,16 +92,16 @@ pub fn serve_listener<S: Alter, E: Sink>(
     rt: &HostRuntime,
     broker: &mut Broker<'_, S>,
     buffer: &mut Buffer,
-    entrance: &Entrance<'_>,
+    entrance: &Acceptor<'_>,
     connections: u32,
     errors: &mut E,
 ) -> Result<(), ListenFault>
-    ensures ok { Works (store_of S.Store broker.new) → OnOk result (After (rules_of broker.old) (limits_of buffer.old) (most_of broker.old) connections (lives_of S.Store broker.old) (lives_of S.Store broker.new) (E.taken errors.old) (E.taken errors.new)) }
+    ensures ok { Works (store_of S.Store broker.new) → OnOk result (AfterConnections (rules_in broker.old) (limits_of buffer.old) (most_of broker.old) connections (lives_of S.Store broker.old) (lives_of S.Store broker.new) (E.taken errors.old) (E.taken errors.new)) }
     ensures fault { IfErr result IsOfServing }
-    ensures err { Works (store_of S.Store broker.new) → OnErr result (AfterFewer (rules_of broker.old) (limits_of buffer.old) (most_of broker.old) connections (lives_of S.Store broker.old) (lives_of S.Store broker.new) (E.taken errors.old) (E.taken errors.new)) }
+    ensures err { Works (store_of S.Store broker.new) → OnErr result (AfterFewer (rules_in broker.old) (limits_of buffer.old) (most_of broker.old) connections (lives_of S.Store broker.old) (lives_of S.Store broker.new) (E.taken errors.old) (E.taken errors.new)) }
     ensures works { Works (store_of S.Store broker.new) → Works (store_of S.Store broker.old) }
     ensures most { most_of broker.new ≡ most_of broker.old }
-    ensures rules { rules_of broker.new ≡ rules_of broker.old }
+    ensures rules { rules_in broker.new ≡ rules_in broker.old }
     ensures limits { limits_of buffer.new ≡ limits_of buffer.old }
 {
     for _ in 0..connections {
@@ -125,12 +126,12 @@ fn listen_at(rt: &HostRuntime, address: &str) -> Result<TcpListener, ListenFault
 
 /// Writes a piece of a line.
 #[tactic(auto, using(crate::proofs::PartLemmas::sent_in_part))]
-fn tell<W: Sink>(piece: &str, output: &mut W) -> Result<(), ListenFault>
+fn write_piece<W: Sink>(piece: &str, output: &mut W) -> Result<(), ListenFault>
     ensures ok { OnOk result (W.taken output.new ≡ W.taken output.old ++ piece.now) }
-    ensures quiet { OnOk result (W.fruitless output.new ≡ W.fruitless output.old) }
+    ensures quiet { OnOk result (W.failed_or_empty output.new ≡ W.failed_or_empty output.old) }
     ensures fault { IsOkUnless result CannotWrite }
     ensures part { OnErr result (IsWrittenInPart piece.now (W.taken output.old) (W.taken output.new)) }
-    ensures cause { OnErr result (W.fruitless output.old < W.fruitless output.new) }
+    ensures cause { OnErr result (W.failed_or_empty output.old < W.failed_or_empty output.new) }
 {
     match send_all(output, piece.as_bytes()) {
         Ok(()) => Ok(()),
@@ -139,15 +140,15 @@ fn tell<W: Sink>(piece: &str, output: &mut W) -> Result<(), ListenFault>
 }
 
 /// Writes that connections are taken.
-fn tell_listening<W: Sink>(address: &str, output: &mut W) -> Result<(), ListenFault>
+fn write_listening_line<W: Sink>(address: &str, output: &mut W) -> Result<(), ListenFault>
     ensures ok { OnOk result (W.taken output.new ≡ W.taken output.old ++ listening_line address.now) }
     ensures fault { IsOkUnless result CannotWrite }
     ensures part { OnErr result (IsWrittenInPart (listening_line address.now) (W.taken output.old) (W.taken output.new)) }
-    ensures cause { OnErr result (W.fruitless output.old < W.fruitless output.new) }
+    ensures cause { OnErr result (W.failed_or_empty output.old < W.failed_or_empty output.new) }
 {
-    tell("listening on ", output)?;
-    tell(address, output)?;
-    tell("\n", output)
+    write_piece("listening on ", output)?;
+    write_piece(address, output)?;
+    write_piece("\n", output)
 }
 
 /// Room for connections within the standard limits.
@@ -163,14 +164,14 @@ pub(crate) fn serve_at<S: Alter, W: Sink, E: Sink>(
     rt: &HostRuntime,
     broker: &mut Broker<'_, S>,
     file: &DatabaseFile<'_>,
-    place: &Place<'_>,
+    place: &ListenOptions<'_>,
     output: &mut W,
     errors: &mut E,
 ) -> Result<(), ListenFault>
     ensures ok { Works (store_of S.Store broker.new) → OnOk result ((limits : Limits) × AreStandard limits
-        × After (rules_of broker.old) limits (most_of broker.old) place.now.connections (lives_of S.Store broker.old) (lives_of S.Store broker.new) (E.taken errors.old) (E.taken errors.new)) }
+        × AfterConnections (rules_in broker.old) limits (most_of broker.old) place.now.connections (lives_of S.Store broker.old) (lives_of S.Store broker.new) (E.taken errors.old) (E.taken errors.new)) }
     ensures accepted { Works (store_of S.Store broker.new) → IfErr result (λ fault. IsOfServing fault → (limits : Limits) × AreStandard limits
-        × AfterFewer (rules_of broker.old) limits (most_of broker.old) place.now.connections (lives_of S.Store broker.old) (lives_of S.Store broker.new) (E.taken errors.old) (E.taken errors.new)) }
+        × AfterFewer (rules_in broker.old) limits (most_of broker.old) place.now.connections (lives_of S.Store broker.old) (lives_of S.Store broker.new) (E.taken errors.old) (E.taken errors.new)) }
 
     // Before connections are taken nothing is changed and nothing is reported on `errors`.
     ensures same { IfErr result (λ fault. ¬ IsOfServing fault → lives_of S.Store broker.new ≡ lives_of S.Store broker.old) }
@@ -179,14 +180,14 @@ pub(crate) fn serve_at<S: Alter, W: Sink, E: Sink>(
     ensures address { OnOk result (IsAddress place.now.address.now) }
     ensures fault { IfErr result IsOfAddress }
     ensures told { OnOk result (W.taken output.new ≡ W.taken output.old ++ listening_line place.now.address.now) }
-    ensures told_before { IfErr result (λ fault. Told fault (listening_line place.now.address.now) (W.taken output.old) (W.taken output.new)) }
-    ensures cause { IfErr result (λ fault. fault ≡ CannotWrite → W.fruitless output.old < W.fruitless output.new) }
+    ensures told_before { IfErr result (λ fault. WroteLine fault (listening_line place.now.address.now) (W.taken output.old) (W.taken output.new)) }
+    ensures cause { IfErr result (λ fault. fault ≡ CannotWrite → W.failed_or_empty output.old < W.failed_or_empty output.new) }
     ensures works { Works (store_of S.Store broker.new) → Works (store_of S.Store broker.old) }
 {
     let mut buffer = standard_buffer(rt.alloc())?;
     let listener = listen_at(rt, place.address)?;
-    tell_listening(place.address, output)?;
-    let entrance = Entrance {
+    write_listening_line(place.address, output)?;
+    let entrance = Acceptor {
         listener: &listener,
         file,
         time_limit: place.time_limit,

@@ -2,10 +2,11 @@
 
 ghost use Rattle.std.specs.Prelude.{◌≡◌, ◌<◌, List};
 ghost use Rattle.osb_frames.specs.Calls.{Call, all_bytes};
-ghost use Rattle.osb_broker.specs.Kept.{Works, lives_of, most_of, rules_of, store_of};
+ghost use Rattle.osb_broker.specs.BrokerState.{Works, lives_of, most_of, rules_in, store_of};
 ghost use Rattle.osb_broker.specs.Room.{limits_of};
-ghost use Rattle.osb_broker.specs.Serving.{Gave};
-ghost use Rattle.osb_listen.specs.Connections.{line_of, AfterOne, IsWrittenInPart, Serves, TellsCause};
+ghost use Rattle.osb_broker.specs.Serving.{ReadsMade};
+ghost use Rattle.osb_listen.specs.Connections.{line_of, AfterOne, IsWrittenInPart, Serves};
+ghost use Rattle.osb_listen.specs.Inside.{ReportsCause};
 
 use crate::deadline::{Deadline, Timed};
 use crate::ending::end;
@@ -36,12 +37,12 @@ fn serve_connection<S: Alter, R: Source, W: Sink, E: Sink>(
     sink: &mut W,
     errors: &mut E,
 )
-    ensures served { (calls : List Call) × Gave (R.calls source.old) (R.calls source.new) (R.rest source.old) (R.rest source.new) calls
-        × (Works (store_of S.Store broker.new) → Serves (rules_of broker.old) (limits_of buffer.old) (most_of broker.old) (lives_of S.Store broker.old) (lives_of S.Store broker.new) (all_bytes calls) (R.rest source.new) (W.taken sink.old) (W.taken sink.new) (E.taken errors.old) (E.taken errors.new)) }
-    ensures cause { TellsCause (R.failures source.old < R.failures source.new) (W.fruitless sink.old < W.fruitless sink.new) (E.taken errors.old) (E.taken errors.new) }
+    ensures served { (calls : List Call) × ReadsMade (R.calls source.old) (R.calls source.new) (R.rest source.old) (R.rest source.new) calls
+        × (Works (store_of S.Store broker.new) → Serves (rules_in broker.old) (limits_of buffer.old) (most_of broker.old) (lives_of S.Store broker.old) (lives_of S.Store broker.new) (all_bytes calls) (R.rest source.new) (W.taken sink.old) (W.taken sink.new) (E.taken errors.old) (E.taken errors.new)) }
+    ensures cause { ReportsCause (R.failures source.old < R.failures source.new) (W.failed_or_empty sink.old < W.failed_or_empty sink.new) (E.taken errors.old) (E.taken errors.new) }
     ensures works { Works (store_of S.Store broker.new) → Works (store_of S.Store broker.old) }
     ensures most { most_of broker.new ≡ most_of broker.old }
-    ensures rules { rules_of broker.new ≡ rules_of broker.old }
+    ensures rules { rules_in broker.new ≡ rules_in broker.old }
     ensures limits { limits_of buffer.new ≡ limits_of buffer.old }
 {
     let ended = broker.serve(buffer, source, sink);
@@ -63,10 +64,10 @@ pub fn serve_stream<S: Alter, E: Sink>(
     time_limit: Duration,
     errors: &mut E,
 )
-    ensures served { Works (store_of S.Store broker.new) → AfterOne (rules_of broker.old) (limits_of buffer.old) (most_of broker.old) (lives_of S.Store broker.old) (lives_of S.Store broker.new) (E.taken errors.old) (E.taken errors.new) }
+    ensures served { Works (store_of S.Store broker.new) → AfterOne (rules_in broker.old) (limits_of buffer.old) (most_of broker.old) (lives_of S.Store broker.old) (lives_of S.Store broker.new) (E.taken errors.old) (E.taken errors.new) }
     ensures works { Works (store_of S.Store broker.new) → Works (store_of S.Store broker.old) }
     ensures most { most_of broker.new ≡ most_of broker.old }
-    ensures rules { rules_of broker.new ≡ rules_of broker.old }
+    ensures rules { rules_in broker.new ≡ rules_in broker.old }
     ensures limits { limits_of buffer.new ≡ limits_of buffer.old }
 {
     // A reply isn't held back for more to come. Where the system can't do that, it is only later.

@@ -5,8 +5,8 @@ use Rattle.osb_replies.specs.declared.status.Status.TheVariants as status
 use Rattle.osb_asks.specs.declared.ask.Ask.{Ask}
 use Rattle.osb_asks.specs.declared.ask.Ask.TheVariants as the
 use Rattle.osb_orders.specs.declared.order.OrderKind.TheVariants.{Delete, Unbind}
-use Rattle.osb_orders.specs.Facts.{Facts}
-use Rattle.osb_machine.specs.Reaction.{Reaction, says}
+use Rattle.osb_orders.specs.ViewData.{ViewData}
+use Rattle.osb_machine.specs.Decision.{Decision, says}
 use Rattle.osb_machine.specs.Provision.{provision}
 use Rattle.osb_machine.specs.Fetch.{fetch}
 use Rattle.osb_machine.specs.Update.{update}
@@ -19,10 +19,10 @@ use Rattle.osb_machine.specs.Listed.{orders}
 use Rattle.osb_machine.specs.Report.{report}
 
 -- the catalog as it stands in the settings (OSB API 2.17, "Catalog Management")
-abbrev pub catalog : Rules → Reaction
+abbrev pub catalog : Rules → Decision
 catalog rules = says status.Ok rules.catalog
 
-abbrev pub answer : Rules → Facts → Ask → Reaction
+abbrev pub answer : Rules → ViewData → Ask → Decision
 answer rules facts the.Catalog = catalog rules
 answer rules facts (the.Provision ask) = provision rules facts ask
 answer rules facts (the.Fetch ask) = fetch facts.standing

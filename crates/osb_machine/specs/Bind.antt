@@ -13,10 +13,10 @@ use Rattle.osb_orders.specs.declared.view.BindingPhase.{BindingPhase}
 use Rattle.osb_orders.specs.declared.view.BindingPhase.TheVariants as binding_phase
 use Rattle.osb_orders.specs.declared.view.Standing.{Standing}
 use Rattle.osb_orders.specs.declared.view.BindingNow.{BindingNow}
-use Rattle.osb_orders.specs.Facts.{Facts}
-use Rattle.osb_machine.specs.Reaction.{Reaction, says, refuses, not_found, conflict}
+use Rattle.osb_orders.specs.ViewData.{ViewData}
+use Rattle.osb_machine.specs.Decision.{Decision, says, refuses, not_found, conflict}
 use Rattle.osb_machine.specs.Texts.{credentials_body}
-use Rattle.osb_machine.specs.Plans.{is_bindable, bindings_run, plan_credentials}
+use Rattle.osb_machine.specs.Plans.{is_bindable, bindings_are_asynchronous, plan_credentials}
 use Rattle.osb_machine.specs.Same.{app_guid_of, is_same_binding}
 use Rattle.osb_machine.specs.Opened.{Opening, opened, accepted, is_busy}
 
@@ -27,7 +27,7 @@ bound_attributes ask = record { service = ask.service; plan = ask.plan; place = 
 -- by the mode of the plan that the instance has
 abbrev pub bind_opening : Rules → Attributes → Bind → Opening
 bind_opening rules instance ask = record {
-  asynchronous = bindings_run rules instance.plan;
+  asynchronous = bindings_are_asynchronous rules instance.plan;
   accepts_incomplete = ask.accepts_incomplete;
   kind = kind.Bind;
   binding = ask.binding;
@@ -41,7 +41,7 @@ bind_opening rules instance ask = record {
 abbrev pub is_of_plan : Bind → Attributes → Bool
 is_of_plan ask instance = bytes_eq ask.service instance.service && bytes_eq ask.plan instance.plan
 
-abbrev pub bind_new : Rules → Facts → Attributes → Bind → Reaction
+abbrev pub bind_new : Rules → ViewData → Attributes → Bind → Decision
 bind_new rules facts instance ask =
     if is_busy facts then refuses ConcurrencyError else (
     if not (is_of_plan ask instance) then refuses Mismatch else (
@@ -49,7 +49,7 @@ bind_new rules facts instance ask =
     else opened rules facts (bind_opening rules instance ask)))
 
 -- by the phase of the binding, and whether it is the same
-abbrev pub bind_over : BindingPhase → Bool → BindingNow → Facts → Bind → Reaction
+abbrev pub bind_over : BindingPhase → Bool → BindingNow → ViewData → Bind → Decision
 bind_over binding_phase.Bound true binding facts ask = says status.Ok (credentials_body binding.credentials)
 bind_over binding_phase.Bound false binding facts ask = conflict
 bind_over binding_phase.Binding true binding facts ask = accepted ask.accepts_incomplete facts.last
@@ -57,19 +57,19 @@ bind_over binding_phase.Binding false binding facts ask = conflict
 bind_over binding_phase.Unbinding same binding facts ask = refuses ConcurrencyError
 bind_over binding_phase.Failed same binding facts ask = conflict
 
-abbrev pub bind_by : Rules → Facts → Attributes → Bind → Option BindingNow → Reaction
+abbrev pub bind_by : Rules → ViewData → Attributes → Bind → Option BindingNow → Decision
 bind_by rules facts instance ask (Some binding) = bind_over binding.phase (is_same_binding ask binding.attributes) binding facts ask
 bind_by rules facts instance ask None = bind_new rules facts instance ask
 
 -- by the phase of the instance
-abbrev pub bind_in : InstancePhase → Rules → Facts → Attributes → Bind → Reaction
+abbrev pub bind_in : InstancePhase → Rules → ViewData → Attributes → Bind → Decision
 bind_in phase.Failed rules facts instance ask = not_found
 bind_in phase.Creating rules facts instance ask = refuses ConcurrencyError
 bind_in _ rules facts instance ask = bind_by rules facts instance ask facts.binding
 
-abbrev pub bind_at : Rules → Facts → Bind → Option Standing → Reaction
+abbrev pub bind_at : Rules → ViewData → Bind → Option Standing → Decision
 bind_at rules facts ask None = not_found
 bind_at rules facts ask (Some instance) = bind_in instance.phase rules facts instance.attributes ask
 
-abbrev pub bind : Rules → Facts → Bind → Reaction
+abbrev pub bind : Rules → ViewData → Bind → Decision
 bind rules facts ask = bind_at rules facts ask facts.standing

@@ -7,16 +7,16 @@ use Rattle.osb_orders.specs.declared.order.Attributes.{Attributes}
 use Rattle.osb_orders.specs.declared.view.InstancePhase.{InstancePhase}
 use Rattle.osb_orders.specs.declared.view.InstancePhase.TheVariants as phase
 use Rattle.osb_orders.specs.declared.view.Standing.{Standing}
-use Rattle.osb_machine.specs.Reaction.{Reaction, says, refuses, not_found}
+use Rattle.osb_machine.specs.Decision.{Decision, says, refuses, not_found}
 use Rattle.osb_machine.specs.Texts.{instance_body}
 
-abbrev pub fetch_over : InstancePhase → Attributes → Reaction
+abbrev pub fetch_over : InstancePhase → Attributes → Decision
 fetch_over phase.Creating instance = not_found
 fetch_over phase.Failed instance = not_found
 fetch_over phase.Updating instance = refuses ConcurrencyError
 fetch_over phase.Deleting instance = refuses ConcurrencyError
 fetch_over phase.Ready instance = says status.Ok (instance_body instance)
 
-abbrev pub fetch : Option Standing → Reaction
+abbrev pub fetch : Option Standing → Decision
 fetch None = not_found
 fetch (Some instance) = fetch_over instance.phase instance.attributes

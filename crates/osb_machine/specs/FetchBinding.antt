@@ -4,13 +4,13 @@ use Rattle.osb_replies.specs.declared.status.Status.TheVariants as status
 use Rattle.osb_orders.specs.declared.view.BindingPhase.{BindingPhase}
 use Rattle.osb_orders.specs.declared.view.BindingPhase.TheVariants.{Bound}
 use Rattle.osb_orders.specs.declared.view.BindingNow.{BindingNow}
-use Rattle.osb_machine.specs.Reaction.{Reaction, says, not_found}
+use Rattle.osb_machine.specs.Decision.{Decision, says, not_found}
 use Rattle.osb_machine.specs.Texts.{binding_body}
 
-abbrev pub fetch_binding_over : BindingPhase → BindingNow → Reaction
+abbrev pub fetch_binding_over : BindingPhase → BindingNow → Decision
 fetch_binding_over Bound binding = says status.Ok (binding_body binding)
 fetch_binding_over _ binding = not_found
 
-abbrev pub fetch_binding : Option BindingNow → Reaction
+abbrev pub fetch_binding : Option BindingNow → Decision
 fetch_binding None = not_found
 fetch_binding (Some binding) = fetch_binding_over binding.phase binding

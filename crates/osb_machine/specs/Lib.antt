@@ -3,7 +3,7 @@
 -- The answer table as a machine: an ask is answered from the lives, and takes a step on them.
 pub mod Machine
 pub mod Answer
-pub mod Reaction
+pub mod Decision
 -- What a step of the code is in these words.
 pub mod Steps
 -- The rules of each ask, in the order in which they are tried.

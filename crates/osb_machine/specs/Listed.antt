@@ -6,7 +6,7 @@ use Rattle.json.specs.Print.{quoted}
 use Rattle.osb_replies.specs.declared.status.Status.TheVariants as status
 use Rattle.osb_orders.specs.declared.order.Order.{Order}
 use Rattle.osb_orders.specs.Orders.{is_about_binding, kind_text, no_context}
-use Rattle.osb_machine.specs.Reaction.{Reaction, says}
+use Rattle.osb_machine.specs.Decision.{Decision, says}
 use Rattle.osb_machine.specs.Texts.{joined}
 
 -- the maintenance version, where it isn't empty
@@ -47,5 +47,5 @@ listed_from later (one ∷ more) = listed_after later one.0 one.1 ++ listed_from
 abbrev pub orders_body : List (List ℕ × Order) → List ℕ
 orders_body listing = codes "{\"orders\":[" ++ listed_from false listing
 
-abbrev pub orders : List (List ℕ × Order) → Reaction
+abbrev pub orders : List (List ℕ × Order) → Decision
 orders listing = says status.Ok (orders_body listing)

@@ -13,8 +13,8 @@ use Rattle.osb_orders.specs.declared.order.Outcome.{Outcome}
 use Rattle.osb_orders.specs.declared.order.Order.{Order}
 use Rattle.osb_orders.specs.declared.order.Change.TheVariants.{Append}
 use Rattle.osb_orders.specs.Orders.{is_now}
-use Rattle.osb_orders.specs.Facts.{Facts}
-use Rattle.osb_machine.specs.Reaction.{Reaction, says, refuses, not_found, empty_object}
+use Rattle.osb_orders.specs.ViewData.{ViewData}
+use Rattle.osb_machine.specs.Decision.{Decision, says, refuses, not_found, empty_object}
 use Rattle.osb_machine.specs.Texts.{operation_body}
 
 -- What an order is opened with: whether its plan's mode is asynchronous and whether the request accepts that, what the
@@ -43,19 +43,19 @@ numbered number opening outcome = record { number = number; kind = opening.kind;
 abbrev pub next_order : ℕ → Opening → Outcome → Order
 next_order count opening outcome = numbered (count + 1) opening outcome
 
-abbrev pub appends : Status → List ℕ → Order → Reaction
+abbrev pub appends : Status → List ℕ → Order → Decision
 appends status body order = record { status = status; body = body; change = Append order }
 
 -- 202 of the new order
-abbrev pub begins : Order → Reaction
+abbrev pub begins : Order → Decision
 begins order = appends status.Accepted (operation_body order) order
 
 -- what the opening says, of its order, which is carried out at once
-abbrev pub carried_out : ℕ → Opening → Reaction
+abbrev pub carried_out : ℕ → Opening → Decision
 carried_out number opening = appends opening.status opening.body (numbered number opening (succeeded_with opening.credentials))
 
 -- 'Open': an asynchronous mode has to be accepted; the life must have room; then the order runs, or is carried out at once.
-abbrev pub opened : Rules → Facts → Opening → Reaction
+abbrev pub opened : Rules → ViewData → Opening → Decision
 opened rules facts opening =
     if opening.asynchronous && not opening.accepts_incomplete then refuses AsyncRequired else (
     if nat_le rules.order_limit facts.count then refuses Full else (
@@ -63,12 +63,12 @@ opened rules facts opening =
     else carried_out (facts.count + 1) opening))
 
 -- '202 of it': the order that runs, where the request accepts that
-abbrev pub accepted : Bool → Option Order → Reaction
+abbrev pub accepted : Bool → Option Order → Decision
 accepted accepts_incomplete None = not_found
 accepted accepts_incomplete (Some order) = if accepts_incomplete then says status.Accepted (operation_body order) else refuses AsyncRequired
 
 -- 'Busy': the last order runs
-abbrev pub is_busy : Facts → Bool
+abbrev pub is_busy : ViewData → Bool
 is_busy facts = option_map_or (is_now Running) facts.last false
 
 -- a maintenance version is given, and isn't that of the catalog (OSB API 2.17, "Maintenance Info")

@@ -5,7 +5,7 @@ use Rattle.std.specs.Prelude.{ℕ, Bool, false, List, []}
 use Rattle.std.specs.Option.{option_map_or}
 use Rattle.osb_catalog.specs.Modes.{is_asynchronous}
 use Rattle.osb_catalog.specs.Rules.{Rules}
-use Rattle.osb_machine.specs.Reaction.{empty_object}
+use Rattle.osb_machine.specs.Decision.{empty_object}
 
 abbrev pub catalog_version : Rules → List ℕ → List ℕ → List ℕ
 catalog_version rules service plan = option_map_or (λ facts. facts.version) (rules.plan service plan) []
@@ -18,12 +18,12 @@ abbrev pub is_plan_updateable : Rules → List ℕ → List ℕ → Bool
 is_plan_updateable rules service plan = option_map_or (λ facts. facts.plan_updateable) (rules.plan service plan) false
 
 -- creations, updates and deletions run until they are reported
-abbrev pub instances_run : Rules → List ℕ → Bool
-instances_run rules plan = option_map_or (λ mode. is_asynchronous mode.instances) (rules.mode plan) false
+abbrev pub instances_are_asynchronous : Rules → List ℕ → Bool
+instances_are_asynchronous rules plan = option_map_or (λ mode. is_asynchronous mode.instances) (rules.mode plan) false
 
 -- bindings and unbindings run until they are reported
-abbrev pub bindings_run : Rules → List ℕ → Bool
-bindings_run rules plan = option_map_or (λ mode. is_asynchronous mode.bindings) (rules.mode plan) false
+abbrev pub bindings_are_asynchronous : Rules → List ℕ → Bool
+bindings_are_asynchronous rules plan = option_map_or (λ mode. is_asynchronous mode.bindings) (rules.mode plan) false
 
 -- what a synchronous binding hands out
 abbrev pub plan_credentials : Rules → List ℕ → List ℕ

@@ -7,30 +7,30 @@ use Rattle.osb_orders.specs.declared.order.OrderKind.{OrderKind}
 use Rattle.osb_orders.specs.declared.order.OrderState.TheVariants.{Succeeded}
 use Rattle.osb_orders.specs.declared.order.Order.{Order}
 use Rattle.osb_orders.specs.Orders.{is_a, is_now}
-use Rattle.osb_orders.specs.Facts.{Facts}
-use Rattle.osb_machine.specs.Reaction.{Reaction, says, refuses, not_found, gone}
+use Rattle.osb_orders.specs.ViewData.{ViewData}
+use Rattle.osb_machine.specs.Decision.{Decision, says, refuses, not_found, gone}
 use Rattle.osb_machine.specs.Texts.{state_body}
 
 -- a removal that succeeded is answered 410
-abbrev pub told : Bool → Order → Reaction
-told is_removal order = if is_removal && is_now Succeeded order then gone else says status.Ok (state_body order.outcome)
+abbrev pub polled_answer : Bool → Order → Decision
+polled_answer is_removal order = if is_removal && is_now Succeeded order then gone else says status.Ok (state_body order.outcome)
 
-abbrev pub polled : OrderKind → Order → Reaction
-polled removal order = told (is_a removal order) order
+abbrev pub polled : OrderKind → Order → Decision
+polled removal order = polled_answer (is_a removal order) order
 
-abbrev pub polled_named : OrderKind → Option Order → Reaction
+abbrev pub polled_named : OrderKind → Option Order → Decision
 polled_named removal None = refuses Operation
 polled_named removal (Some order) = polled removal order
 
 -- the operation that is asked for, otherwise the last
-abbrev pub polled_by : OrderKind → Option (List ℕ) → Option Order → Order → Reaction
+abbrev pub polled_by : OrderKind → Option (List ℕ) → Option Order → Order → Decision
 polled_by removal None named last = polled removal last
 polled_by removal (Some operation) named last = polled_named removal named
 
 -- by the last of the orders that the poll is about
-abbrev pub poll_at : OrderKind → Option (List ℕ) → Option Order → Option Order → Reaction
+abbrev pub poll_at : OrderKind → Option (List ℕ) → Option Order → Option Order → Decision
 poll_at removal operation named None = not_found
 poll_at removal operation named (Some last) = polled_by removal operation named last
 
-abbrev pub poll : OrderKind → Option (List ℕ) → Facts → Reaction
+abbrev pub poll : OrderKind → Option (List ℕ) → ViewData → Decision
 poll removal operation facts = poll_at removal operation facts.named facts.subject_last

@@ -9,9 +9,9 @@ use Rattle.osb_orders.specs.declared.order.Attributes.{Attributes}
 use Rattle.osb_orders.specs.declared.view.InstancePhase.{InstancePhase}
 use Rattle.osb_orders.specs.declared.view.InstancePhase.TheVariants as phase
 use Rattle.osb_orders.specs.declared.view.Standing.{Standing}
-use Rattle.osb_orders.specs.Facts.{Facts}
-use Rattle.osb_machine.specs.Reaction.{Reaction, refuses, done, conflict, empty_object}
-use Rattle.osb_machine.specs.Plans.{catalog_version, instances_run}
+use Rattle.osb_orders.specs.ViewData.{ViewData}
+use Rattle.osb_machine.specs.Decision.{Decision, refuses, done, conflict, empty_object}
+use Rattle.osb_machine.specs.Plans.{catalog_version, instances_are_asynchronous}
 use Rattle.osb_machine.specs.Same.{is_same_instance}
 use Rattle.osb_machine.specs.Opened.{Opening, opened, accepted, is_unlike}
 
@@ -21,7 +21,7 @@ created_attributes rules ask = record { service = ask.service; plan = ask.plan; 
 
 abbrev pub creation : Rules → Provision → Opening
 creation rules ask = record {
-  asynchronous = instances_run rules ask.plan;
+  asynchronous = instances_are_asynchronous rules ask.plan;
   accepts_incomplete = ask.accepts_incomplete;
   kind = Create;
   binding = [];
@@ -32,7 +32,7 @@ creation rules ask = record {
 }
 
 -- by the phase of the instance, and whether it is the same
-abbrev pub provision_over : InstancePhase → Bool → Provision → Facts → Reaction
+abbrev pub provision_over : InstancePhase → Bool → Provision → ViewData → Decision
 provision_over phase.Creating true ask facts = accepted ask.accepts_incomplete facts.last
 provision_over phase.Creating false ask facts = conflict
 provision_over phase.Ready true ask facts = done
@@ -42,11 +42,11 @@ provision_over phase.Updating false ask facts = conflict
 provision_over phase.Deleting same ask facts = refuses ConcurrencyError
 provision_over phase.Failed same ask facts = conflict
 
-abbrev pub provision_at : Rules → Facts → Provision → Option Standing → Reaction
+abbrev pub provision_at : Rules → ViewData → Provision → Option Standing → Decision
 provision_at rules facts ask None = opened rules facts (creation rules ask)
 provision_at rules facts ask (Some instance) = provision_over instance.phase (is_same_instance ask instance.attributes) ask facts
 
-abbrev pub provision : Rules → Facts → Provision → Reaction
+abbrev pub provision : Rules → ViewData → Provision → Decision
 provision rules facts ask =
     if is_unlike ask.maintenance (catalog_version rules ask.service ask.plan) then refuses MaintenanceInfoConflict
     else provision_at rules facts ask facts.standing

@@ -11,7 +11,7 @@ use Rattle.osb_orders.specs.declared.order.Outcome.{Outcome}
 use Rattle.osb_orders.specs.declared.order.Order.{Order}
 use Rattle.osb_orders.specs.declared.order.Change.TheVariants.{Finish}
 use Rattle.osb_orders.specs.Orders.{state_number, is_a, is_now}
-use Rattle.osb_machine.specs.Reaction.{Reaction, done, not_found, conflict, empty_object}
+use Rattle.osb_machine.specs.Decision.{Decision, done, not_found, conflict, empty_object}
 
 abbrev pub reported_state : ReportState → OrderState
 reported_state said.Succeeded = Succeeded
@@ -29,15 +29,15 @@ kept_outcome ask order = record { state = reported_state ask.state; description 
 abbrev pub is_outcome : Outcome → Outcome → Bool
 is_outcome one other = state_number one.state == state_number other.state && bytes_eq one.description other.description && bytes_eq one.credentials other.credentials
 
-abbrev pub ends : ℕ → Outcome → Reaction
+abbrev pub ends : ℕ → Outcome → Decision
 ends number outcome = record { status = status.Ok; body = empty_object; change = Finish number outcome }
 
 -- An order that runs ends; one that ended so is done; one that ended in another way stays.
-abbrev pub report_of : Order → Outcome → Reaction
-report_of order outcome =
+abbrev pub reported_on : Order → Outcome → Decision
+reported_on order outcome =
     if is_now Running order then ends order.number outcome else (
     if is_outcome order.outcome outcome then done else conflict)
 
-abbrev pub report : Report → Option Order → Reaction
+abbrev pub report : Report → Option Order → Decision
 report ask None = not_found
-report ask (Some order) = report_of order (kept_outcome ask order)
+report ask (Some order) = reported_on order (kept_outcome ask order)

@@ -11,19 +11,19 @@ use Rattle.osb_orders.specs.declared.view.BindingPhase.{BindingPhase}
 use Rattle.osb_orders.specs.declared.view.BindingPhase.TheVariants.{Unbinding}
 use Rattle.osb_orders.specs.declared.view.Standing.{Standing}
 use Rattle.osb_orders.specs.declared.view.BindingNow.{BindingNow}
-use Rattle.osb_orders.specs.Facts.{Facts}
-use Rattle.osb_machine.specs.Reaction.{Reaction, refuses, gone, empty_object}
-use Rattle.osb_machine.specs.Plans.{bindings_run}
+use Rattle.osb_orders.specs.ViewData.{ViewData}
+use Rattle.osb_machine.specs.Decision.{Decision, refuses, gone, empty_object}
+use Rattle.osb_machine.specs.Plans.{bindings_are_asynchronous}
 use Rattle.osb_machine.specs.Opened.{Opening, opened, accepted, is_busy}
 
 -- by the mode of the plan that the instance has
-abbrev pub unbindings_run : Rules → Option Standing → Bool
-unbindings_run rules standing = option_map_or (λ instance. bindings_run rules instance.attributes.plan) standing false
+abbrev pub unbindings_are_asynchronous : Rules → Option Standing → Bool
+unbindings_are_asynchronous rules standing = option_map_or (λ instance. bindings_are_asynchronous rules instance.attributes.plan) standing false
 
 -- with what the binding has
 abbrev pub unbind_opening : Rules → Option Standing → BindingNow → Unbind → Opening
 unbind_opening rules standing binding ask = record {
-  asynchronous = unbindings_run rules standing;
+  asynchronous = unbindings_are_asynchronous rules standing;
   accepts_incomplete = ask.accepts_incomplete;
   kind = kind.Unbind;
   binding = ask.binding;
@@ -33,18 +33,18 @@ unbind_opening rules standing binding ask = record {
   body = empty_object;
 }
 
-abbrev pub unbind_idle : Rules → Facts → BindingNow → Unbind → Reaction
+abbrev pub unbind_idle : Rules → ViewData → BindingNow → Unbind → Decision
 unbind_idle rules facts binding ask =
     if is_busy facts then refuses ConcurrencyError
     else opened rules facts (unbind_opening rules facts.standing binding ask)
 
-abbrev pub unbind_over : BindingPhase → Rules → Facts → BindingNow → Unbind → Reaction
+abbrev pub unbind_over : BindingPhase → Rules → ViewData → BindingNow → Unbind → Decision
 unbind_over Unbinding rules facts binding ask = accepted ask.accepts_incomplete facts.last
 unbind_over _ rules facts binding ask = unbind_idle rules facts binding ask
 
-abbrev pub unbind_at : Rules → Facts → Unbind → Option BindingNow → Reaction
+abbrev pub unbind_at : Rules → ViewData → Unbind → Option BindingNow → Decision
 unbind_at rules facts ask None = gone
 unbind_at rules facts ask (Some binding) = unbind_over binding.phase rules facts binding ask
 
-abbrev pub unbind : Rules → Facts → Unbind → Reaction
+abbrev pub unbind : Rules → ViewData → Unbind → Decision
 unbind rules facts ask = unbind_at rules facts ask facts.binding

@@ -13,9 +13,9 @@ use Rattle.osb_orders.specs.declared.order.Order.{Order}
 use Rattle.osb_orders.specs.declared.view.InstancePhase.{InstancePhase}
 use Rattle.osb_orders.specs.declared.view.InstancePhase.TheVariants as phase
 use Rattle.osb_orders.specs.declared.view.Standing.{Standing}
-use Rattle.osb_orders.specs.Facts.{Facts}
-use Rattle.osb_machine.specs.Reaction.{Reaction, refuses, done, not_found, empty_object}
-use Rattle.osb_machine.specs.Plans.{catalog_version, is_plan_updateable, instances_run}
+use Rattle.osb_orders.specs.ViewData.{ViewData}
+use Rattle.osb_machine.specs.Decision.{Decision, refuses, done, not_found, empty_object}
+use Rattle.osb_machine.specs.Plans.{catalog_version, is_plan_updateable, instances_are_asynchronous}
 use Rattle.osb_machine.specs.Same.{are_same}
 use Rattle.osb_machine.specs.Opened.{Opening, opened, accepted, is_busy, is_unlike}
 
@@ -44,7 +44,7 @@ target rules instance ask = record { service = instance.service; plan = target_p
 -- by the mode of the plan that the instance has
 abbrev pub update_opening : Rules → Attributes → Update → Attributes → Opening
 update_opening rules instance ask aim = record {
-  asynchronous = instances_run rules instance.plan;
+  asynchronous = instances_are_asynchronous rules instance.plan;
   accepts_incomplete = ask.accepts_incomplete;
   kind = kind.Update;
   binding = [];
@@ -58,7 +58,7 @@ update_opening rules instance ask aim = record {
 abbrev pub forbids_change : Rules → Attributes → Attributes → Bool
 forbids_change rules instance aim = not (bytes_eq aim.plan instance.plan) && not (is_plan_updateable rules instance.service instance.plan)
 
-abbrev pub update_ready : Rules → Facts → Attributes → Update → Attributes → Reaction
+abbrev pub update_ready : Rules → ViewData → Attributes → Update → Attributes → Decision
 update_ready rules facts instance ask aim =
     if are_same aim instance then done else (
     if is_busy facts then refuses ConcurrencyError else (
@@ -69,28 +69,28 @@ update_ready rules facts instance ask aim =
 abbrev pub is_order_to : Attributes → Option Order → Bool
 is_order_to aim last = option_map_or (λ order. are_same aim order.attributes) last false
 
-abbrev pub update_running : Facts → Update → Attributes → Reaction
+abbrev pub update_running : ViewData → Update → Attributes → Decision
 update_running facts ask aim = if is_order_to aim facts.last then accepted ask.accepts_incomplete facts.last else refuses ConcurrencyError
 
-abbrev pub update_by : InstancePhase → Rules → Facts → Attributes → Update → Attributes → Reaction
+abbrev pub update_by : InstancePhase → Rules → ViewData → Attributes → Update → Attributes → Decision
 update_by phase.Updating rules facts instance ask aim = update_running facts ask aim
 update_by _ rules facts instance ask aim = update_ready rules facts instance ask aim
 
-abbrev pub update_checked : Rules → Facts → Standing → Update → Reaction
+abbrev pub update_checked : Rules → ViewData → Standing → Update → Decision
 update_checked rules facts instance ask =
     if not (bytes_eq ask.service instance.attributes.service) then refuses Mismatch else (
     if is_unlike ask.maintenance (catalog_version rules instance.attributes.service (target_plan instance.attributes ask)) then refuses MaintenanceInfoConflict
     else update_by instance.phase rules facts instance.attributes ask (target rules instance.attributes ask))
 
-abbrev pub update_over : InstancePhase → Rules → Facts → Standing → Update → Reaction
+abbrev pub update_over : InstancePhase → Rules → ViewData → Standing → Update → Decision
 update_over phase.Failed rules facts instance ask = not_found
 update_over phase.Creating rules facts instance ask = refuses ConcurrencyError
 update_over phase.Deleting rules facts instance ask = refuses ConcurrencyError
 update_over _ rules facts instance ask = update_checked rules facts instance ask
 
-abbrev pub update_at : Rules → Facts → Update → Option Standing → Reaction
+abbrev pub update_at : Rules → ViewData → Update → Option Standing → Decision
 update_at rules facts ask None = not_found
 update_at rules facts ask (Some instance) = update_over instance.phase rules facts instance ask
 
-abbrev pub update : Rules → Facts → Update → Reaction
+abbrev pub update : Rules → ViewData → Update → Decision
 update rules facts ask = update_at rules facts ask facts.standing

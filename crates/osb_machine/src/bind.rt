@@ -2,15 +2,15 @@
 
 ghost use Rattle.std.specs.Prelude.{◌≡◌, IfOk};
 ghost use Rattle.osb_catalog.specs.Rules.{rules_of};
-ghost use Rattle.osb_orders.specs.Facts.{facts};
+ghost use Rattle.osb_orders.specs.ViewData.{data_in};
 ghost use Rattle.osb_machine.specs.Opened.{opened};
 ghost use Rattle.osb_machine.specs.Bind.{bound_attributes, bind_opening, is_of_plan, bind_new, bind_over, bind};
-ghost use Rattle.osb_machine.specs.Steps.{reaction, opening_of};
+ghost use Rattle.osb_machine.specs.Steps.{decision, opening_of};
 
+use crate::answer_and_change::{Answer, AnswerAndChange};
 use crate::opening::{Opening, accepted, is_busy, open};
-use crate::plans::{bindings_run, is_bindable, plan_credentials};
+use crate::plans::{bindings_are_asynchronous, is_bindable, plan_credentials};
 use crate::same::{app_guid_of, is_same_binding};
-use crate::step::{Answer, Step};
 use crate::texts;
 use osb_asks::Bind;
 use osb_catalog::Settings;
@@ -24,15 +24,17 @@ pub(crate) fn bind<'a>(
     settings: &Settings,
     view: &View,
     ask: &Bind,
-) -> Result<Step<'a>, AllocError>
-    ensures { IfOk result (λ step. reaction step ≡ bind (rules_of settings.now) (facts view.now) ask.now) }
+) -> Result<AnswerAndChange<'a>, AllocError>
+    ensures { IfOk result (λ step. decision step ≡ bind (rules_of settings.now) (data_in view.now) ask.now) }
 {
     let Some(instance) = &view.standing else {
-        return Ok(Step::of_status(Status::NotFound));
+        return Ok(AnswerAndChange::of_status(Status::NotFound));
     };
     match instance.phase {
-        InstancePhase::Failed => return Ok(Step::of_status(Status::NotFound)),
-        InstancePhase::Creating => return Ok(Step::refuses(FixedError::ConcurrencyError)),
+        InstancePhase::Failed => return Ok(AnswerAndChange::of_status(Status::NotFound)),
+        InstancePhase::Creating => return Ok(AnswerAndChange::refuses(
+            FixedError::ConcurrencyError,
+        )),
         InstancePhase::Ready | InstancePhase::Updating | InstancePhase::Deleting => {}
     }
     match &view.binding {
@@ -51,18 +53,18 @@ fn bind_over<'a>(
     binding: &BindingNow,
     ask: &Bind,
     same: bool,
-) -> Result<Step<'a>, AllocError>
-    ensures { IfOk result (λ step. reaction step ≡ bind_over binding.now.phase same binding.now (facts view.now) ask.now) }
+) -> Result<AnswerAndChange<'a>, AllocError>
+    ensures { IfOk result (λ step. decision step ≡ bind_over binding.now.phase same binding.now (data_in view.now) ask.now) }
 {
     match binding.phase {
         BindingPhase::Bound if same => {
             let text = texts::credentials(alloc, binding.credentials.as_str())?;
-            Ok(Step::says(Status::Ok, text))
+            Ok(AnswerAndChange::says(Status::Ok, text))
         }
         BindingPhase::Binding if same => accepted(alloc, ask.accepts_incomplete, &view.last),
-        BindingPhase::Unbinding => Ok(Step::refuses(FixedError::ConcurrencyError)),
+        BindingPhase::Unbinding => Ok(AnswerAndChange::refuses(FixedError::ConcurrencyError)),
         BindingPhase::Bound | BindingPhase::Binding | BindingPhase::Failed => {
-            Ok(Step::of_status(Status::Conflict))
+            Ok(AnswerAndChange::of_status(Status::Conflict))
         }
     }
 }
@@ -73,19 +75,19 @@ fn bind_new<'a>(
     view: &View,
     instance: &Attributes,
     ask: &Bind,
-) -> Result<Step<'a>, AllocError>
-    ensures { IfOk result (λ step. reaction step ≡ bind_new (rules_of settings.now) (facts view.now) instance.now ask.now) }
+) -> Result<AnswerAndChange<'a>, AllocError>
+    ensures { IfOk result (λ step. decision step ≡ bind_new (rules_of settings.now) (data_in view.now) instance.now ask.now) }
 {
     if is_busy(view) {
-        return Ok(Step::refuses(FixedError::ConcurrencyError));
+        return Ok(AnswerAndChange::refuses(FixedError::ConcurrencyError));
     }
     if !is_of_plan(ask, instance) {
-        return Ok(Step::refuses(FixedError::Mismatch));
+        return Ok(AnswerAndChange::refuses(FixedError::Mismatch));
     }
     if !is_bindable(settings, instance.service.as_str(), instance.plan.as_str()) {
-        return Ok(Step::refuses(FixedError::NotBindable));
+        return Ok(AnswerAndChange::refuses(FixedError::NotBindable));
     }
-    begin(alloc, settings, view, instance, ask)
+    open_binding(alloc, settings, view, instance, ask)
 }
 
 /// Whether the service and the plan are those of the instance.
@@ -96,14 +98,14 @@ fn is_of_plan(ask: &Bind, instance: &Attributes) -> bool
 }
 
 /// Opens the order that binds.
-fn begin<'a>(
+fn open_binding<'a>(
     alloc: Global,
     settings: &Settings,
     view: &View,
     instance: &Attributes,
     ask: &Bind,
-) -> Result<Step<'a>, AllocError>
-    ensures { IfOk result (λ step. reaction step ≡ opened (rules_of settings.now) (facts view.now) (bind_opening (rules_of settings.now) instance.now ask.now)) }
+) -> Result<AnswerAndChange<'a>, AllocError>
+    ensures { IfOk result (λ step. decision step ≡ opened (rules_of settings.now) (data_in view.now) (bind_opening (rules_of settings.now) instance.now ask.now)) }
 {
     let opening = bind_opening(alloc, settings, instance, ask)?;
     open(alloc, settings, view, opening)
@@ -120,7 +122,7 @@ fn bind_opening<'a>(
     let credentials = plan_credentials(settings, instance.plan.as_str());
     let text = texts::credentials(alloc, credentials)?;
     Ok(Opening {
-        asynchronous: bindings_run(settings, instance.plan.as_str()),
+        asynchronous: bindings_are_asynchronous(settings, instance.plan.as_str()),
         accepts_incomplete: ask.accepts_incomplete,
         kind: OrderKind::Bind,
         binding: Text::from_str(alloc, ask.binding.as_str())?,

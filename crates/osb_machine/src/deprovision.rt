@@ -2,14 +2,14 @@
 
 ghost use Rattle.std.specs.Prelude.{◌≡◌, IfOk};
 ghost use Rattle.osb_catalog.specs.Rules.{rules_of};
-ghost use Rattle.osb_orders.specs.Facts.{facts};
+ghost use Rattle.osb_orders.specs.ViewData.{data_in};
 ghost use Rattle.osb_machine.specs.Opened.{opened};
 ghost use Rattle.osb_machine.specs.Deprovision.{deletion, deprovision};
-ghost use Rattle.osb_machine.specs.Steps.{reaction, opening_of};
+ghost use Rattle.osb_machine.specs.Steps.{decision, opening_of};
 
+use crate::answer_and_change::{Answer, AnswerAndChange};
 use crate::opening::{Opening, accepted, is_busy, open};
-use crate::plans::instances_run;
-use crate::step::{Answer, Step};
+use crate::plans::instances_are_asynchronous;
 use osb_asks::Deprovision;
 use osb_catalog::Settings;
 use osb_orders::{Attributes, InstancePhase, OrderKind, View};
@@ -22,20 +22,20 @@ pub(crate) fn deprovision<'a>(
     settings: &Settings,
     view: &View,
     ask: &Deprovision,
-) -> Result<Step<'a>, AllocError>
-    ensures { IfOk result (λ step. reaction step ≡ deprovision (rules_of settings.now) (facts view.now) ask.now) }
+) -> Result<AnswerAndChange<'a>, AllocError>
+    ensures { IfOk result (λ step. decision step ≡ deprovision (rules_of settings.now) (data_in view.now) ask.now) }
 {
     let Some(instance) = &view.standing else {
-        return Ok(Step::of_status(Status::Gone));
+        return Ok(AnswerAndChange::of_status(Status::Gone));
     };
     if let InstancePhase::Deleting = instance.phase {
         return accepted(alloc, ask.accepts_incomplete, &view.last);
     }
     if is_busy(view) {
-        return Ok(Step::refuses(FixedError::ConcurrencyError));
+        return Ok(AnswerAndChange::refuses(FixedError::ConcurrencyError));
     }
     if view.bound {
-        return Ok(Step::refuses(FixedError::BindingsRemain));
+        return Ok(AnswerAndChange::refuses(FixedError::BindingsRemain));
     }
     delete(alloc, settings, view, &instance.attributes, ask)
 }
@@ -47,8 +47,8 @@ fn delete<'a>(
     view: &View,
     instance: &Attributes,
     ask: &Deprovision,
-) -> Result<Step<'a>, AllocError>
-    ensures { IfOk result (λ step. reaction step ≡ opened (rules_of settings.now) (facts view.now) (deletion (rules_of settings.now) instance.now ask.now)) }
+) -> Result<AnswerAndChange<'a>, AllocError>
+    ensures { IfOk result (λ step. decision step ≡ opened (rules_of settings.now) (data_in view.now) (deletion (rules_of settings.now) instance.now ask.now)) }
 {
     let opening = deletion(alloc, settings, instance, ask)?;
     open(alloc, settings, view, opening)
@@ -63,7 +63,7 @@ fn deletion<'a>(
     ensures { IfOk result (λ opening. opening_of opening ≡ deletion (rules_of settings.now) instance.now ask.now) }
 {
     Ok(Opening {
-        asynchronous: instances_run(settings, instance.plan.as_str()),
+        asynchronous: instances_are_asynchronous(settings, instance.plan.as_str()),
         accepts_incomplete: ask.accepts_incomplete,
         kind: OrderKind::Delete,
         binding: Text::new(alloc),

@@ -2,28 +2,33 @@
 
 ghost use Rattle.std.specs.Prelude.{◌≡◌, IfOk};
 ghost use Rattle.osb_machine.specs.Fetch.{fetch};
-ghost use Rattle.osb_machine.specs.Steps.{reaction};
+ghost use Rattle.osb_machine.specs.Steps.{decision};
 
-use crate::step::Step;
+use crate::answer_and_change::AnswerAndChange;
 use crate::texts;
 use osb_orders::{InstancePhase, Standing};
 use osb_replies::{FixedError, Status};
 use std::alloc::{AllocError, Global};
 
-pub(crate) fn fetch<'a>(alloc: Global, standing: &Option<Standing>) -> Result<Step<'a>, AllocError>
-    ensures { IfOk result (λ step. reaction step ≡ fetch standing.now) }
+pub(crate) fn fetch<'a>(
+    alloc: Global,
+    standing: &Option<Standing>,
+) -> Result<AnswerAndChange<'a>, AllocError>
+    ensures { IfOk result (λ step. decision step ≡ fetch standing.now) }
 {
     let Some(instance) = standing else {
-        return Ok(Step::of_status(Status::NotFound));
+        return Ok(AnswerAndChange::of_status(Status::NotFound));
     };
     match instance.phase {
-        InstancePhase::Creating | InstancePhase::Failed => Ok(Step::of_status(Status::NotFound)),
+        InstancePhase::Creating | InstancePhase::Failed => Ok(AnswerAndChange::of_status(
+            Status::NotFound,
+        )),
         InstancePhase::Updating | InstancePhase::Deleting => {
-            Ok(Step::refuses(FixedError::ConcurrencyError))
+            Ok(AnswerAndChange::refuses(FixedError::ConcurrencyError))
         }
         InstancePhase::Ready => {
             let text = texts::instance(alloc, &instance.attributes)?;
-            Ok(Step::says(Status::Ok, text))
+            Ok(AnswerAndChange::says(Status::Ok, text))
         }
     }
 }

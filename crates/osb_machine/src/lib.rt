@@ -4,6 +4,7 @@
 //! its rules in the order in which they are tried, and there is a module for each here.
 #![tactic(auto)]
 
+mod answer_and_change;
 mod bind;
 mod deprovision;
 mod fetch;
@@ -15,11 +16,10 @@ mod polls;
 mod provision;
 mod report;
 mod same;
-mod step;
 mod table;
 mod texts;
 mod unbind;
 mod update;
 
-pub use step::{Answer, Step};
+pub use answer_and_change::{Answer, AnswerAndChange};
 pub use table::decide;

@@ -2,9 +2,9 @@
 
 ghost use Rattle.std.specs.Prelude.{◌≡◌, IfOk, string_bytes};
 ghost use Rattle.osb_machine.specs.Listed.{maintenance_member, context_member, first_members, last_members, listed_of_binding, listed_of_instance, listed, listed_after, orders_body, orders};
-ghost use Rattle.osb_machine.specs.Steps.{reaction};
+ghost use Rattle.osb_machine.specs.Steps.{decision};
 
-use crate::step::Step;
+use crate::answer_and_change::AnswerAndChange;
 use crate::texts::in_quotes;
 use osb_orders::{Order, OrderKind};
 use osb_replies::Status;
@@ -12,11 +12,14 @@ use osb_text::Text;
 use std::alloc::{AllocError, Global};
 
 /// Answers with the running orders of a view.
-pub(crate) fn orders<'a>(alloc: Global, listing: &[(Text, Order)]) -> Result<Step<'a>, AllocError>
-    ensures { IfOk result (λ step. reaction step ≡ orders listing.now) }
+pub(crate) fn orders<'a>(
+    alloc: Global,
+    listing: &[(Text, Order)],
+) -> Result<AnswerAndChange<'a>, AllocError>
+    ensures { IfOk result (λ step. decision step ≡ orders listing.now) }
 {
     let text = orders_body(alloc, listing)?;
-    Ok(Step::says(Status::Ok, text))
+    Ok(AnswerAndChange::says(Status::Ok, text))
 }
 
 fn orders_body(alloc: Global, listing: &[(Text, Order)]) -> Result<String, AllocError>

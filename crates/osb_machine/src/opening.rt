@@ -2,11 +2,11 @@
 
 ghost use Rattle.std.specs.Prelude.{if◌then◌else◌, ◌≡◌, IfOk};
 ghost use Rattle.osb_catalog.specs.Rules.{rules_of};
-ghost use Rattle.osb_orders.specs.Facts.{facts};
+ghost use Rattle.osb_orders.specs.ViewData.{data_in};
 ghost use Rattle.osb_machine.specs.Opened.{opened, begins, carried_out, numbered, accepted, is_busy, is_unlike, running, succeeded_with};
-ghost use Rattle.osb_machine.specs.Steps.{reaction, opening_of};
+ghost use Rattle.osb_machine.specs.Steps.{decision, opening_of};
 
-use crate::step::{Answer, Step};
+use crate::answer_and_change::{Answer, AnswerAndChange};
 use crate::texts;
 use osb_catalog::Settings;
 use osb_orders::{Attributes, Change, Order, OrderKind, OrderState, Outcome, View};
@@ -35,16 +35,16 @@ pub(crate) fn open<'a>(
     settings: &Settings,
     view: &View,
     opening: Opening<'a>,
-) -> Result<Step<'a>, AllocError>
-    ensures { IfOk result (λ step. reaction step ≡ opened (rules_of settings.now) (facts view.now) (opening_of opening.entry)) }
+) -> Result<AnswerAndChange<'a>, AllocError>
+    ensures { IfOk result (λ step. decision step ≡ opened (rules_of settings.now) (data_in view.now) (opening_of opening.entry)) }
 {
     if opening.asynchronous && !opening.accepts_incomplete {
         drop(opening);
-        return Ok(Step::refuses(FixedError::AsyncRequired));
+        return Ok(AnswerAndChange::refuses(FixedError::AsyncRequired));
     }
     if settings.order_limit() <= view.count {
         drop(opening);
-        return Ok(Step::refuses(FixedError::Full));
+        return Ok(AnswerAndChange::refuses(FixedError::Full));
     }
     open_numbered(alloc, view.count + 1, opening)
 }
@@ -54,8 +54,8 @@ fn open_numbered<'a>(
     alloc: Global,
     number: u32,
     opening: Opening<'a>,
-) -> Result<Step<'a>, AllocError>
-    ensures { IfOk result (λ step. reaction step ≡ (if opening.entry.asynchronous
+) -> Result<AnswerAndChange<'a>, AllocError>
+    ensures { IfOk result (λ step. decision step ≡ (if opening.entry.asynchronous
         then begins (numbered number (opening_of opening.entry) running)
         else carried_out number (opening_of opening.entry))) }
 {
@@ -67,8 +67,12 @@ fn open_numbered<'a>(
 }
 
 /// Begins the order of that number, which then runs.
-fn begin<'a>(alloc: Global, number: u32, opening: Opening<'_>) -> Result<Step<'a>, AllocError>
-    ensures { IfOk result (λ step. reaction step ≡ begins (numbered number (opening_of opening.entry) running)) }
+fn begin<'a>(
+    alloc: Global,
+    number: u32,
+    opening: Opening<'_>,
+) -> Result<AnswerAndChange<'a>, AllocError>
+    ensures { IfOk result (λ step. decision step ≡ begins (numbered number (opening_of opening.entry) running)) }
 {
     match running(alloc) {
         Ok(outcome) => begun(alloc, numbered(number, opening, outcome)),
@@ -93,11 +97,11 @@ fn numbered(number: u32, opening: Opening<'_>, outcome: Outcome) -> Order
 }
 
 /// Answers 202 of an order, and appends it.
-fn begun<'a>(alloc: Global, order: Order) -> Result<Step<'a>, AllocError>
-    ensures { IfOk result (λ step. reaction step ≡ begins order) }
+fn begun<'a>(alloc: Global, order: Order) -> Result<AnswerAndChange<'a>, AllocError>
+    ensures { IfOk result (λ step. decision step ≡ begins order) }
 {
     match texts::operation(alloc, &order) {
-        Ok(text) => Ok(Step {
+        Ok(text) => Ok(AnswerAndChange {
             answer: Answer {
                 status: Status::Accepted,
                 body: Body::from(text),
@@ -112,8 +116,8 @@ fn begun<'a>(alloc: Global, order: Order) -> Result<Step<'a>, AllocError>
 }
 
 /// Answers as the opening says, and appends its order, which is carried out at once.
-fn carried_out<'a>(alloc: Global, number: u32, opening: Opening<'a>) -> Step<'a>
-    ensures { reaction result ≡ carried_out number (opening_of opening.entry) }
+fn carried_out<'a>(alloc: Global, number: u32, opening: Opening<'a>) -> AnswerAndChange<'a>
+    ensures { decision result ≡ carried_out number (opening_of opening.entry) }
 {
     let order = Order {
         number,
@@ -122,7 +126,7 @@ fn carried_out<'a>(alloc: Global, number: u32, opening: Opening<'a>) -> Step<'a>
         attributes: opening.attributes,
         outcome: succeeded_with(alloc, opening.credentials),
     };
-    Step {
+    AnswerAndChange {
         answer: opening.answer,
         change: Change::Append(order),
     }
@@ -153,22 +157,22 @@ pub(crate) fn accepted<'a>(
     alloc: Global,
     accepts_incomplete: bool,
     last: &Option<Order>,
-) -> Result<Step<'a>, AllocError>
-    ensures { IfOk result (λ step. reaction step ≡ accepted accepts_incomplete last.now) }
+) -> Result<AnswerAndChange<'a>, AllocError>
+    ensures { IfOk result (λ step. decision step ≡ accepted accepts_incomplete last.now) }
 {
     let Some(order) = last else {
-        return Ok(Step::of_status(Status::NotFound));
+        return Ok(AnswerAndChange::of_status(Status::NotFound));
     };
     if !accepts_incomplete {
-        return Ok(Step::refuses(FixedError::AsyncRequired));
+        return Ok(AnswerAndChange::refuses(FixedError::AsyncRequired));
     }
     let text = texts::operation(alloc, order)?;
-    Ok(Step::says(Status::Accepted, text))
+    Ok(AnswerAndChange::says(Status::Accepted, text))
 }
 
 /// Whether the last order runs.
 pub(crate) fn is_busy(view: &View) -> bool
-    ensures { result ≡ is_busy (facts view.now) }
+    ensures { result ≡ is_busy (data_in view.now) }
 {
     match &view.last {
         Some(order) => matches!(order.outcome.state, OrderState::Running),

@@ -2,7 +2,7 @@
 
 ghost use Rattle.std.specs.Prelude.{◌≡◌};
 ghost use Rattle.osb_catalog.specs.Rules.{rules_of};
-ghost use Rattle.osb_machine.specs.Plans.{catalog_version, is_bindable, is_plan_updateable, instances_run, bindings_run, plan_credentials};
+ghost use Rattle.osb_machine.specs.Plans.{catalog_version, is_bindable, is_plan_updateable, instances_are_asynchronous, bindings_are_asynchronous, plan_credentials};
 
 use osb_catalog::Settings;
 
@@ -37,8 +37,8 @@ pub(crate) fn is_plan_updateable(settings: &Settings, service: &str, plan: &str)
 }
 
 /// Whether creations, updates and deletions run until they are reported.
-pub(crate) fn instances_run(settings: &Settings, plan: &str) -> bool
-    ensures { result ≡ instances_run (rules_of settings.now) plan.now }
+pub(crate) fn instances_are_asynchronous(settings: &Settings, plan: &str) -> bool
+    ensures { result ≡ instances_are_asynchronous (rules_of settings.now) plan.now }
 {
     match settings.mode(plan) {
         Some(mode) => mode.instances.is_asynchronous(),
@@ -47,8 +47,8 @@ pub(crate) fn instances_run(settings: &Settings, plan: &str) -> bool
 }
 
 /// Whether bindings and unbindings run until they are reported.
-pub(crate) fn bindings_run(settings: &Settings, plan: &str) -> bool
-    ensures { result ≡ bindings_run (rules_of settings.now) plan.now }
+pub(crate) fn bindings_are_asynchronous(settings: &Settings, plan: &str) -> bool
+    ensures { result ≡ bindings_are_asynchronous (rules_of settings.now) plan.now }
 {
     match settings.mode(plan) {
         Some(mode) => mode.bindings.is_asynchronous(),

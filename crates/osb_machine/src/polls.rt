@@ -1,11 +1,11 @@
 //! The rules of InstanceOp and BindingOp, which show how an operation stands.
 
 ghost use Rattle.std.specs.Prelude.{◌≡◌, IfOk};
-ghost use Rattle.osb_orders.specs.Facts.{facts};
-ghost use Rattle.osb_machine.specs.Polls.{told, poll};
-ghost use Rattle.osb_machine.specs.Steps.{reaction};
+ghost use Rattle.osb_orders.specs.ViewData.{data_in};
+ghost use Rattle.osb_machine.specs.Polls.{polled_answer, poll};
+ghost use Rattle.osb_machine.specs.Steps.{decision};
 
-use crate::step::Step;
+use crate::answer_and_change::AnswerAndChange;
 use crate::texts;
 use osb_orders::{Order, OrderKind, OrderState, View};
 use osb_replies::{FixedError, Status};
@@ -19,26 +19,30 @@ pub(crate) fn poll<'a>(
     removal: OrderKind,
     operation: &Option<Text>,
     view: &View,
-) -> Result<Step<'a>, AllocError>
-    ensures { IfOk result (λ step. reaction step ≡ poll removal operation.now (facts view.now)) }
+) -> Result<AnswerAndChange<'a>, AllocError>
+    ensures { IfOk result (λ step. decision step ≡ poll removal operation.now (data_in view.now)) }
 {
     let Some(last) = &view.subject_last else {
-        return Ok(Step::of_status(Status::NotFound));
+        return Ok(AnswerAndChange::of_status(Status::NotFound));
     };
     let order = match (operation, &view.named) {
         (None, _) => last,
         (Some(_), Some(named)) => named,
-        (Some(_), None) => return Ok(Step::refuses(FixedError::Operation)),
+        (Some(_), None) => return Ok(AnswerAndChange::refuses(FixedError::Operation)),
     };
-    told(alloc, order.kind == removal, order)
+    polled_answer(alloc, order.kind == removal, order)
 }
 
-fn told<'a>(alloc: Global, is_removal: bool, order: &Order) -> Result<Step<'a>, AllocError>
-    ensures { IfOk result (λ step. reaction step ≡ told is_removal order.now) }
+fn polled_answer<'a>(
+    alloc: Global,
+    is_removal: bool,
+    order: &Order,
+) -> Result<AnswerAndChange<'a>, AllocError>
+    ensures { IfOk result (λ step. decision step ≡ polled_answer is_removal order.now) }
 {
     if is_removal && matches!(order.outcome.state, OrderState::Succeeded) {
-        return Ok(Step::of_status(Status::Gone));
+        return Ok(AnswerAndChange::of_status(Status::Gone));
     }
     let text = texts::state(alloc, &order.outcome)?;
-    Ok(Step::says(Status::Ok, text))
+    Ok(AnswerAndChange::says(Status::Ok, text))
 }

@@ -2,15 +2,15 @@
 
 ghost use Rattle.std.specs.Prelude.{◌≡◌, IfOk};
 ghost use Rattle.osb_catalog.specs.Rules.{rules_of};
-ghost use Rattle.osb_orders.specs.Facts.{facts};
+ghost use Rattle.osb_orders.specs.ViewData.{data_in};
 ghost use Rattle.osb_machine.specs.Opened.{opened};
 ghost use Rattle.osb_machine.specs.Provision.{created_attributes, creation, provision_over, provision};
-ghost use Rattle.osb_machine.specs.Steps.{reaction, opening_of};
+ghost use Rattle.osb_machine.specs.Steps.{decision, opening_of};
 
+use crate::answer_and_change::{Answer, AnswerAndChange};
 use crate::opening::{Opening, accepted, is_unlike, open};
-use crate::plans::{catalog_version, instances_run};
+use crate::plans::{catalog_version, instances_are_asynchronous};
 use crate::same::is_same_instance;
-use crate::step::{Answer, Step};
 use osb_asks::Provision;
 use osb_catalog::Settings;
 use osb_orders::{Attributes, InstancePhase, OrderKind, View};
@@ -23,12 +23,12 @@ pub(crate) fn provision<'a>(
     settings: &Settings,
     view: &View,
     ask: &Provision,
-) -> Result<Step<'a>, AllocError>
-    ensures { IfOk result (λ step. reaction step ≡ provision (rules_of settings.now) (facts view.now) ask.now) }
+) -> Result<AnswerAndChange<'a>, AllocError>
+    ensures { IfOk result (λ step. decision step ≡ provision (rules_of settings.now) (data_in view.now) ask.now) }
 {
     let version = catalog_version(settings, ask.service.as_str(), ask.plan.as_str());
     if is_unlike(&ask.maintenance, version) {
-        return Ok(Step::refuses(FixedError::MaintenanceInfoConflict));
+        return Ok(AnswerAndChange::refuses(FixedError::MaintenanceInfoConflict));
     }
     let Some(instance) = &view.standing else {
         return create(alloc, settings, view, ask);
@@ -44,17 +44,19 @@ fn provision_over<'a>(
     ask: &Provision,
     phase: InstancePhase,
     same: bool,
-) -> Result<Step<'a>, AllocError>
-    ensures { IfOk result (λ step. reaction step ≡ provision_over phase same ask.now (facts view.now)) }
+) -> Result<AnswerAndChange<'a>, AllocError>
+    ensures { IfOk result (λ step. decision step ≡ provision_over phase same ask.now (data_in view.now)) }
 {
     match phase {
         InstancePhase::Creating if same => accepted(alloc, ask.accepts_incomplete, &view.last),
-        InstancePhase::Ready | InstancePhase::Updating if same => Ok(Step::of_status(Status::Ok)),
-        InstancePhase::Deleting => Ok(Step::refuses(FixedError::ConcurrencyError)),
+        InstancePhase::Ready | InstancePhase::Updating if same => Ok(AnswerAndChange::of_status(
+            Status::Ok,
+        )),
+        InstancePhase::Deleting => Ok(AnswerAndChange::refuses(FixedError::ConcurrencyError)),
         InstancePhase::Creating
         | InstancePhase::Ready
         | InstancePhase::Updating
-        | InstancePhase::Failed => Ok(Step::of_status(Status::Conflict)),
+        | InstancePhase::Failed => Ok(AnswerAndChange::of_status(Status::Conflict)),
     }
 }
 
@@ -64,8 +66,8 @@ fn create<'a>(
     settings: &Settings,
     view: &View,
     ask: &Provision,
-) -> Result<Step<'a>, AllocError>
-    ensures { IfOk result (λ step. reaction step ≡ opened (rules_of settings.now) (facts view.now) (creation (rules_of settings.now) ask.now)) }
+) -> Result<AnswerAndChange<'a>, AllocError>
+    ensures { IfOk result (λ step. decision step ≡ opened (rules_of settings.now) (data_in view.now) (creation (rules_of settings.now) ask.now)) }
 {
     let opening = creation(alloc, settings, ask)?;
     open(alloc, settings, view, opening)
@@ -79,7 +81,7 @@ fn creation<'a>(
     ensures { IfOk result (λ opening. opening_of opening ≡ creation (rules_of settings.now) ask.now) }
 {
     Ok(Opening {
-        asynchronous: instances_run(settings, ask.plan.as_str()),
+        asynchronous: instances_are_asynchronous(settings, ask.plan.as_str()),
         accepts_incomplete: ask.accepts_incomplete,
         kind: OrderKind::Create,
         binding: Text::new(alloc),

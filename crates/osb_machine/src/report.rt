@@ -1,10 +1,10 @@
 //! The rules of Report, by which the backend ends an order.
 
 ghost use Rattle.std.specs.Prelude.{◌≡◌, IfOk};
-ghost use Rattle.osb_machine.specs.Report.{reported_state, kept_credentials, kept_outcome, is_outcome, ends, report_of, report};
-ghost use Rattle.osb_machine.specs.Steps.{reaction};
+ghost use Rattle.osb_machine.specs.Report.{reported_state, kept_credentials, kept_outcome, is_outcome, ends, reported_on, report};
+ghost use Rattle.osb_machine.specs.Steps.{decision};
 
-use crate::step::{Answer, Step};
+use crate::answer_and_change::{Answer, AnswerAndChange};
 use osb_asks::{Report, ReportState};
 use osb_orders::{Change, Order, OrderKind, OrderState, Outcome};
 use osb_replies::{Body, Status};
@@ -15,33 +15,33 @@ pub(crate) fn report<'a>(
     alloc: Global,
     named: &Option<Order>,
     ask: &Report,
-) -> Result<Step<'a>, AllocError>
-    ensures { IfOk result (λ step. reaction step ≡ report ask.now named.now) }
+) -> Result<AnswerAndChange<'a>, AllocError>
+    ensures { IfOk result (λ step. decision step ≡ report ask.now named.now) }
 {
     let Some(order) = named else {
-        return Ok(Step::of_status(Status::NotFound));
+        return Ok(AnswerAndChange::of_status(Status::NotFound));
     };
     let outcome = kept_outcome(alloc, ask, order)?;
-    Ok(report_of(order, outcome))
+    Ok(reported_on(order, outcome))
 }
 
-fn report_of<'a>(order: &Order, outcome: Outcome) -> Step<'a>
-    ensures { reaction result ≡ report_of order.now outcome }
+fn reported_on<'a>(order: &Order, outcome: Outcome) -> AnswerAndChange<'a>
+    ensures { decision result ≡ reported_on order.now outcome }
 {
     if matches!(order.outcome.state, OrderState::Running) {
         return ends(order.number, outcome);
     }
     if is_outcome(&order.outcome, &outcome) {
-        Step::of_status(Status::Ok)
+        AnswerAndChange::of_status(Status::Ok)
     } else {
-        Step::of_status(Status::Conflict)
+        AnswerAndChange::of_status(Status::Conflict)
     }
 }
 
-fn ends<'a>(number: u32, outcome: Outcome) -> Step<'a>
-    ensures { reaction result ≡ ends number outcome }
+fn ends<'a>(number: u32, outcome: Outcome) -> AnswerAndChange<'a>
+    ensures { decision result ≡ ends number outcome }
 {
-    Step {
+    AnswerAndChange {
         answer: Answer {
             status: Status::Ok,
             body: Body::EMPTY_OBJECT,

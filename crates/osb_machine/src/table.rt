@@ -3,12 +3,13 @@
 ghost use Rattle.std.specs.Prelude.{◌≡◌, ◌≢◌, IfOk, OnErr};
 ghost use Rattle.osb_asks.specs.declared.ask.Ask.TheVariants.{Catalog};
 ghost use Rattle.osb_catalog.specs.Rules.{rules_of};
-ghost use Rattle.osb_orders.specs.Facts.{facts, view_of};
+ghost use Rattle.osb_orders.specs.ViewData.{data_in, view_of};
 ghost use Rattle.osb_orders.specs.Lives.{Lives};
 ghost use Rattle.osb_machine.specs.Answer.{catalog, answer};
 ghost use Rattle.osb_machine.specs.Machine.{answer_to};
-ghost use Rattle.osb_machine.specs.Steps.{reaction};
+ghost use Rattle.osb_machine.specs.Steps.{decision};
 
+use crate::answer_and_change::{Answer, AnswerAndChange};
 use crate::bind::bind;
 use crate::deprovision::deprovision;
 use crate::fetch::fetch;
@@ -17,7 +18,6 @@ use crate::listed::orders;
 use crate::polls::poll;
 use crate::provision::provision;
 use crate::report::report;
-use crate::step::{Answer, Step};
 use crate::unbind::unbind;
 use crate::update::update;
 use osb_asks::Ask;
@@ -35,12 +35,12 @@ pub fn decide<'a>(
     settings: &'a Settings,
     view: &View,
     ask: &Ask,
-) -> Result<Step<'a>, AllocError>
+) -> Result<AnswerAndChange<'a>, AllocError>
     // The answer table, by what the view shows.
-    ensures table { IfOk result (λ step. reaction step ≡ answer (rules_of settings.now) (facts view.now) ask.now) }
+    ensures table { IfOk result (λ step. decision step ≡ answer (rules_of settings.now) (data_in view.now) ask.now) }
     // So it is the machine's step from all lives that have this view.
-    ensures machine { (lives : Lives) → facts view.now ≡ view_of lives ask.now →
-        IfOk result (λ step. reaction step ≡ answer_to (rules_of settings.now) lives ask.now) }
+    ensures machine { (lives : Lives) → data_in view.now ≡ view_of lives ask.now →
+        IfOk result (λ step. decision step ≡ answer_to (rules_of settings.now) lives ask.now) }
     // The catalog needs no memory.
     ensures sure { OnErr result (ask.now ≢ Catalog) }
 {
@@ -52,8 +52,8 @@ fn by_table<'a>(
     settings: &'a Settings,
     view: &View,
     ask: &Ask,
-) -> Result<Step<'a>, AllocError>
-    ensures table { IfOk result (λ step. reaction step ≡ answer (rules_of settings.now) (facts view.now) ask.now) }
+) -> Result<AnswerAndChange<'a>, AllocError>
+    ensures table { IfOk result (λ step. decision step ≡ answer (rules_of settings.now) (data_in view.now) ask.now) }
     ensures sure { OnErr result (ask.now ≢ Catalog) }
 {
     match ask {
@@ -73,10 +73,10 @@ fn by_table<'a>(
 }
 
 /// Lends the catalog's text: it takes no memory.
-fn catalog<'a>(settings: &'a Settings) -> Step<'a>
-    ensures { reaction result ≡ catalog (rules_of settings.now) }
+fn catalog<'a>(settings: &'a Settings) -> AnswerAndChange<'a>
+    ensures { decision result ≡ catalog (rules_of settings.now) }
 {
-    Step {
+    AnswerAndChange {
         answer: Answer {
             status: Status::Ok,
             body: Body::Lent(settings.catalog_text()),

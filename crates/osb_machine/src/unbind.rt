@@ -2,14 +2,14 @@
 
 ghost use Rattle.std.specs.Prelude.{◌≡◌, IfOk};
 ghost use Rattle.osb_catalog.specs.Rules.{rules_of};
-ghost use Rattle.osb_orders.specs.Facts.{facts};
+ghost use Rattle.osb_orders.specs.ViewData.{data_in};
 ghost use Rattle.osb_machine.specs.Opened.{opened};
-ghost use Rattle.osb_machine.specs.Unbind.{unbindings_run, unbind_opening, unbind};
-ghost use Rattle.osb_machine.specs.Steps.{reaction, opening_of};
+ghost use Rattle.osb_machine.specs.Unbind.{unbindings_are_asynchronous, unbind_opening, unbind};
+ghost use Rattle.osb_machine.specs.Steps.{decision, opening_of};
 
+use crate::answer_and_change::{Answer, AnswerAndChange};
 use crate::opening::{Opening, accepted, is_busy, open};
-use crate::plans::bindings_run;
-use crate::step::{Answer, Step};
+use crate::plans::bindings_are_asynchronous;
 use osb_asks::Unbind;
 use osb_catalog::Settings;
 use osb_orders::{BindingNow, BindingPhase, OrderKind, Standing, View};
@@ -22,30 +22,30 @@ pub(crate) fn unbind<'a>(
     settings: &Settings,
     view: &View,
     ask: &Unbind,
-) -> Result<Step<'a>, AllocError>
-    ensures { IfOk result (λ step. reaction step ≡ unbind (rules_of settings.now) (facts view.now) ask.now) }
+) -> Result<AnswerAndChange<'a>, AllocError>
+    ensures { IfOk result (λ step. decision step ≡ unbind (rules_of settings.now) (data_in view.now) ask.now) }
 {
     let Some(binding) = &view.binding else {
-        return Ok(Step::of_status(Status::Gone));
+        return Ok(AnswerAndChange::of_status(Status::Gone));
     };
     if let BindingPhase::Unbinding = binding.phase {
         return accepted(alloc, ask.accepts_incomplete, &view.last);
     }
     if is_busy(view) {
-        return Ok(Step::refuses(FixedError::ConcurrencyError));
+        return Ok(AnswerAndChange::refuses(FixedError::ConcurrencyError));
     }
-    begin(alloc, settings, view, binding, ask)
+    open_unbinding(alloc, settings, view, binding, ask)
 }
 
 /// Opens the order that unbinds.
-fn begin<'a>(
+fn open_unbinding<'a>(
     alloc: Global,
     settings: &Settings,
     view: &View,
     binding: &BindingNow,
     ask: &Unbind,
-) -> Result<Step<'a>, AllocError>
-    ensures { IfOk result (λ step. reaction step ≡ opened (rules_of settings.now) (facts view.now) (unbind_opening (rules_of settings.now) view.now.standing binding.now ask.now)) }
+) -> Result<AnswerAndChange<'a>, AllocError>
+    ensures { IfOk result (λ step. decision step ≡ opened (rules_of settings.now) (data_in view.now) (unbind_opening (rules_of settings.now) view.now.standing binding.now ask.now)) }
 {
     let opening = unbind_opening(alloc, settings, &view.standing, binding, ask)?;
     open(alloc, settings, view, opening)
@@ -61,7 +61,7 @@ fn unbind_opening<'a>(
     ensures { IfOk result (λ opening. opening_of opening ≡ unbind_opening (rules_of settings.now) standing.now binding.now ask.now) }
 {
     Ok(Opening {
-        asynchronous: unbindings_run(settings, standing),
+        asynchronous: unbindings_are_asynchronous(settings, standing),
         accepts_incomplete: ask.accepts_incomplete,
         kind: OrderKind::Unbind,
         binding: Text::from_str(alloc, ask.binding.as_str())?,
@@ -75,11 +75,11 @@ fn unbind_opening<'a>(
 }
 
 /// By the mode of the plan that the instance has.
-fn unbindings_run(settings: &Settings, standing: &Option<Standing>) -> bool
-    ensures { result ≡ unbindings_run (rules_of settings.now) standing.now }
+fn unbindings_are_asynchronous(settings: &Settings, standing: &Option<Standing>) -> bool
+    ensures { result ≡ unbindings_are_asynchronous (rules_of settings.now) standing.now }
 {
     match standing {
-        Some(instance) => bindings_run(settings, instance.attributes.plan.as_str()),
+        Some(instance) => bindings_are_asynchronous(settings, instance.attributes.plan.as_str()),
         None => false,
     }
 }

@@ -2,15 +2,15 @@
 
 ghost use Rattle.std.specs.Prelude.{◌≡◌, IfOk};
 ghost use Rattle.osb_catalog.specs.Rules.{rules_of};
-ghost use Rattle.osb_orders.specs.Facts.{facts};
+ghost use Rattle.osb_orders.specs.ViewData.{data_in};
 ghost use Rattle.osb_machine.specs.Opened.{opened};
 ghost use Rattle.osb_machine.specs.Update.{target_plan, target_parameters, target_maintenance, target_context, target, update_opening, forbids_change, update_ready, is_order_to, update_running, update_by, update_checked, update};
-ghost use Rattle.osb_machine.specs.Steps.{reaction, opening_of};
+ghost use Rattle.osb_machine.specs.Steps.{decision, opening_of};
 
+use crate::answer_and_change::{Answer, AnswerAndChange};
 use crate::opening::{Opening, accepted, is_busy, is_unlike, open};
-use crate::plans::{catalog_version, instances_run, is_plan_updateable};
+use crate::plans::{catalog_version, instances_are_asynchronous, is_plan_updateable};
 use crate::same::are_same;
-use crate::step::{Answer, Step};
 use osb_asks::Update;
 use osb_catalog::Settings;
 use osb_orders::{Attributes, InstancePhase, Order, OrderKind, Standing, View};
@@ -23,16 +23,16 @@ pub(crate) fn update<'a>(
     settings: &Settings,
     view: &View,
     ask: &Update,
-) -> Result<Step<'a>, AllocError>
-    ensures { IfOk result (λ step. reaction step ≡ update (rules_of settings.now) (facts view.now) ask.now) }
+) -> Result<AnswerAndChange<'a>, AllocError>
+    ensures { IfOk result (λ step. decision step ≡ update (rules_of settings.now) (data_in view.now) ask.now) }
 {
     let Some(instance) = &view.standing else {
-        return Ok(Step::of_status(Status::NotFound));
+        return Ok(AnswerAndChange::of_status(Status::NotFound));
     };
     match instance.phase {
-        InstancePhase::Failed => Ok(Step::of_status(Status::NotFound)),
+        InstancePhase::Failed => Ok(AnswerAndChange::of_status(Status::NotFound)),
         InstancePhase::Creating | InstancePhase::Deleting => {
-            Ok(Step::refuses(FixedError::ConcurrencyError))
+            Ok(AnswerAndChange::refuses(FixedError::ConcurrencyError))
         }
         InstancePhase::Ready | InstancePhase::Updating => {
             update_checked(alloc, settings, view, instance, ask)
@@ -46,16 +46,16 @@ fn update_checked<'a>(
     view: &View,
     instance: &Standing,
     ask: &Update,
-) -> Result<Step<'a>, AllocError>
-    ensures { IfOk result (λ step. reaction step ≡ update_checked (rules_of settings.now) (facts view.now) instance.now ask.now) }
+) -> Result<AnswerAndChange<'a>, AllocError>
+    ensures { IfOk result (λ step. decision step ≡ update_checked (rules_of settings.now) (data_in view.now) instance.now ask.now) }
 {
     let there = &instance.attributes;
     if ask.service.as_str() != there.service.as_str() {
-        return Ok(Step::refuses(FixedError::Mismatch));
+        return Ok(AnswerAndChange::refuses(FixedError::Mismatch));
     }
     let version = catalog_version(settings, there.service.as_str(), target_plan(there, ask));
     if is_unlike(&ask.maintenance, version) {
-        return Ok(Step::refuses(FixedError::MaintenanceInfoConflict));
+        return Ok(AnswerAndChange::refuses(FixedError::MaintenanceInfoConflict));
     }
     let target = target(alloc, settings, there, ask)?;
     update_by(alloc, settings, view, instance, ask, target)
@@ -68,8 +68,8 @@ fn update_by<'a>(
     instance: &Standing,
     ask: &Update,
     target: Attributes,
-) -> Result<Step<'a>, AllocError>
-    ensures { IfOk result (λ step. reaction step ≡ update_by instance.now.phase (rules_of settings.now) (facts view.now) instance.now.attributes ask.now target) }
+) -> Result<AnswerAndChange<'a>, AllocError>
+    ensures { IfOk result (λ step. decision step ≡ update_by instance.now.phase (rules_of settings.now) (data_in view.now) instance.now.attributes ask.now target) }
 {
     if let InstancePhase::Updating = instance.phase {
         let step = update_running(alloc, view, ask, &target);
@@ -85,13 +85,13 @@ fn update_running<'a>(
     view: &View,
     ask: &Update,
     target: &Attributes,
-) -> Result<Step<'a>, AllocError>
-    ensures { IfOk result (λ step. reaction step ≡ update_running (facts view.now) ask.now target.now) }
+) -> Result<AnswerAndChange<'a>, AllocError>
+    ensures { IfOk result (λ step. decision step ≡ update_running (data_in view.now) ask.now target.now) }
 {
     if is_order_to(target, &view.last) {
         accepted(alloc, ask.accepts_incomplete, &view.last)
     } else {
-        Ok(Step::refuses(FixedError::ConcurrencyError))
+        Ok(AnswerAndChange::refuses(FixedError::ConcurrencyError))
     }
 }
 
@@ -111,20 +111,20 @@ fn update_ready<'a>(
     instance: &Attributes,
     ask: &Update,
     target: Attributes,
-) -> Result<Step<'a>, AllocError>
-    ensures { IfOk result (λ step. reaction step ≡ update_ready (rules_of settings.now) (facts view.now) instance.now ask.now target) }
+) -> Result<AnswerAndChange<'a>, AllocError>
+    ensures { IfOk result (λ step. decision step ≡ update_ready (rules_of settings.now) (data_in view.now) instance.now ask.now target) }
 {
     if are_same(&target, instance) {
         drop(target);
-        return Ok(Step::of_status(Status::Ok));
+        return Ok(AnswerAndChange::of_status(Status::Ok));
     }
     if is_busy(view) {
         drop(target);
-        return Ok(Step::refuses(FixedError::ConcurrencyError));
+        return Ok(AnswerAndChange::refuses(FixedError::ConcurrencyError));
     }
     if forbids_change(settings, instance, &target) {
         drop(target);
-        return Ok(Step::refuses(FixedError::NoPlanChange));
+        return Ok(AnswerAndChange::refuses(FixedError::NoPlanChange));
     }
     change(alloc, settings, view, instance, ask, target)
 }
@@ -145,8 +145,8 @@ fn change<'a>(
     instance: &Attributes,
     ask: &Update,
     target: Attributes,
-) -> Result<Step<'a>, AllocError>
-    ensures { IfOk result (λ step. reaction step ≡ opened (rules_of settings.now) (facts view.now) (update_opening (rules_of settings.now) instance.now ask.now target)) }
+) -> Result<AnswerAndChange<'a>, AllocError>
+    ensures { IfOk result (λ step. decision step ≡ opened (rules_of settings.now) (data_in view.now) (update_opening (rules_of settings.now) instance.now ask.now target)) }
 {
     let opening = update_opening(alloc, settings, instance, ask, target)?;
     open(alloc, settings, view, opening)
@@ -163,7 +163,7 @@ fn update_opening<'a>(
 {
     match Text::from_str(alloc, "{}") {
         Ok(credentials) => Ok(Opening {
-            asynchronous: instances_run(settings, instance.plan.as_str()),
+            asynchronous: instances_are_asynchronous(settings, instance.plan.as_str()),
             accepts_incomplete: ask.accepts_incomplete,
             kind: OrderKind::Update,
             binding: Text::new(alloc),

@@ -15,7 +15,7 @@ use Rattle.std.specs.FinMap.Entries.{by_order, find-put}
 use Rattle.osb_orders.specs.declared.order.Order.{Order}
 use Rattle.osb_orders.specs.Life.{Life}
 use Rattle.osb_orders.specs.Lives.{life_of}
-use Rattle.osb_orders.specs.Plain.{life_in, lives_in}
+use Rattle.osb_orders.specs.Plain.{life_in, held_in}
 
 abbrev Kept : Type 0
 Kept = List (List ℕ × Vec Order)
@@ -32,7 +32,7 @@ found_in q [] = refl
 found_in q (e ∷ es) = same_answer (eq_by_cmp (slice_cmp nat_cmp) q e.0) e.1 _ _ (found_in q es)
 
 -- the life of an id is what the map has there
-pub life_of_kept : (kept : BTreeMap (List ℕ) (Vec Order)) (q : List ℕ) → life_of (lives_in kept) q ≡ orders_of (lookup (is_at (slice_cmp nat_cmp q)) kept.entries)
+pub life_of_kept : (kept : BTreeMap (List ℕ) (Vec Order)) (q : List ℕ) → life_of (held_in kept) q ≡ orders_of (lookup (is_at (slice_cmp nat_cmp q)) kept.entries)
 life_of_kept kept q = ap (λ found. unwrap_or found []) (get-from_entries nat_list_cmp_total (map life_in kept.entries) q ∙ found_in q kept.entries)
 
 put_by : (o : Ordering) (k : List ℕ) (v : Vec Order) (e : List ℕ × Vec Order) (es rest : Kept) (more : List (List ℕ × Life)) → map life_in rest ≡ more → map life_in (match_ordering o ((k, v) ∷ e ∷ es) ((e.0, v) ∷ es) (e ∷ rest)) ≡ by_order o ((k, v.items) ∷ life_in e ∷ map life_in es) ((e.0, v.items) ∷ map life_in es) (life_in e ∷ more)
@@ -51,10 +51,10 @@ inserted k life es = same_map nat_list_cmp_total (slice_cmp-IsAntisymmetric nat_
     ∙ sym (get-insert nat_list_cmp_total (from_entries es) k life q ∙ ap (λ found. cond (eq_by_cmp (slice_cmp nat_cmp) q k) (Some life) found) (get-from_entries nat_list_cmp_total es q)))
 
 -- to keep a life at an id is to insert it
-pub kept_insert : (old new : BTreeMap (List ℕ) (Vec Order)) (k : List ℕ) (v : Vec Order) → new.entries ≡ insert_entry (slice_cmp nat_cmp) old.entries k v → lives_in new ≡ insert (lives_in old) k v.items
+pub kept_insert : (old new : BTreeMap (List ℕ) (Vec Order)) (k : List ℕ) (v : Vec Order) → new.entries ≡ insert_entry (slice_cmp nat_cmp) old.entries k v → held_in new ≡ insert (held_in old) k v.items
 kept_insert old new k v e = ap (λ es. from_entries (map life_in es)) e ∙ ap from_entries (put_in k v old.entries) ∙ inserted k v.items (map life_in old.entries)
 
-pub kept_same : (old new : BTreeMap (List ℕ) (Vec Order)) → new.entries ≡ old.entries → lives_in new ≡ lives_in old
+pub kept_same : (old new : BTreeMap (List ℕ) (Vec Order)) → new.entries ≡ old.entries → held_in new ≡ held_in old
 kept_same old new e = ap (λ es. from_entries (map life_in es)) e
 
 put_first : (e : List ℕ × Life) (es : List (List ℕ × Life)) → AllByRecursion (λ k. slice_cmp nat_cmp e.0 k ≡ Less) (keys_of es) → put (slice_cmp nat_cmp) e.0 e.1 es ≡ e ∷ es
@@ -78,5 +78,5 @@ keys_in [] = refl
 keys_in (e ∷ es) = ap (λ ks. e.0 ∷ ks) (keys_in es)
 
 -- the entries of the lives are those of the map, in its order
-pub kept_entries : (kept : BTreeMap (List ℕ) (Vec Order)) → IsStrictlySortedBy (slice_cmp nat_cmp) (keys_of kept.entries) → entries (lives_in kept) ≡ map life_in kept.entries
+pub kept_entries : (kept : BTreeMap (List ℕ) (Vec Order)) → IsStrictlySortedBy (slice_cmp nat_cmp) (keys_of kept.entries) → entries (held_in kept) ≡ map life_in kept.entries
 kept_entries kept h = entries_of_sorted (map life_in kept.entries) (subst (IsStrictlySortedBy (slice_cmp nat_cmp)) (sym (keys_in kept.entries)) h)

@@ -7,7 +7,7 @@ use Rattle.osb_orders.specs.Life.{Life}
 use Rattle.osb_orders.specs.Lives.{Lives, named_life}
 use Rattle.osb_orders.specs.Named.{instance_in}
 use Rattle.osb_orders.specs.Listing.{listing_for}
-use Rattle.osb_orders.specs.Facts.{Facts, facts_of, listing_in, view_of}
+use Rattle.osb_orders.specs.ViewData.{ViewData, view_data_of, listing_in, view_of}
 
 listing_again : (lives : Lives) (ask : Ask) → listing_for lives ask ≡ listing_in ask (listing_for lives ask)
 listing_again lives the.Catalog = refl
@@ -23,8 +23,8 @@ listing_again lives (the.BindingOp ask) = refl
 listing_again lives (the.Orders ask) = refl
 listing_again lives (the.Report ask) = refl
 
-pub viewed : (lives : Lives) (ask : Ask) (life : Life) (pairs : List (List ℕ × Order)) (found : Facts) → found ≡ record (facts_of life [] ask) { listing = pairs } → life ≡ named_life lives (instance_in ask) → pairs ≡ listing_for lives ask → found ≡ view_of lives ask
+pub viewed : (lives : Lives) (ask : Ask) (life : Life) (pairs : List (List ℕ × Order)) (found : ViewData) → found ≡ record (view_data_of life [] ask) { listing = pairs } → life ≡ named_life lives (instance_in ask) → pairs ≡ listing_for lives ask → found ≡ view_of lives ask
 viewed lives ask life pairs found is of listed =
     is
-    ∙ ap (λ life. record (facts_of life [] ask) { listing = pairs }) of
-    ∙ ap (λ pairs. record (facts_of (named_life lives (instance_in ask)) [] ask) { listing = pairs }) (listed ∙ listing_again lives ask)
+    ∙ ap (λ life. record (view_data_of life [] ask) { listing = pairs }) of
+    ∙ ap (λ pairs. record (view_data_of (named_life lives (instance_in ask)) [] ask) { listing = pairs }) (listed ∙ listing_again lives ask)

@@ -7,13 +7,13 @@ use Rattle.osb_orders.specs.declared.order.Change.{Change}
 use Rattle.osb_orders.specs.declared.order.Change.TheVariants.{Nothing, Append, Finish}
 use Rattle.osb_orders.specs.Orders.{state_number}
 use Rattle.osb_orders.specs.Life.{Life}
-use Rattle.osb_orders.specs.IsLife.{ends_running, IsNext, IsWorded}
+use Rattle.osb_orders.specs.IsLife.{ends_running, IsNext, HasValidTexts}
 
 -- the life has room for the order, which may follow and has its texts
 pub record IsAppendable (life : Life) (order : Order) : Type 0 where
   pub room : length life < 1000000
   pub next : IsNext life order
-  pub texts : IsWorded order
+  pub texts : HasValidTexts order
 
 -- the last order runs, its number is the one given, and the outcome ends it
 pub record IsFinishable (life : Life) (number : ℕ) (outcome : Outcome) : Type 0 where

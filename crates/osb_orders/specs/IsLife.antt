@@ -60,19 +60,19 @@ pub record AreOfBinding (attributes : Attributes) : Type 0 where
   pub context : is_object_text attributes.context ≡ true
 
 -- the binding's id is empty but for orders about a binding
-abbrev pub AreWorded : Bool → List ℕ → Attributes → Type 0
-AreWorded false binding attributes = (binding ≡ []) × AreOfInstance attributes
-AreWorded true binding attributes = (is_id binding ≡ true) × AreOfBinding attributes
+abbrev pub AreValidTexts : Bool → List ℕ → Attributes → Type 0
+AreValidTexts false binding attributes = (binding ≡ []) × AreOfInstance attributes
+AreValidTexts true binding attributes = (is_id binding ≡ true) × AreOfBinding attributes
 
 -- the ids are id texts, and the objects compact texts
-pub record IsWorded (order : Order) : Type 0 where
-  pub texts : AreWorded (is_about_binding order.kind) order.binding order.attributes
+pub record HasValidTexts (order : Order) : Type 0 where
+  pub texts : AreValidTexts (is_about_binding order.kind) order.binding order.attributes
   pub credentials : is_object_text order.outcome.credentials ≡ true
 
 pub record IsLife (life : Life) : Type 0 where
   pub count : length life ≤ 1000000
   pub orders : IsLifeAfter [] life
-  pub texts : AllByRecursion IsWorded life
+  pub texts : AllByRecursion HasValidTexts life
 
 -- the id is an id text, and the instance has or had orders
 pub record IsInstance (instance : List ℕ) (orders : Life) : Type 0 where

@@ -7,7 +7,7 @@ pub mod Bindings
 pub mod Lists
 -- The lives of all instances, and what an ask needs to know of them.
 pub mod Lives
-pub mod Facts
+pub mod ViewData
 pub mod Named
 pub mod Listing
 -- What a change makes of them.

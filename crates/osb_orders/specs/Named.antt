@@ -9,10 +9,10 @@ use Rattle.osb_orders.specs.Orders.{is_of_instance, is_of_binding, name_of}
 use Rattle.osb_orders.specs.Life.{Life}
 
 abbrev pub instance_in : Ask → Option (List ℕ)
-instance_in ask = asks.instance_of ask
+instance_in ask = asks.instance_id_of ask
 
 abbrev pub binding_in : Ask → Option (List ℕ)
-binding_in ask = asks.binding_of ask
+binding_in ask = asks.binding_id_of ask
 
 -- The orders that a poll is about: the Creates, Updates and Deletes of the instance, or the Binds and Unbinds of the
 -- binding, from the first order of the life on (OSB API 2.17, "Polling Last Operation").

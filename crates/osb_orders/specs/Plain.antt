@@ -10,5 +10,5 @@ use Rattle.osb_orders.specs.Lives.{Lives}
 abbrev pub life_in : (List ℕ × Vec Order) → (List ℕ × Life)
 life_in entry = (entry.0, entry.1.items)
 
-abbrev pub lives_in : BTreeMap (List ℕ) (Vec Order) → Lives
-lives_in map_of = from_entries (map life_in map_of.entries)
+abbrev pub held_in : BTreeMap (List ℕ) (Vec Order) → Lives
+held_in map_of = from_entries (map life_in map_of.entries)

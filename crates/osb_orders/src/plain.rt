@@ -35,13 +35,13 @@ impl Model for PlainLives {
     ghost use Rattle.std.specs.Coded.{coded_list, coded_ℕ};
     ghost use Rattle.osb_orders.specs.contracts.order.Order as order;
     ghost use Rattle.osb_orders.specs.Lives.{Lives};
-    ghost use Rattle.osb_orders.specs.Plain.{lives_in};
+    ghost use Rattle.osb_orders.specs.Plain.{held_in};
 
     ghost Value = { Lives };
 
     ghost coded = { code (coded_list coded_ℕ) (coded_list order.the_row.coded) };
 
-    ghost view = { λ plain. lives_in plain.lives };
+    ghost view = { λ plain. held_in plain.lives };
 }
 
 impl PlainLives {
@@ -50,7 +50,7 @@ impl PlainLives {
     ghost use Rattle.osb_orders.specs.Listing.{listing, listing_for};
     ghost use Rattle.osb_orders.specs.declared.order.Change.TheVariants.{Nothing};
     ghost use Rattle.osb_orders.specs.Changed.{lives_changed};
-    ghost use Rattle.osb_orders.specs.Facts.{facts, view_of};
+    ghost use Rattle.osb_orders.specs.ViewData.{data_in, view_of};
 
     /// No lives. It takes no memory.
     pub fn new(alloc: Global) -> PlainLives
@@ -84,7 +84,7 @@ impl PlainLives {
     /// The view for the ask. A life with 2^32 orders or more has none: want of memory is answered.
     #[tactic(auto, using(crate::proofs::ViewLemmas::viewed))]
     pub fn view(&self, alloc: Global, ask: &Ask) -> Result<View, AllocError>
-        ensures { IfOk result (λ view. facts view ≡ view_of self.now ask.now) }
+        ensures { IfOk result (λ view. data_in view ≡ view_of self.now ask.now) }
     {
         let life = self.named_life(alloc, ask)?;
         let listing = self.listing_for(alloc, ask)?;

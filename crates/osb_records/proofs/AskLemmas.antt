@@ -2,11 +2,11 @@
 use Rattle.std.proofs.Common.{◌≡◌, None, refl}
 use Rattle.osb_asks.specs.declared.ask.Ask.{Ask}
 use Rattle.osb_asks.specs.declared.ask.Ask.TheVariants as the
-use Rattle.osb_orders.specs.Facts.{view_of}
+use Rattle.osb_orders.specs.ViewData.{view_of}
 use Rattle.osb_orders.specs.Lives.{Lives}
 use Rattle.osb_orders.specs.Named.{instance_in}
 use Rattle.osb_orders.specs.Listing.{listing_for}
-use Rattle.osb_records.specs.Queries.{listed_facts}
+use Rattle.osb_records.specs.Listed.{listed_facts}
 
 -- an ask that names no instance needs the listing alone
 pub listed_is : (lives : Lives) (ask : Ask) → instance_in ask ≡ None → listed_facts (listing_for lives ask) ≡ view_of lives ask

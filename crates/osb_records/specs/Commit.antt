@@ -9,8 +9,8 @@ use Rattle.osb_orders.specs.Lives.{Lives}
 use Rattle.osb_orders.specs.Changed.{lives_changed}
 use Rattle.osb_orders.specs.IsLife.{IsLives}
 use Rattle.osb_orders.specs.Allowed.{IsFinishable}
-use Rattle.osb_records.specs.Stored.{lives_stored}
-use Rattle.osb_records.specs.Steps.{HoldsLives, stored}
+use Rattle.osb_statements.specs.Stored.{lives_stored}
+use Rattle.osb_statements.specs.Steps.{HoldsLives, stored}
 
 -- a Finish names the running last order, and an outcome that isn't Running
 abbrev pub FinishesLast : Life → Change → Type 0
@@ -26,6 +26,6 @@ pub record Commits (old : State) (lives : Lives) (db : Trees) : Type 0 where
 
 -- what a crash may leave of a change that was acknowledged: the changed lives; or what it could leave before, where there
 -- was nothing to change
-abbrev pub Lasts : State → Change → List ℕ → Trees → Type 0
-Lasts old change id db =
+abbrev pub IsDurable : State → Change → List ℕ → Trees → Type 0
+IsDurable old change id db =
     (IsTrue old.is_open × (lives_stored db ≡ lives_changed change id (stored old))) ⊎ ((change ≡ Nothing) × old.may_leave db)

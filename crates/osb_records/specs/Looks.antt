@@ -1,7 +1,7 @@
 -- What a call that reads does to a connection, in a transaction of its own.
 use Rattle.std.specs.Prelude.{◌≡◌, IsTrue, Result, OnOk}
 use Rattle.sqlite.specs.State.{State, HasCleanDisk, Survives}
-use Rattle.osb_records.specs.Steps.{IsReady}
+use Rattle.osb_statements.specs.Steps.{IsReady}
 
 -- The call reads, in a transaction of its own: at `Ok` the store was open; while it is open afterwards all is as it was,
 -- and a crash leaves what it left before.

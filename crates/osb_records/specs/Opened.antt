@@ -5,27 +5,11 @@ use Rattle.sqlite.specs.Tree.{Trees}
 use Rattle.sqlite.specs.Schema.{Schema}
 use Rattle.sqlite.specs.Effect.{Database}
 use Rattle.osb_orders.specs.Lives.{Lives}
-use Rattle.osb_orders.specs.IsLife.{IsLives}
-use Rattle.osb_joined.specs.Contexts.{contexts_of}
 use Rattle.osb_tables.specs.declared.schema.Indexes.{Indexes}
 use Rattle.osb_tables.specs.Tables.{no_schema, tables_schema, five_tables, made}
-use Rattle.osb_contexts.specs.Contexts.{HoldsContexts}
-use Rattle.osb_records.specs.Stored.{HoldsEntries, lives_told, lives_stored, content_in}
-use Rattle.osb_records.specs.Standing.{IsStanding}
-use Rattle.osb_records.specs.Steps.{HoldsLives}
-
--- version 1, and the rows of well-formed lives, which have no contexts
-pub record StoreFirst (db : Trees) : Type 0 where
-  pub holds : HoldsEntries 1 db
-  pub lives : IsLives (lives_told db)
-  pub standing : IsStanding (content_in db)
-
--- version 2, and the rows of well-formed lives with their contexts
-pub record StoreLives (db : Trees) : Type 0 where
-  pub holds : HoldsEntries 2 db
-  pub lives : IsLives (lives_stored db)
-  pub standing : IsStanding (content_in db)
-  pub contexts : HoldsContexts (contexts_of (lives_stored db)) db
+use Rattle.osb_statements.specs.Stored.{bare_lives_in, lives_stored}
+use Rattle.osb_statements.specs.StoredLives.{StoreFirst, StoreLives}
+use Rattle.osb_statements.specs.Steps.{HoldsLives}
 
 -- the four tables of version 1: alone, with the index of the listing, or with both indexes
 abbrev pub IsFirst : Schema → Type 0
@@ -36,12 +20,12 @@ abbrev pub IsSecond : Schema → Type 0
 IsSecond schema = (indexes : Indexes) × (schema ≡ made five_tables indexes)
 
 -- these are its lives: none where it has no tables, else those that the tables of its version store
-abbrev pub StandIn : Database → Lives → Type 0
-StandIn db lives =
+abbrev pub AreLivesOfDatabase : Database → Lives → Type 0
+AreLivesOfDatabase db lives =
     ((db.schema ≡ no_schema) × (lives ≡ empty))
-    ⊎ (IsFirst db.schema × StoreFirst db.trees × (lives ≡ lives_told db.trees))
+    ⊎ (IsFirst db.schema × StoreFirst db.trees × (lives ≡ bare_lives_in db.trees))
     ⊎ (IsSecond db.schema × StoreLives db.trees × (lives ≡ lives_stored db.trees))
 
 -- the trees are a database of the same lives
 abbrev pub HoldsSame : Database → Trees → Type 0
-HoldsSame db left = (lives : Lives) × StandIn db lives × HoldsLives lives left
+HoldsSame db left = (lives : Lives) × AreLivesOfDatabase db lives × HoldsLives lives left

@@ -3,10 +3,10 @@ use Rattle.std.specs.Prelude.{◌≡◌, IsTrue, Result, Err, OnOk, OnErr}
 use Rattle.sqlite.specs.Schema.{Schema}
 use Rattle.sqlite.specs.State.{State, HasCleanDisk, Survives}
 use Rattle.osb_orders.specs.Lives.{Lives}
-use Rattle.osb_records.specs.declared.fault.StoreFault.{StoreFault}
-use Rattle.osb_records.specs.declared.fault.StoreFault.TheVariants.{NotOurs}
-use Rattle.osb_records.specs.Steps.{IsReady, IsSettled, stored, LeavesOnly}
-use Rattle.osb_records.specs.Opened.{StandIn}
+use Rattle.osb_statements.specs.declared.fault.StoreFault.{StoreFault}
+use Rattle.osb_statements.specs.declared.fault.StoreFault.TheVariants.{NotOurs}
+use Rattle.osb_statements.specs.Steps.{IsReady, IsSettled, stored, LeavesOnly}
+use Rattle.osb_records.specs.Opened.{AreLivesOfDatabase}
 use Rattle.osb_records.specs.Commit.{Commits}
 
 -- no transaction is open on the database, and it has this schema
@@ -17,9 +17,9 @@ FindsSettled schema s = IsSettled s × (s.now.schema ≡ schema)
 -- NotOurs says that no lives stand in it.
 pub record TakesOver (old new : State) (result : Result (Unit {0}) StoreFault) : Type 0 where
   pub ready : OnOk result (IsReady new)
-  pub ok : HasCleanDisk new → IsTrue new.is_open → OnOk result (StandIn old.now (stored new))
+  pub ok : HasCleanDisk new → IsTrue new.is_open → OnOk result (AreLivesOfDatabase old.now (stored new))
   pub err : HasCleanDisk new → IsTrue new.is_open → OnErr result (new.now ≡ old.now)
-  pub not_ours : HasCleanDisk new → result ≡ Err NotOurs → (lives : Lives) → ¬ StandIn old.now lives
+  pub not_ours : HasCleanDisk new → result ≡ Err NotOurs → (lives : Lives) → ¬ AreLivesOfDatabase old.now lives
 
 -- The change was committed: at `Ok` the store was open, these are the lives, and a crash leaves them and nothing else; an
 -- error leaves the lives as they were; and a crash of the call leaves what it left before, or these lives.

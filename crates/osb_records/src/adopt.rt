@@ -5,21 +5,21 @@ ghost use Rattle.std.specs.FinMap.{empty};
 ghost use Rattle.sqlite.specs.Held.{state};
 ghost use Rattle.sqlite.specs.State.{HasCleanDisk, Survives};
 ghost use Rattle.osb_tables.specs.Tables.{no_schema, tables_schema, five_tables, second_schema, made};
-ghost use Rattle.osb_records.specs.declared.fault.StoreFault.TheVariants as faults;
-ghost use Rattle.osb_records.specs.Opened.{StoreFirst, StoreLives, HoldsSame};
+ghost use Rattle.osb_statements.specs.declared.fault.StoreFault.TheVariants as faults;
+ghost use Rattle.osb_statements.specs.StoredLives.{StoreFirst, StoreLives};
+ghost use Rattle.osb_records.specs.Opened.{HoldsSame};
 ghost use Rattle.osb_records.specs.Transactions.{FindsSettled, TakesOver};
 ghost use Rattle.osb_contexts.specs.Inside.{ShowsSchema};
 ghost use Rattle.osb_contexts.specs.Inside.{second_lacking};
-ghost use Rattle.osb_records.specs.Stored.{lives_told};
-ghost use Rattle.osb_records.specs.Inside.{WritesLives};
-ghost use Rattle.osb_records.specs.Steps.{HoldsLives, IsSettled, stored};
+ghost use Rattle.osb_statements.specs.Stored.{bare_lives_in};
+ghost use Rattle.osb_statements.specs.LivesWritten.{WritesLives};
+ghost use Rattle.osb_statements.specs.Steps.{HoldsLives, IsSettled, stored};
 ghost use Rattle.osb_contexts.specs.Reads.{StaysInside, Does, behind};
 
-use crate::fault::StoreFault;
-use crate::tables::make_tables;
-use crate::whole::{are_tables_whole, read_first};
+use crate::making::make_tables;
 use osb_contexts::{complete, migrate, reshape};
-use osb_tables::{Found, Indexes, find};
+use osb_statements::{StoreFault, are_tables_whole, read_first};
+use osb_tables::{FoundSchema, Indexes, find};
 use sqlite::{Alter, Connection, Transaction};
 use std::alloc::Global;
 
@@ -106,7 +106,7 @@ fn migrate_in<S: Alter>(
 ) -> Result<(), StoreFault>
     requires { ShowsSchema (made tables_schema indexes) (behind S.Store tx.old) }
     ensures ok { Does S.Store tx.old tx.new result (λ old new.
-        WritesLives old new (lives_told old.now.trees)) }
+        WritesLives old new (bare_lives_in old.now.trees)) }
     ensures lives { Does S.Store tx.old tx.new result (λ old new.
         (old.now.schema ≡ made tables_schema indexes) × StoreFirst old.now.trees) }
     ensures not_ours { HasCleanDisk (behind S.Store tx.new) → result ≡ Err faults.NotOurs →
@@ -177,10 +177,10 @@ fn take_settled<S: Alter>(conn: &mut Connection<S>, alloc: Global) -> Result<(),
         (state S.Store conn.old).now) }
 {
     match find(conn.schema()) {
-        Found::Nothing => make(conn, alloc),
-        Found::First(indexes) => migrate_tables(conn, alloc, indexes),
-        Found::Second(indexes) => take_second(conn, alloc, indexes),
-        Found::Others => Err(StoreFault::NotOurs),
+        FoundSchema::Nothing => make(conn, alloc),
+        FoundSchema::First(indexes) => migrate_tables(conn, alloc, indexes),
+        FoundSchema::Second(indexes) => take_second(conn, alloc, indexes),
+        FoundSchema::Others => Err(StoreFault::NotOurs),
     }
 }
 

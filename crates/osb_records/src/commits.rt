@@ -8,12 +8,11 @@ ghost use Rattle.osb_orders.specs.Lives.{life_of};
 ghost use Rattle.osb_orders.specs.Changed.{lives_changed};
 ghost use Rattle.osb_orders.specs.IsLife.{IsLives};
 ghost use Rattle.osb_orders.specs.Allowed.{IsFinishable};
-ghost use Rattle.osb_records.specs.Steps.{IsReady, stored};
+ghost use Rattle.osb_statements.specs.Steps.{IsReady, stored};
 ghost use Rattle.osb_records.specs.Transactions.{BecomesLives};
 
-use crate::fault::StoreFault;
-use crate::writing::{append_joined, end_joined};
 use osb_orders::{Order, Outcome};
+use osb_statements::{StoreFault, append_joined, end_joined};
 use sqlite::{Alter, Connection};
 use std::alloc::Global;
 

@@ -4,18 +4,18 @@ ghost use Rattle.std.specs.Prelude.{◌≡◌, IfOk, OnOk, OnErr};
 ghost use Rattle.sqlite.specs.Held.{state};
 ghost use Rattle.sqlite.specs.Steps.{over_memory};
 ghost use Rattle.osb_orders.specs.Lives.{life_of};
-ghost use Rattle.osb_orders.specs.Facts.{facts, view_of};
+ghost use Rattle.osb_orders.specs.ViewData.{data_in, view_of};
 ghost use Rattle.osb_orders.specs.Listing.{listing};
 ghost use Rattle.osb_orders.specs.Changed.{lives_changed};
 ghost use Rattle.osb_orders.specs.IsLife.{IsLives};
 ghost use Rattle.osb_audit.specs.Plans as spec;
-ghost use Rattle.osb_records.specs.Steps.{stored};
+ghost use Rattle.osb_statements.specs.Steps.{stored};
 ghost use Rattle.osb_records.specs.Commit.{FinishesLast};
 
-use crate::fault::StoreFault;
 use crate::records::Records;
 use osb_asks::Ask;
 use osb_orders::{Change, Order, View};
+use osb_statements::StoreFault;
 use osb_text::Text;
 use sqlite::MemStore;
 use std::alloc::Global;
@@ -50,11 +50,11 @@ pub fn running(
 /// As `Records::view`; and the lives are well formed.
 pub fn view(records: &mut Records<MemStore>, alloc: Global, ask: &Ask) -> Result<View, StoreFault>
     ensures ok { IfOk result (λ view.
-        facts view ≡ view_of (stored (state over_memory records.old)) ask.now) }
+        data_in view ≡ view_of (stored (state over_memory records.old)) ask.now) }
     ensures same { stored (state over_memory records.new) ≡ stored (state over_memory records.old) }
     ensures whole { IsLives (stored (state over_memory records.new)) }
 {
-    records.are_whole();
+    records.lives_are_whole();
     records.view(alloc, ask)
 }
 

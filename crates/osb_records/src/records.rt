@@ -9,30 +9,29 @@ ghost use Rattle.sqlite.specs.Tree.{Trees};
 ghost use Rattle.osb_asks.specs.Asks.{is_catalog};
 ghost use Rattle.osb_orders.specs.declared.order.Change.TheVariants.{Nothing};
 ghost use Rattle.osb_orders.specs.Lives.{Lives, life_of};
-ghost use Rattle.osb_orders.specs.Facts.{facts, view_of};
+ghost use Rattle.osb_orders.specs.ViewData.{data_in, view_of};
 ghost use Rattle.osb_orders.specs.Listing.{listing};
 ghost use Rattle.osb_orders.specs.Changed.{lives_changed};
 ghost use Rattle.osb_audit.specs.Counts.{AreCounts};
 ghost use Rattle.osb_audit.specs.Plans.{plans_in_use};
 ghost use Rattle.osb_orders.specs.IsLife.{IsLives};
-ghost use Rattle.osb_records.specs.declared.fault.StoreFault.TheVariants as faults;
-ghost use Rattle.osb_records.specs.Kept.{KeepsLives};
-ghost use Rattle.osb_records.specs.Opened.{StandIn, HoldsSame};
-ghost use Rattle.osb_records.specs.Steps.{IsReady, IsSettled, LeavesOnly, stored};
-ghost use Rattle.osb_records.specs.Commit.{Commits, FinishesLast, Lasts};
+ghost use Rattle.osb_statements.specs.declared.fault.StoreFault.TheVariants as faults;
+ghost use Rattle.osb_records.specs.CrashLeaves.{KeepsLives};
+ghost use Rattle.osb_records.specs.Opened.{AreLivesOfDatabase, HoldsSame};
+ghost use Rattle.osb_statements.specs.Steps.{IsReady, IsSettled, LeavesOnly, stored};
+ghost use Rattle.osb_records.specs.Commit.{Commits, FinishesLast, IsDurable};
 ghost use Rattle.osb_records.specs.Looks.{Looks, MayLook};
 
 use crate::adopt::take_over;
 use crate::commits::{append, finish};
-use crate::counting::read_counts;
-use crate::fault::StoreFault;
-use crate::plans::read_plans;
-use crate::reading::{read_life, read_running};
-use crate::tables::make_tables;
-use crate::view::{view_of_instance, view_without_instance};
+use crate::looking::{
+    read_counts, read_life, read_plans, read_running, view_of_instance, view_without_instance,
+};
+use crate::making::make_tables;
 use osb_asks::Ask;
 use osb_audit::Counts;
 use osb_orders::{Change, Order, View};
+use osb_statements::StoreFault;
 use osb_text::Text;
 use sqlite::{Alter, Connection, MemStore};
 use std::alloc::Global;
@@ -47,7 +46,7 @@ pub struct Records<S: Alter> {
 
 impl<S: Alter> Model for Records<S> {
     ghost use Rattle.sqlite.specs.Held.{Held, held_code, state};
-    ghost use Rattle.osb_records.specs.Steps.{IsReady};
+    ghost use Rattle.osb_statements.specs.Steps.{IsReady};
 
     ghost Value = { Held S };
 
@@ -79,14 +78,14 @@ impl<S: Alter> Records<S> {
         // The lives are those that stood in the database, and none where it was empty.
         ensures ok { IfOk result (λ records.
             HasCleanDisk (state S.Store records) → IsTrue (state S.Store records).is_open →
-            StandIn (state S.Store conn).now (stored (state S.Store records))) }
+            AreLivesOfDatabase (state S.Store conn).now (stored (state S.Store records))) }
         // With a fault the database is as it was, and NotOurs says that no lives stand in it.
         ensures err { IfErr result (λ fault.
             HasCleanDisk (state S.Store fault.1) → IsTrue (state S.Store fault.1).is_open →
             (state S.Store fault.1).now ≡ (state S.Store conn).now) }
         ensures not_ours { IfErr result (λ fault.
             HasCleanDisk (state S.Store fault.1) → fault.0 ≡ faults.NotOurs → (lives : Lives) →
-            ¬ StandIn (state S.Store conn).now lives) }
+            ¬ AreLivesOfDatabase (state S.Store conn).now lives) }
         // No transaction is left open, and one that was open is refused and stays.
         ensures settled { (state S.Store conn).in_transaction ≡ false →
             IfErr result (λ fault. IsSettled (state S.Store fault.1)) }
@@ -117,7 +116,7 @@ impl<S: Alter> Records<S> {
 
     /// The lives are well formed, and a crash now leaves a database of these lives and nothing else.
     /// It does nothing when it runs.
-    pub fn are_whole(&self)
+    pub fn lives_are_whole(&self)
         ensures whole { HasCleanDisk (state S.Store self.now) →
             IsTrue (state S.Store self.now).is_open → IsLives (stored (state S.Store self.now)) }
         ensures kept { HasCleanDisk (state S.Store self.now) →
@@ -176,7 +175,7 @@ impl<S: Alter> Records<S> {
     /// What the ask needs to know of the lives.
     pub fn view(&mut self, alloc: Global, ask: &Ask) -> Result<View, StoreFault>
         ensures ok { HasCleanDisk (state S.Store self.new) →
-            IfOk result (λ view. facts view ≡ view_of (stored (state S.Store self.old)) ask.now) }
+            IfOk result (λ view. data_in view ≡ view_of (stored (state S.Store self.old)) ask.now) }
         // For the catalog nothing is read, whatever has become of the store.
         ensures open { HasCleanDisk (state S.Store self.new) → is_catalog ask.now ≡ false →
             OnOk result (IsTrue (state S.Store self.old).is_open) }
@@ -220,7 +219,7 @@ impl<S: Alter> Records<S> {
             OnOk result (LeavesOnly (state S.Store self.new) (stored (state S.Store self.new))) }
         ensures lasts { HasCleanDisk (state S.Store self.new) →
             OnOk result ((db : Trees) → (state S.Store self.new).may_leave db →
-            Lasts (state S.Store self.old) change.now instance.now db) }
+            IsDurable (state S.Store self.old) change.now instance.now db) }
     {
         match change {
             Change::Nothing => Ok(()),

@@ -28,8 +28,8 @@ impl Sender {
 
     /// Sends a piece after the text so far, if all of that went out.
     pub(crate) fn send<W: Sink>(&mut self, sink: &mut W, piece: &[u8])
-        ensures out { let old = seen (W.taken sink.old) (W.writes sink.old) (W.fruitless sink.old) (W.room sink.old) in
-            let new = seen (W.taken sink.new) (W.writes sink.new) (W.fruitless sink.new) (W.room sink.new) in
+        ensures out { let old = seen (W.taken sink.old) (W.writes sink.old) (W.failed_or_empty sink.old) (W.room sink.old) in
+            let new = seen (W.taken sink.new) (W.writes sink.new) (W.failed_or_empty sink.new) (W.room sink.new) in
             (start : Seen) (text : List ℕ) →
             Out start text old self.old →
             Out start (text ++ piece.now) new self.new }

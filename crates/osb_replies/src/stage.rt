@@ -51,12 +51,12 @@ impl Stage {
 
     /// Sends what is gathered.
     pub(crate) fn flush<W: Sink>(&mut self, sink: &mut W)
-        ensures out { let old = seen (W.taken sink.old) (W.writes sink.old) (W.fruitless sink.old) (W.room sink.old) in
-            let new = seen (W.taken sink.new) (W.writes sink.new) (W.fruitless sink.new) (W.room sink.new) in
+        ensures out { let old = seen (W.taken sink.old) (W.writes sink.old) (W.failed_or_empty sink.old) (W.room sink.old) in
+            let new = seen (W.taken sink.new) (W.writes sink.new) (W.failed_or_empty sink.new) (W.room sink.new) in
             (start : Seen) (text : List ℕ) →
             Carries start text old self.old →
             Out start text new self.new.sender }
-        ensures once { let old = seen (W.taken sink.old) (W.writes sink.old) (W.fruitless sink.old) (W.room sink.old) in
+        ensures once { let old = seen (W.taken sink.old) (W.writes sink.old) (W.failed_or_empty sink.old) (W.room sink.old) in
             (start : Seen) (text : List ℕ) →
             Carries start text old self.old →
             0 < length text → length text ≤ 1024 → length text ≤ start.room →
@@ -72,8 +72,8 @@ impl Stage {
 
     /// Adds a piece to the text.
     pub(crate) fn put<W: Sink>(&mut self, sink: &mut W, piece: &[u8])
-        ensures { let old = seen (W.taken sink.old) (W.writes sink.old) (W.fruitless sink.old) (W.room sink.old) in
-            let new = seen (W.taken sink.new) (W.writes sink.new) (W.fruitless sink.new) (W.room sink.new) in
+        ensures { let old = seen (W.taken sink.old) (W.writes sink.old) (W.failed_or_empty sink.old) (W.room sink.old) in
+            let new = seen (W.taken sink.new) (W.writes sink.new) (W.failed_or_empty sink.new) (W.room sink.new) in
             (start : Seen) (text : List ℕ) →
             Carries start text old self.old →
             Carries start (text ++ piece.now) new self.new }

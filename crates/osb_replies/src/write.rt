@@ -24,8 +24,8 @@ pub struct WriteFault {
 
 /// Adds the lines with which a reply begins, up to the one with its body's length.
 fn put_front<W: Sink>(stage: &mut Stage, sink: &mut W, status: Status, size: usize)
-    ensures { let old = seen (W.taken sink.old) (W.writes sink.old) (W.fruitless sink.old) (W.room sink.old) in
-        let new = seen (W.taken sink.new) (W.writes sink.new) (W.fruitless sink.new) (W.room sink.new) in
+    ensures { let old = seen (W.taken sink.old) (W.writes sink.old) (W.failed_or_empty sink.old) (W.room sink.old) in
+        let new = seen (W.taken sink.new) (W.writes sink.new) (W.failed_or_empty sink.new) (W.room sink.new) in
         (start : Seen) (text : List ℕ) →
         Carries start text old stage.old →
         Carries start (text ++ (status_line status ++ type_line ++ length_line size)) new stage.new }
@@ -47,8 +47,8 @@ fn put_front<W: Sink>(stage: &mut Stage, sink: &mut W, status: Status, size: usi
 
 /// Adds the line that repeats the request's identity, where it has one.
 fn put_echo<W: Sink>(stage: &mut Stage, sink: &mut W, echo: Option<&[u8]>)
-    ensures { let old = seen (W.taken sink.old) (W.writes sink.old) (W.fruitless sink.old) (W.room sink.old) in
-        let new = seen (W.taken sink.new) (W.writes sink.new) (W.fruitless sink.new) (W.room sink.new) in
+    ensures { let old = seen (W.taken sink.old) (W.writes sink.old) (W.failed_or_empty sink.old) (W.room sink.old) in
+        let new = seen (W.taken sink.new) (W.writes sink.new) (W.failed_or_empty sink.new) (W.room sink.new) in
         (start : Seen) (text : List ℕ) →
         Carries start text old stage.old →
         Carries start (text ++ echo_line (option_copied echo.entry)) new stage.new }
@@ -62,8 +62,8 @@ fn put_echo<W: Sink>(stage: &mut Stage, sink: &mut W, echo: Option<&[u8]>)
 
 /// Adds the text of a reply.
 fn put_reply<W: Sink>(stage: &mut Stage, sink: &mut W, reply: &Reply<'_>)
-    ensures { let old = seen (W.taken sink.old) (W.writes sink.old) (W.fruitless sink.old) (W.room sink.old) in
-        let new = seen (W.taken sink.new) (W.writes sink.new) (W.fruitless sink.new) (W.room sink.new) in
+    ensures { let old = seen (W.taken sink.old) (W.writes sink.old) (W.failed_or_empty sink.old) (W.room sink.old) in
+        let new = seen (W.taken sink.new) (W.writes sink.new) (W.failed_or_empty sink.new) (W.room sink.new) in
         (start : Seen) (text : List ℕ) →
         Carries start text old stage.old →
         Carries start (text ++ reply_text (parts reply.now)) new stage.new }
@@ -81,10 +81,10 @@ fn put_reply<W: Sink>(stage: &mut Stage, sink: &mut W, reply: &Reply<'_>)
 /// the sink in one. It takes no memory.
 pub fn write_reply<W: Sink>(sink: &mut W, reply: &Reply<'_>) -> Result<(), WriteFault>
     ensures sent { OnOk result (W.taken sink.new ≡ W.taken sink.old ++ reply_text (parts reply.now)) }
-    ensures quiet { OnOk result (W.fruitless sink.new ≡ W.fruitless sink.old) }
+    ensures quiet { OnOk result (W.failed_or_empty sink.new ≡ W.failed_or_empty sink.old) }
     ensures cut { IfErr result (λ fault.
         WroteFirst (W.taken sink.old) (W.taken sink.new) (reply_text (parts reply.now)) fault.written) }
-    ensures cause { OnErr result (W.fruitless sink.old < W.fruitless sink.new) }
+    ensures cause { OnErr result (W.failed_or_empty sink.old < W.failed_or_empty sink.new) }
     ensures short { OnErr result (W.room sink.old < length (reply_text (parts reply.now))) }
     ensures room_left { OnOk result
         (W.room sink.old ≤ W.room sink.new + length (reply_text (parts reply.now))) }

@@ -16,18 +16,18 @@ use Rattle.osb_catalog.specs.Rules.{Rules}
 use Rattle.osb_orders.specs.Lives.{Lives}
 use Rattle.osb_laws.specs.Failures.{is_500}
 use Rattle.osb_records.specs.Commit.{Commits}
-use Rattle.osb_records.specs.Kept.{KeepsLives}
-use Rattle.osb_records.specs.Steps.{HoldsLives, LeavesOnly}
+use Rattle.osb_records.specs.CrashLeaves.{KeepsLives}
+use Rattle.osb_statements.specs.Steps.{HoldsLives, LeavesOnly}
 use Rattle.osb_broker.specs.ActsOnce.{Carried}
 use Rattle.osb_broker.specs.Answering.{WritesText}
 use Rattle.osb_broker.specs.Connection.{ConnectionText, GoesOn, ends, faults, answers}
-use Rattle.osb_broker.specs.Kept.{IsShut, Works}
+use Rattle.osb_broker.specs.BrokerState.{IsShut, Works}
 use Rattle.osb_broker.specs.Machine.{Answered, Handled, MayReply, fault_reply, reply_of}
 use Rattle.osb_broker.specs.Refusals.{NeverFails}
 use Rattle.osb_broker.specs.Steps.{machine, lives_after}
 use Rattle.osb_restart.specs.Inside.{Attempted}
 
--- a fault that is told stands there
+-- a fault that is reported stands there
 pub told_here : (limits : Limits) (bytes : List ℕ) (over : Bool) (f : StopKind) → FaultStays limits bytes over f → IsFront limits bytes (fault f)
 told_here limits bytes over f (inl each) = subst (λ l. IsFront limits l (fault f)) (append-nil bytes) (each [])
 told_here limits bytes over f (inr here) = here.0

@@ -8,7 +8,7 @@ use Rattle.osb_catalog.specs.Sound.{AreSound}
 use Rattle.osb_orders.specs.Lives.{Lives}
 use Rattle.osb_orders.specs.IsLife.{IsLives}
 use Rattle.osb_broker.specs.Apart.{AsksOf}
-use Rattle.osb_broker.specs.Attempts.{Outcome, answered, failed, lost, Attempt, is_answered, connections_of, AreOf, was_answered}
+use Rattle.osb_broker.specs.Attempts.{AttemptOutcome, answered, failed, lost, Attempt, is_answered, connections_of, AreOf, was_answered}
 use Rattle.osb_broker.specs.Histories.{Picks}
 use Rattle.osb_broker.specs.ActsOnce.{RequestsActOnce}
 use Rattle.osb_restart.specs.Lived.{PutsOut, PutOut, Lived, AreOrOthers, GotAnswer, AnswersActOnce}
@@ -32,7 +32,7 @@ module _ (Such : List ℕ → Type 0) (bytes : List ℕ) (such : Such bytes) whe
   sure : (a : Attempt) (output : List ℕ) → PutsOut a.outcome output → output ≢ reply_text refused → is_answered a ≡ true
   sure a output told other = by a.outcome told
     where
-      by : (o : Outcome) → PutsOut o output → is_answered (record { bytes = a.bytes; outcome = o }) ≡ true
+      by : (o : AttemptOutcome) → PutsOut o output → is_answered (record { bytes = a.bytes; outcome = o }) ≡ true
       by (answered texts) told = refl
       by failed told = absurd (other told)
       by lost told = absurd (other told)

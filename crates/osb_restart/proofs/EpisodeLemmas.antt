@@ -13,14 +13,14 @@ use Rattle.osb_replies.specs.Parts.{refused}
 use Rattle.osb_replies.specs.Text.{reply_text}
 use Rattle.osb_catalog.specs.Rules.{Rules}
 use Rattle.osb_orders.specs.Lives.{Lives}
-use Rattle.osb_records.specs.Kept.{KeepsLives}
-use Rattle.osb_records.specs.Steps.{HoldsLives}
+use Rattle.osb_records.specs.CrashLeaves.{KeepsLives}
+use Rattle.osb_statements.specs.Steps.{HoldsLives}
 use Rattle.osb_broker.specs.Attempts.{answered, failed, lost}
 use Rattle.osb_broker.specs.ActsOnce.{Carried, ConnectionsLeaveOne}
-use Rattle.osb_broker.specs.Kept.{Works}
+use Rattle.osb_broker.specs.BrokerState.{Works}
 use Rattle.osb_restart.specs.Lived.{Lived}
-use Rattle.osb_restart.specs.Inside.{Attempted, Reached, GoesOn}
-use Rattle.osb_restart.specs.Restart.{LeavesFound, MayFind}
+use Rattle.osb_restart.specs.Inside.{Attempted, HasHistory, Extends}
+use Rattle.osb_restart.specs.Restart.{LeavesFound, MayLeaveLives}
 use Rattle.osb_restart.proofs.FoundLemmas.{held_are_found}
 use Rattle.osb_restart.proofs.LivedLemmas.{none_lived, lived_then}
 
@@ -43,7 +43,7 @@ flat x f = ∥∥₁_elim x ∥∥₁_prop f
 
 module _ (rules : Rules) (limits : Limits) where
   -- where it begins
-  pub begins : (now : State) (lives : Lives) → (Works now → KeepsLives now lives) → Works now → Reached rules limits now lives lives [] []
+  pub begins : (now : State) (lives : Lives) → (Works now → KeepsLives now lives) → Works now → HasHistory rules limits now lives lives [] []
   begins now lives kept works = record {
     left = λ clean db may. ∣ (lives, kept works db may, none_lived rules limits lives) ∣₁;
     shown = λ works. ∣ none_lived rules limits lives ∣₁;
@@ -51,7 +51,7 @@ module _ (rules : Rules) (limits : Limits) where
 
   module _ (old new : State) (before after lives : Lives) (connections outputs : List (List ℕ)) where
     -- a call that leaves the lives
-    pub passes : (Works new → Works old) → (Works new → after ≡ before) → Survives old new (λ _. ⊥) → Reached rules limits old before lives connections outputs → Reached rules limits new after lives connections outputs
+    pub passes : (Works new → Works old) → (Works new → after ≡ before) → Survives old new (λ _. ⊥) → HasHistory rules limits old before lives connections outputs → HasHistory rules limits new after lives connections outputs
     passes works same survives reached = record {
       left = λ clean db may. elim (survives.crash clean db may) [
         | inl was ↦ reached.left (omega (arith, clean, survives.clean)) db was
@@ -61,7 +61,7 @@ module _ (rules : Rules) (limits : Limits) where
     }
 
     -- a stop and a start
-    restarts : (HasCleanDisk new → HasCleanDisk old) → (HasCleanDisk new → IsTrue new.is_open → MayFind old after) → (HasCleanDisk new → LeavesFound old new) → Reached rules limits old before lives connections outputs → Reached rules limits new after lives connections outputs
+    restarts : (HasCleanDisk new → HasCleanDisk old) → (HasCleanDisk new → IsTrue new.is_open → MayLeaveLives old after) → (HasCleanDisk new → LeavesFound old new) → HasHistory rules limits old before lives connections outputs → HasHistory rules limits new after lives connections outputs
     restarts clean found left reached = record {
       left = λ now db may. flat (left now db may) (λ was. ∥∥₁_map (reached.left (clean now) was.0 was.1) (λ l. (l.0, was.2 l.0 l.1, l.2)));
       shown = λ works. flat (found works.clean works.live) (λ at. ∥∥₁_map (reached.left (clean works.clean) at.0 at.1)
@@ -69,25 +69,25 @@ module _ (rules : Rules) (limits : Limits) where
     }
 
   -- connections, and then a stop and a start
-  pub restarted_then : {X : Type 0} (old mid : State) (before between : Lives) (more outputs later : List (List ℕ)) (result : Option X) (state_of : X → State) (lives_of : X → Lives) → GoesOn rules limits old before mid between more outputs later
+  pub restarted_then : {X : Type 0} (old mid : State) (before between : Lives) (more outputs later : List (List ℕ)) (result : Option X) (state_of : X → State) (lives_of : X → Lives) → Extends rules limits old before mid between more outputs later
       → IfSome result (λ again. HasCleanDisk (state_of again) → HasCleanDisk mid)
-      → IfSome result (λ again. HasCleanDisk (state_of again) → IsTrue (state_of again).is_open → MayFind mid (lives_of again))
+      → IfSome result (λ again. HasCleanDisk (state_of again) → IsTrue (state_of again).is_open → MayLeaveLives mid (lives_of again))
       → IfSome result (λ again. HasCleanDisk (state_of again) → LeavesFound mid (state_of again))
-      → IfSome result (λ again. GoesOn rules limits old before (state_of again) (lives_of again) more outputs later)
+      → IfSome result (λ again. Extends rules limits old before (state_of again) (lives_of again) more outputs later)
   restarted_then old mid before between more outputs later None state_of lives_of goes clean found left = tt
   restarted_then old mid before between more outputs later (Some again) state_of lives_of goes clean found left = λ lives connections reached.
       restarts mid (state_of again) between (lives_of again) lives (connections ++ more) later clean found left (goes lives connections reached)
 
   -- one part after another
-  pub goes_then : (old mid new : State) (before between after : Lives) (first second all outputs earlier later : List (List ℕ)) → all ≡ first ++ second → GoesOn rules limits old before mid between first outputs earlier → GoesOn rules limits mid between new after second earlier later → GoesOn rules limits old before new after all outputs later
+  pub goes_then : (old mid new : State) (before between after : Lives) (first second all outputs earlier later : List (List ℕ)) → all ≡ first ++ second → Extends rules limits old before mid between first outputs earlier → Extends rules limits mid between new after second earlier later → Extends rules limits old before new after all outputs later
   goes_then old mid new before between after first second all outputs earlier later is goes more lives connections reached =
-      subst (λ l. Reached rules limits new after lives l later) (append_assoc connections first second ∙ ap (λ l. connections ++ l) (sym is)) (more lives (connections ++ first) (goes lives connections reached))
+      subst (λ l. HasHistory rules limits new after lives l later) (append_assoc connections first second ∙ ap (λ l. connections ++ l) (sym is)) (more lives (connections ++ first) (goes lives connections reached))
 
   -- nothing came
-  pub none_came : (now : State) (has : Lives) (outputs : List (List ℕ)) → GoesOn rules limits now has now has [] outputs outputs
-  none_came now has outputs lives connections reached = subst (λ l. Reached rules limits now has lives l outputs) (sym (append-nil connections)) reached
+  pub none_came : (now : State) (has : Lives) (outputs : List (List ℕ)) → Extends rules limits now has now has [] outputs outputs
+  none_came now has outputs lives connections reached = subst (λ l. HasHistory rules limits now has lives l outputs) (sym (append-nil connections)) reached
 
-  module _ (unique : ConnectionsLeaveOne) (old new : State) (before after s : Lives) (cs os : List (List ℕ)) (bytes output : List ℕ) (reached : Reached rules limits old before s cs os) (it : Attempted rules limits old new before after bytes output) where
+  module _ (unique : ConnectionsLeaveOne) (old new : State) (before after s : Lives) (cs os : List (List ℕ)) (bytes output : List ℕ) (reached : HasHistory rules limits old before s cs os) (it : Attempted rules limits old new before after bytes output) where
     abbrev More : Lives → Type 0
     More t = Lived rules limits s (cs ++ bytes ∷ []) (os ++ output ∷ []) t
 
@@ -114,7 +114,7 @@ module _ (rules : Rules) (limits : Limits) where
         ]
 
     -- one connection more
-    pub one_more : Reached rules limits new after s (cs ++ bytes ∷ []) (os ++ output ∷ [])
+    pub one_more : HasHistory rules limits new after s (cs ++ bytes ∷ []) (os ++ output ∷ [])
     one_more = record {
       left = λ clean db may. elim (it.crash clean db may) [
         | inl was ↦ by_left clean db may was
@@ -127,7 +127,7 @@ module _ (rules : Rules) (limits : Limits) where
     }
 
   -- one connection more goes on
-  pub goes_more : ConnectionsLeaveOne → (old mid new : State) (before between after : Lives) (first all outputs earlier later : List (List ℕ)) (bytes output : List ℕ) → all ≡ first ++ bytes ∷ [] → later ≡ earlier ++ output ∷ [] → GoesOn rules limits old before mid between first outputs earlier → Attempted rules limits mid new between after bytes output → GoesOn rules limits old before new after all outputs later
+  pub goes_more : ConnectionsLeaveOne → (old mid new : State) (before between after : Lives) (first all outputs earlier later : List (List ℕ)) (bytes output : List ℕ) → all ≡ first ++ bytes ∷ [] → later ≡ earlier ++ output ∷ [] → Extends rules limits old before mid between first outputs earlier → Attempted rules limits mid new between after bytes output → Extends rules limits old before new after all outputs later
   goes_more unique old mid new before between after first all outputs earlier later bytes output is grown goes it lives connections reached =
-      subst₂ (λ l o. Reached rules limits new after lives l o) (append_assoc connections first (bytes ∷ []) ∙ ap (λ l. connections ++ l) (sym is)) (sym grown)
+      subst₂ (λ l o. HasHistory rules limits new after lives l o) (append_assoc connections first (bytes ∷ []) ∙ ap (λ l. connections ++ l) (sym is)) (sym grown)
       (one_more unique mid new between after lives (connections ++ first) earlier bytes output (goes lives connections reached) it)

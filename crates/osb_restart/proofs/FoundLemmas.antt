@@ -9,13 +9,13 @@ use Rattle.osb_tables.specs.Tables.{no_schema, second_schema}
 use Rattle.osb_tables.specs.declared.schema.Indexes.TheVariants.{Both}
 use Rattle.osb_tables.proofs.SchemaLemmas.{versions_apart, second_is_something}
 use Rattle.osb_orders.specs.Lives.{Lives}
-use Rattle.osb_records.specs.Stored.{lives_stored}
-use Rattle.osb_records.specs.Kept.{KeepsLives}
-use Rattle.osb_records.specs.Opened.{HoldsSame, StandIn}
-use Rattle.osb_records.specs.Steps.{HoldsLives}
+use Rattle.osb_statements.specs.Stored.{lives_stored}
+use Rattle.osb_records.specs.CrashLeaves.{KeepsLives}
+use Rattle.osb_records.specs.Opened.{HoldsSame, AreLivesOfDatabase}
+use Rattle.osb_statements.specs.Steps.{HoldsLives}
 use Rattle.osb_file.specs.File.{AreLivesOf}
 use Rattle.osb_file.proofs.FileLemmas.{opened_stand}
-use Rattle.osb_restart.specs.Restart.{MayFind}
+use Rattle.osb_restart.specs.Restart.{MayLeaveLives}
 use Rattle.osb_restart.proofs.LivesLemmas.{Lives-set}
 
 -- trees are a database of one schema, so where they hold lives no others stand in them
@@ -25,7 +25,7 @@ stored_are_found db lives found holds stand = go stand.2
     schema : stand.0 ≡ second_schema
     schema = lists_once _ _ _ stand.1.lists holds.sound.lists
 
-    go : StandIn (record { schema = stand.0; trees = db }) found → found ≡ lives_stored db
+    go : AreLivesOfDatabase (record { schema = stand.0; trees = db }) found → found ≡ lives_stored db
     go (inl none) = absurd (second_is_something Both (sym schema ∙ none.0))
     go (inr (inl first)) = absurd (versions_apart first.0.0 Both (sym first.0.1 ∙ schema))
     go (inr (inr second)) = second.2
@@ -46,11 +46,11 @@ where_ok (Ok value) P told holds = holds
 where_ok (Err error) P told holds = absurd (false≢true told)
 
 -- what is kept is found
-pub finds_kept : (s : State) (lives found : Lives) → KeepsLives s lives → MayFind s found → found ≡ lives
+pub finds_kept : (s : State) (lives found : Lives) → KeepsLives s lives → MayLeaveLives s found → found ≡ lives
 finds_kept s lives found keeps may = ∥∥₁_elim may (Lives-set found lives) (λ it. held_are_found it.0 lives found (keeps it.0 it.1) it.2)
 
 module _ (old new : State) (before after found : Lives) (Commits : Trees → Type 0) (holds : (db : Trees) → Commits db → HoldsLives after db)
-    (keeps : KeepsLives old before) (survives : Survives old new Commits) (clean : HasCleanDisk new) (may : MayFind new found) where
+    (keeps : KeepsLives old before) (survives : Survives old new Commits) (clean : HasCleanDisk new) (may : MayLeaveLives new found) where
   -- the lives are those before a call or those after it
   pub finds_either : ∥ (found ≡ before) ⊎ (found ≡ after) ∥₁
   finds_either = ∥∥₁_map may (λ it. let r : (found ≡ before) ⊎ (found ≡ after) = elim (survives.crash clean it.0 it.1) [

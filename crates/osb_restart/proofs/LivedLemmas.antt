@@ -3,7 +3,7 @@ use Rattle.std.proofs.Common.{◌≡◌, ℕ, List, [], ◌∷◌, ◌++◌, ref
 use Rattle.osb_frames.specs.declared.limits.Limits.{Limits}
 use Rattle.osb_catalog.specs.Rules.{Rules}
 use Rattle.osb_orders.specs.Lives.{Lives}
-use Rattle.osb_broker.specs.Attempts.{Outcome, Attempt, connections_of}
+use Rattle.osb_broker.specs.Attempts.{AttemptOutcome, Attempt, connections_of}
 use Rattle.osb_broker.specs.Histories.{Leaves, History}
 use Rattle.osb_broker.specs.ActsOnce.{Carried}
 use Rattle.osb_restart.specs.Lived.{PutsOut, PutOut, Lived}
@@ -28,7 +28,7 @@ module _ (rules : Rules) (limits : Limits) where
   none_lived s = record { attempts = []; are = refl; told = tt; is = refl }
 
   -- one attempt more
-  pub lived_then : (s u t : Lives) (connections outputs : List (List ℕ)) (bytes output : List ℕ) (outcome : Outcome) → Lived rules limits s connections outputs u → Leaves (Carried rules limits) u bytes outcome t → PutsOut outcome output → Lived rules limits s (connections ++ bytes ∷ []) (outputs ++ output ∷ []) t
+  pub lived_then : (s u t : Lives) (connections outputs : List (List ℕ)) (bytes output : List ℕ) (outcome : AttemptOutcome) → Lived rules limits s connections outputs u → Leaves (Carried rules limits) u bytes outcome t → PutsOut outcome output → Lived rules limits s (connections ++ bytes ∷ []) (outputs ++ output ∷ []) t
   lived_then s u t connections outputs bytes output outcome lived leaves tells =
       let last : Attempt = record { bytes = bytes; outcome = outcome } in
       record {

@@ -4,7 +4,7 @@ use Rattle.std.proofs.lemmas.Bool.{false≢true}
 use Rattle.std.proofs.lemmas.Slice.Eq.{bytes_eq-Decides}
 use Rattle.osb_replies.specs.Parts.{refused}
 use Rattle.osb_replies.specs.Text.{reply_text}
-use Rattle.osb_broker.specs.Attempts.{Outcome, answered, failed, lost, Attempt}
+use Rattle.osb_broker.specs.Attempts.{AttemptOutcome, answered, failed, lost, Attempt}
 use Rattle.osb_restart.specs.Lived.{PutsOut, PutOut, GotAnswer}
 
 abbrev a : List ℕ
@@ -13,7 +13,7 @@ a = 97 ∷ []
 abbrev b : List ℕ
 b = 98 ∷ []
 
-abbrev made : List ℕ → Outcome → Attempt
+abbrev made : List ℕ → AttemptOutcome → Attempt
 made bytes outcome = record { bytes = bytes; outcome = outcome }
 
 -- texts go out one after the other

@@ -8,10 +8,10 @@ use Rattle.osb_replies.specs.Parts.{refused}
 use Rattle.osb_replies.specs.Text.{reply_text}
 use Rattle.osb_catalog.specs.Rules.{Rules}
 use Rattle.osb_orders.specs.Lives.{Lives}
-use Rattle.osb_records.specs.Kept.{KeepsLives}
-use Rattle.osb_records.specs.Steps.{HoldsLives}
+use Rattle.osb_records.specs.CrashLeaves.{KeepsLives}
+use Rattle.osb_statements.specs.Steps.{HoldsLives}
 use Rattle.osb_broker.specs.ActsOnce.{Carried}
-use Rattle.osb_broker.specs.Kept.{Works}
+use Rattle.osb_broker.specs.BrokerState.{Works}
 use Rattle.osb_restart.specs.Lived.{Lived}
 
 -- What became of a connection that came while the store had these lives, if it worked: what a crash may leave, what was
@@ -29,11 +29,11 @@ pub record Attempted (rules : Rules) (limits : Limits) (old new : State) (before
 
 -- So far: whatever a crash leaves has a history of what came in and went out, and so have the lives that the store has, if
 -- it works.
-pub record Reached (rules : Rules) (limits : Limits) (now : State) (has lives : Lives) (connections outputs : List (List ℕ)) : Type 0 where
+pub record HasHistory (rules : Rules) (limits : Limits) (now : State) (has lives : Lives) (connections outputs : List (List ℕ)) : Type 0 where
   pub left : HasCleanDisk now → (db : Trees) → now.may_leave db → ∥ ((t : Lives) × HoldsLives t db × Lived rules limits lives connections outputs t) ∥₁
   pub shown : Works now → ∥ Lived rules limits lives connections outputs has ∥₁
 
 -- whatever was reached before, these connections were reached after it
-abbrev pub GoesOn : Rules → Limits → State → Lives → State → Lives → List (List ℕ) → List (List ℕ) → List (List ℕ) → Type 0
-GoesOn rules limits old before new after more outputs later = (lives : Lives) (connections : List (List ℕ)) →
-    Reached rules limits old before lives connections outputs → Reached rules limits new after lives (connections ++ more) later
+abbrev pub Extends : Rules → Limits → State → Lives → State → Lives → List (List ℕ) → List (List ℕ) → List (List ℕ) → Type 0
+Extends rules limits old before new after more outputs later = (lives : Lives) (connections : List (List ℕ)) →
+    HasHistory rules limits old before lives connections outputs → HasHistory rules limits new after lives (connections ++ more) later

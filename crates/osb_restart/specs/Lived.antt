@@ -6,14 +6,14 @@ use Rattle.osb_replies.specs.Parts.{refused}
 use Rattle.osb_replies.specs.Text.{reply_text}
 use Rattle.osb_catalog.specs.Rules.{Rules}
 use Rattle.osb_orders.specs.Lives.{Lives, life_of}
-use Rattle.osb_broker.specs.Attempts.{Outcome, answered, failed, lost, Attempt, connections_of}
+use Rattle.osb_broker.specs.Attempts.{AttemptOutcome, answered, failed, lost, Attempt, connections_of}
 use Rattle.osb_broker.specs.Histories.{History}
 use Rattle.osb_broker.specs.ActsOnce.{Carried}
 use Rattle.osb_broker.specs.Apart.{AsksOf}
 use Rattle.osb_broker.specs.Steps.{lives_after}
 
 -- an attempt that was answered puts out its texts, and any other the fixed 500
-abbrev pub PutsOut : Outcome → List ℕ → Type 0
+abbrev pub PutsOut : AttemptOutcome → List ℕ → Type 0
 PutsOut (answered texts) output = output ≡ concat texts
 PutsOut failed output = output ≡ reply_text refused
 PutsOut lost output = output ≡ reply_text refused

@@ -2,12 +2,12 @@
 use Rattle.sqlite.specs.Tree.{Trees}
 use Rattle.sqlite.specs.State.{State}
 use Rattle.osb_orders.specs.Lives.{Lives}
-use Rattle.osb_records.specs.Steps.{HoldsLives}
+use Rattle.osb_statements.specs.Steps.{HoldsLives}
 use Rattle.osb_file.specs.File.{AreLivesOf}
 
 -- a crash may leave a database in which these lives stand
-abbrev pub MayFind : State → Lives → Type 0
-MayFind s lives = ∥ ((db : Trees) × s.may_leave db × AreLivesOf db lives) ∥₁
+abbrev pub MayLeaveLives : State → Lives → Type 0
+MayLeaveLives s lives = ∥ ((db : Trees) × s.may_leave db × AreLivesOf db lives) ∥₁
 
 -- what a crash of the next run may leave holds the lives of something that a crash could leave before
 abbrev pub LeavesFound : State → State → Type 0

@@ -6,7 +6,7 @@ ghost use Rattle.sqlite.specs.Files.{file_state};
 ghost use Rattle.osb_orders.specs.Lives.{life_of};
 ghost use Rattle.osb_orders.specs.Changed.{lives_changed};
 ghost use Rattle.osb_orders.specs.IsLife.{IsLives};
-ghost use Rattle.osb_records.specs.Steps.{stored};
+ghost use Rattle.osb_statements.specs.Steps.{stored};
 ghost use Rattle.osb_records.specs.Commit.{FinishesLast};
 
 use crate::restart::restarted;
@@ -32,7 +32,7 @@ pub fn committed_and_restarted<D: Crash + Drop>(
     ensures acknowledged { IfSome result (λ run. IsTrue run.0 → HasCleanDisk (file_state run.1) → IsTrue (file_state run.1).is_open → IsTrue (file_state records).is_open
         → stored (file_state run.1) ≡ lives_changed change.now instance.now (stored (file_state records))) }
 {
-    records.are_whole();
+    records.lives_are_whole();
     let acknowledged = records.commit(instance, change).is_ok();
     let again = restarted(alloc, records, options)?;
     Some((acknowledged, again))

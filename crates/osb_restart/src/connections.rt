@@ -2,16 +2,16 @@
 
 ghost use Rattle.std.specs.Prelude.{◌≡◌, [], map, vec_items, IfOk, IfSome, OnOk};
 ghost use Rattle.sqlite.specs.Held.{state};
-ghost use Rattle.osb_frames.specs.Kept.{bytes_of};
+ghost use Rattle.osb_frames.specs.InMemory.{bytes_of};
 ghost use Rattle.osb_catalog.specs.Rules as catalog;
-ghost use Rattle.osb_records.specs.Steps.{stored};
-ghost use Rattle.osb_broker.specs.Kept.{lives_of, rules_of, store_of};
-ghost use Rattle.osb_restart.specs.Inside.{Attempted, GoesOn};
+ghost use Rattle.osb_statements.specs.Steps.{stored};
+ghost use Rattle.osb_broker.specs.BrokerState.{lives_of, rules_in, store_of};
+ghost use Rattle.osb_restart.specs.Inside.{Attempted, Extends};
 
 use osb_broker::refuse::refuse;
 use osb_broker::{Broker, histories, never_fails};
 use osb_catalog::Settings;
-use osb_frames::{Kept, Limits, Step, next};
+use osb_frames::{InMemory, Limits, Step, next};
 use osb_records::Records;
 use osb_replies::{WriteFault, write_reply};
 use sqlite::Alter;
@@ -22,16 +22,16 @@ fn answer_into<S: Alter>(
     broker: &mut Broker<'_, S>,
     limits: &Limits,
     bytes: &[u8],
-    output: &mut Kept,
+    output: &mut InMemory,
 ) -> Result<(), WriteFault>
     requires { bytes_of output.old ≡ [] }
-    ensures attempted { OnOk result (Attempted (rules_of broker.old) limits.now
+    ensures attempted { OnOk result (Attempted (rules_in broker.old) limits.now
         (store_of S.Store broker.old) (store_of S.Store broker.new) (lives_of S.Store broker.old)
         (lives_of S.Store broker.new) bytes.now (bytes_of output.new)) }
-    ensures rules { rules_of broker.new ≡ rules_of broker.old }
+    ensures rules { rules_in broker.new ≡ rules_in broker.old }
 {
     never_fails();
-    broker.are_whole();
+    broker.lives_are_whole();
     match next(bytes, true, limits) {
         Step::Whole(request, _) => write_reply(output, &broker.handle(&request, true)),
         Step::Stop(kind) => refuse(output, kind),
@@ -47,12 +47,12 @@ fn output_of<S: Alter>(
     limits: &Limits,
     bytes: &[u8],
 ) -> Result<Vec<u8>, AllocError>
-    ensures attempted { IfOk result (λ output. Attempted (rules_of broker.old) limits.now
+    ensures attempted { IfOk result (λ output. Attempted (rules_in broker.old) limits.now
         (store_of S.Store broker.old) (store_of S.Store broker.new) (lives_of S.Store broker.old)
         (lives_of S.Store broker.new) bytes.now output.items) }
-    ensures rules { rules_of broker.new ≡ rules_of broker.old }
+    ensures rules { rules_in broker.new ≡ rules_in broker.old }
 {
-    let mut output = Kept::new(Vec::new(alloc));
+    let mut output = InMemory::new(Vec::new(alloc));
     match answer_into(broker, limits, bytes, &mut output) {
         Ok(()) => Ok(output.into_bytes()),
         Err(_) => Err(AllocError),
@@ -67,7 +67,7 @@ fn serve_each<S: Alter>(
     connections: &[Vec<u8>],
     outputs: &mut Vec<Vec<u8>>,
 ) -> Result<(), AllocError>
-    ensures { OnOk result (GoesOn (rules_of broker.old) limits.now (store_of S.Store broker.old)
+    ensures { OnOk result (Extends (rules_in broker.old) limits.now (store_of S.Store broker.old)
         (lives_of S.Store broker.old) (store_of S.Store broker.new) (lives_of S.Store broker.new)
         (map vec_items connections.now) (map vec_items outputs.old.items)
         (map vec_items outputs.new.items)) }
@@ -89,7 +89,7 @@ pub(crate) fn served<S: Alter + Drop>(
     connections: &[Vec<u8>],
     outputs: &mut Vec<Vec<u8>>,
 ) -> Option<Records<S>>
-    ensures { IfSome result (λ left. GoesOn (catalog.rules_of settings.now) limits.now
+    ensures { IfSome result (λ left. Extends (catalog.rules_of settings.now) limits.now
         (state S.Store records) (stored (state S.Store records)) (state S.Store left)
         (stored (state S.Store left)) (map vec_items connections.now)
         (map vec_items outputs.old.items) (map vec_items outputs.new.items)) }

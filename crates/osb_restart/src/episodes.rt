@@ -4,10 +4,10 @@ ghost use Rattle.std.specs.Prelude.{[], flat_map, map, vec_items, IfSome};
 ghost use Rattle.sqlite.specs.Files.{file_state};
 ghost use Rattle.osb_frames.specs.declared.limits.Limits.{Limits};
 ghost use Rattle.osb_catalog.specs.Rules.{rules_of};
-ghost use Rattle.osb_records.specs.Steps.{stored};
-ghost use Rattle.osb_broker.specs.Kept.{Works};
+ghost use Rattle.osb_statements.specs.Steps.{stored};
+ghost use Rattle.osb_broker.specs.BrokerState.{Works};
 ghost use Rattle.osb_broker.specs.Served.{AreStandard};
-ghost use Rattle.osb_restart.specs.Inside.{GoesOn};
+ghost use Rattle.osb_restart.specs.Inside.{Extends};
 ghost use Rattle.osb_restart.specs.Lived.{AnswersActOnce, Lived};
 
 use crate::connections::served;
@@ -30,7 +30,7 @@ fn episode<D: Crash + Drop>(
     outputs: &mut Vec<Vec<u8>>,
     options: Options,
 ) -> Option<Records<FileStore<D>>>
-    ensures { IfSome result (λ again. GoesOn (rules_of settings.now) limits.now
+    ensures { IfSome result (λ again. Extends (rules_of settings.now) limits.now
         (file_state records) (stored (file_state records)) (file_state again)
         (stored (file_state again)) (map vec_items connections.now)
         (map vec_items outputs.old.items) (map vec_items outputs.new.items)) }
@@ -48,7 +48,7 @@ fn lived_within<D: Crash + Drop>(
     episodes: &[Vec<Vec<u8>>],
     options: Options,
 ) -> Option<(Vec<Vec<u8>>, Records<FileStore<D>>)>
-    ensures { IfSome result (λ run. GoesOn (rules_of settings.now) limits.now
+    ensures { IfSome result (λ run. Extends (rules_of settings.now) limits.now
         (file_state records) (stored (file_state records)) (file_state run.1)
         (stored (file_state run.1)) (map vec_items (flat_map vec_items episodes.now)) []
         (map vec_items run.0.items)) }
@@ -101,7 +101,7 @@ pub fn lived_through<D: Crash + Drop>(
     histories();
     // Its contract says that the settings are sound.
     let _ = settings.order_limit();
-    records.are_whole();
+    records.lives_are_whole();
     lived_within(
         alloc,
         settings,

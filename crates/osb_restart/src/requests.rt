@@ -6,9 +6,9 @@ ghost use Rattle.osb_frames.specs.declared.limits.Limits.{Limits};
 ghost use Rattle.osb_frames.specs.Cuts.{IsFront, whole};
 ghost use Rattle.osb_frames.specs.Steps.{message};
 ghost use Rattle.osb_replies.specs.declared.status.Status.TheVariants.{InternalServerError};
-ghost use Rattle.osb_records.specs.Steps.{stored};
+ghost use Rattle.osb_statements.specs.Steps.{stored};
 ghost use Rattle.osb_broker.specs.ActsOnce.{IsAttempt};
-ghost use Rattle.osb_broker.specs.Kept.{Works, lives_of, rules_of, store_of};
+ghost use Rattle.osb_broker.specs.BrokerState.{Works, lives_of, rules_in, store_of};
 ghost use Rattle.osb_broker.specs.Steps.{lives_after};
 
 use crate::restart::restarted;
@@ -32,15 +32,15 @@ pub fn handled_and_restarted<D: Crash + Drop>(
     options: Options,
 ) -> Option<(Status, Records<FileStore<D>>)>
     ensures either { IfSome result (λ run. Works (store_of over_files broker.entry) → Works (file_state run.1)
-        → ∥ (stored (file_state run.1) ≡ lives_of over_files broker.entry) ⊎ (stored (file_state run.1) ≡ lives_after (rules_of broker.entry) (lives_of over_files broker.entry) (message request.now)) ∥₁) }
+        → ∥ (stored (file_state run.1) ≡ lives_of over_files broker.entry) ⊎ (stored (file_state run.1) ≡ lives_after (rules_in broker.entry) (lives_of over_files broker.entry) (message request.now)) ∥₁) }
     ensures answered { IfSome result (λ run. run.0 ≢ InternalServerError → Works (store_of over_files broker.entry) → Works (file_state run.1)
-        → stored (file_state run.1) ≡ lives_after (rules_of broker.entry) (lives_of over_files broker.entry) (message request.now)) }
+        → stored (file_state run.1) ≡ lives_after (rules_in broker.entry) (lives_of over_files broker.entry) (message request.now)) }
     ensures attempt { IfSome result (λ run. Works (store_of over_files broker.entry) → Works (file_state run.1)
         → (limits : Limits) (bytes : List ℕ) (n : ℕ) → IsFront limits bytes (whole (message request.now) n)
-        → ∥ IsAttempt (rules_of broker.entry) limits (lives_of over_files broker.entry) bytes run.0 (stored (file_state run.1)) ∥₁) }
+        → ∥ IsAttempt (rules_in broker.entry) limits (lives_of over_files broker.entry) bytes run.0 (stored (file_state run.1)) ∥₁) }
 {
     histories();
-    broker.are_whole();
+    broker.lives_are_whole();
     let status = broker.handle(request, last).status;
     let again = restarted(alloc, broker.into_records(), options)?;
     Some((status, again))

@@ -21,7 +21,7 @@ use Rattle.osb_orders.specs.Listing.{is_listed as is_order_listed}
 use Rattle.osb_orders.specs.IsLife.{IsLifeAfter, IsInstance, IsLives}
 use Rattle.osb_standing.specs.declared.row.InstanceRow.{InstanceRow}
 use Rattle.osb_standing.specs.Rows.{row_by}
-use Rattle.osb_standing.specs.Listing.{with_row, is_listed, with_order}
+use Rattle.osb_standing.specs.Listing.{with_its_row, is_listed_row, with_order}
 use Rattle.osb_standing.specs.Laws.{ListedByRows}
 
 abbrev by_bytes : List ℕ → List ℕ → Ordering
@@ -60,8 +60,8 @@ abbrev paired : List ℕ → Order → List ℕ × Order
 paired at o = (at, o)
 
 listed : (lives : Lives) (after at : List ℕ) (life : Life) → IsLifeAfter [] life → life_of lives at ≡ life → (pairs : List (List ℕ × Order)) (rows : List (List ℕ × InstanceRow)) →
-    filter (is_order_listed after) pairs ≡ filter_map (with_order lives) (filter (is_listed after) rows) →
-    filter (is_order_listed after) (cons_option (with_last (at, life)) pairs) ≡ filter_map (with_order lives) (filter (is_listed after) (cons_option (with_row (at, life)) rows))
+    filter (is_order_listed after) pairs ≡ filter_map (with_order lives) (filter (is_listed_row after) rows) →
+    filter (is_order_listed after) (cons_option (with_last (at, life)) pairs) ≡ filter_map (with_order lives) (filter (is_listed_row after) (cons_option (with_its_row (at, life)) rows))
 listed lives after at [] h found pairs rows same = same
 listed lives after at (o ∷ later) h found pairs rows same =
     by (is_now Running (last_from o later) && is_gt (by_bytes at after))
@@ -76,8 +76,8 @@ listed lives after at (o ∷ later) h found pairs rows same =
     order = ap (λ (life : Life). option_map (paired at) (order_numbered (last_from o later).number life)) found
         ∙ ap (option_map (paired at)) (numbered_last [] later o (last_from o later).number h (last_number [] later o h))
 
-    by : (b : Bool) → cond b ((at, last) ∷ filter (is_order_listed after) pairs) (filter (is_order_listed after) pairs) ≡ filter_map (with_order lives) (cond b ((at, row) ∷ filter (is_listed after) rows) (filter (is_listed after) rows))
-    by true = (λ i. (at, last) ∷ same i) ∙ ap (λ p. cons_option p (filter_map (with_order lives) (filter (is_listed after) rows))) (sym order)
+    by : (b : Bool) → cond b ((at, last) ∷ filter (is_order_listed after) pairs) (filter (is_order_listed after) pairs) ≡ filter_map (with_order lives) (cond b ((at, row) ∷ filter (is_listed_row after) rows) (filter (is_listed_row after) rows))
+    by true = (λ i. (at, last) ∷ same i) ∙ ap (λ p. cons_option p (filter_map (with_order lives) (filter (is_listed_row after) rows))) (sym order)
     by false = same
 
 entry_life : (id : List ℕ) (life : Life) (found : Option Life) → found ≡ Some life → IfSome found (IsInstance id) → IsLifeAfter [] life
@@ -85,11 +85,11 @@ entry_life id life None e h = cc
 entry_life id life (Some other) e h = let f : other ≡ life = cc in subst (IsLifeAfter []) f h.life.orders
 
 all_listed : (lives : Lives) (after : List ℕ) (es : List (List ℕ × Life)) → IsLives lives → AllFound lives es →
-    filter (is_order_listed after) (filter_map with_last es) ≡ filter_map (with_order lives) (filter (is_listed after) (filter_map with_row es))
+    filter (is_order_listed after) (filter_map with_last es) ≡ filter_map (with_order lives) (filter (is_listed_row after) (filter_map with_its_row es))
 unfolding AllFound
 all_listed lives after [] h found = refl
 all_listed lives after (e ∷ es) h found =
-    listed lives after e.0 e.1 (entry_life e.0 e.1 (get lives e.0) found.0 (h e.0)) (ap (λ life. unwrap_or life []) found.0) (filter_map with_last es) (filter_map with_row es) (all_listed lives after es h found.1)
+    listed lives after e.0 e.1 (entry_life e.0 e.1 (get lives e.0) found.0 (h e.0)) (ap (λ life. unwrap_or life []) found.0) (filter_map with_last es) (filter_map with_its_row es) (all_listed lives after es h found.1)
 
 -- Each entry of a list in order is what a look-up finds in it
 

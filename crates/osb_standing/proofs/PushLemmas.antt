@@ -22,7 +22,7 @@ use Rattle.osb_standing.specs.declared.row.BindingEdit.TheVariants.{Keep, Put, R
 use Rattle.osb_standing.specs.Rows.{birth_failed}
 use Rattle.osb_standing.specs.Instance.{stands, standing_over, standing_after}
 use Rattle.osb_standing.specs.Binding.{binding_by, edit_over}
-use Rattle.osb_standing.specs.Binding.{in_phase as binding_in_phase}
+use Rattle.osb_standing.specs.Binding.{with_binding_phase as binding_in_phase}
 use Rattle.osb_standing.proofs.LifeLemmas.{first_of, first_from_last}
 
 -- What is read off a list that has one more

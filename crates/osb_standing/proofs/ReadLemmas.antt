@@ -19,7 +19,7 @@ use Rattle.osb_orders.specs.Bindings.{binding_of}
 use Rattle.osb_orders.specs.Lives.{Lives, named_life}
 use Rattle.osb_orders.specs.Named.{instance_in, binding_in}
 use Rattle.osb_orders.specs.Listing.{listing_for}
-use Rattle.osb_orders.specs.Facts.{Facts, listing_in, view_of}
+use Rattle.osb_orders.specs.ViewData.{ViewData, listing_in, view_of}
 use Rattle.osb_orders.specs.IsLife.{is_empty, IsLife, IsInstance, IsLives}
 use Rattle.osb_standing.specs.declared.read.Read.{Read}
 use Rattle.osb_standing.specs.Rows.{row_of, standing_in, Bindings, with_binding, bindings_named, bindings_of}
@@ -109,7 +109,7 @@ named_is_life : (lives : Lives) (at : Option (List ℕ)) → IsLives lives → I
 named_is_life lives None h = no_life
 named_is_life lives (Some id) h = life_found id (get lives id) (h id)
 
-pub view_is : (lives : Lives) (ask : Ask) (read : Read) (standing : Option Standing) (count : ℕ) (found : Facts) →
+pub view_is : (lives : Lives) (ask : Ask) (read : Read) (standing : Option Standing) (count : ℕ) (found : ViewData) →
     found ≡ record { standing = standing; last = read.last; binding = read.binding; named = read.named; subject_last = read.subject_last; count = count; bound = read.bound; listing = read.listing.items } →
     standing ≡ standing_in read.row → count ≡ count_in read.row → IsLives lives → IsReadFor lives ask read → found ≡ view_of lives ask
 view_is lives ask read standing count found is stands counts h r =

@@ -18,8 +18,8 @@ use Rattle.osb_standing.specs.Rows.{Bindings}
 abbrev pub binding_by : BindingPhase → Order → BindingNow
 binding_by now bind = record { phase = now; attributes = of_binding bind.attributes; credentials = bind.outcome.credentials }
 
-abbrev pub in_phase : BindingPhase → BindingNow → BindingNow
-in_phase now binding = record binding { phase = now }
+abbrev pub with_binding_phase : BindingPhase → BindingNow → BindingNow
+with_binding_phase now binding = record binding { phase = now }
 
 abbrev pub phase_of_bind : OrderState → BindingPhase
 phase_of_bind Running = phase.Binding
@@ -29,7 +29,7 @@ phase_of_bind Failed = phase.Failed
 -- another phase, where the binding has a row
 abbrev pub put_phase : BindingPhase → Option BindingNow → BindingEdit
 put_phase now None = Keep
-put_phase now (Some binding) = Put (in_phase now binding)
+put_phase now (Some binding) = Put (with_binding_phase now binding)
 
 -- by the kind of the order and how far it is
 abbrev pub edit_over : OrderKind → OrderState → Order → Option BindingNow → BindingEdit

@@ -3,7 +3,7 @@
 ghost use Rattle.std.specs.Prelude.{◌≡◌};
 ghost use Rattle.osb_asks.specs.declared.ask.Ask.{Ask};
 ghost use Rattle.osb_orders.specs.Lives.{Lives};
-ghost use Rattle.osb_orders.specs.Facts.{facts, view_of};
+ghost use Rattle.osb_orders.specs.ViewData.{data_in, view_of};
 ghost use Rattle.osb_orders.specs.IsLife.{IsLives};
 ghost use Rattle.osb_standing.specs.Rows.{standing_in};
 ghost use Rattle.osb_standing.specs.Laws.{count_in};
@@ -34,7 +34,7 @@ pub struct Read {
 
 /// The view that the rows give. It takes no memory.
 pub fn view_by(read: Read) -> View
-    ensures { (lives : Lives) (ask : Ask) → IsLives lives → IsReadFor lives ask read → facts result ≡ view_of lives ask }
+    ensures { (lives : Lives) (ask : Ask) → IsLives lives → IsReadFor lives ask read → data_in result ≡ view_of lives ask }
 {
     let (standing, count) = standing_and_count(read.row);
     View {

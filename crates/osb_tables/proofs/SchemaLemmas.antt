@@ -5,7 +5,8 @@ use Rattle.std.specs.Fmt.{digits}
 use Rattle.sqlite.specs.Schema.{Schema}
 use Rattle.osb_tables.specs.declared.schema.Indexes.{Indexes}
 use Rattle.osb_tables.specs.declared.schema.Indexes.TheVariants.{None, Listing, Both}
-use Rattle.osb_tables.specs.Tables.{keys_of, key_indexes, contexts_index, indexes_at, made, no_schema, tables_schema, five_tables}
+use Rattle.osb_tables.specs.Tables.{keys_of, made, no_schema, tables_schema, five_tables}
+use Rattle.osb_tables.specs.Inside.{key_indexes, contexts_index, indexes_at}
 
 pub one_item : {A : Type 0} (items : List A) (a : A) → a ≡ get_or items 0 a → 1 ≤ length items → length items < 2 → items ≡ a ∷ []
 one_item [] a is some few = absurd (omega (arith, some))

@@ -1,5 +1,5 @@
 -- The tables and indexes of the database as schemas, those of version 1 and of version 2 (this project's own).
-use Rattle.std.specs.Prelude.{Bool, true, false, [], ◌∷◌, List, ℕ, ◌+◌, map, codes}
+use Rattle.std.specs.Prelude.{Bool, true, false, [], ◌∷◌, List, ℕ, map, codes}
 use Rattle.std.specs.Prelude as std
 use Rattle.std.specs.Borrow.{Bor}
 use Rattle.sqlite.specs.Collation.TheVariants.{Binary}
@@ -35,8 +35,8 @@ abbrev pub keys_of : List ℕ → List (List ℕ)
 keys_of [] = []
 keys_of (place ∷ places) = (place ∷ places) ∷ []
 
-abbrev pub orders_of : List ℕ → List Order
-orders_of key = map (λ _. record { digits = 0 }) (keys_of key)
+abbrev pub sorts_of : List ℕ → List Order
+sorts_of key = map (λ _. record { digits = 0 }) (keys_of key)
 
 -- a table with these columns and the key of those places, if any, and no rule besides
 abbrev pub plain_table : List ℕ → ℕ → List Column → List ℕ → List (List ℕ) → Table
@@ -55,11 +55,11 @@ plain_table name tree columns primary uniques = record {
   is_counted = false;
 }
 
-abbrev pub format_columns : List Column
-format_columns = number_column (codes "version") ∷ []
+abbrev pub columns_of_formats : List Column
+columns_of_formats = number_column (codes "version") ∷ []
 
-abbrev pub order_columns : List Column
-order_columns =
+abbrev pub columns_of_orders : List Column
+columns_of_orders =
     text_column (codes "instance_id")
     ∷ number_column (codes "seq")
     ∷ number_column (codes "kind")
@@ -75,8 +75,8 @@ order_columns =
     ∷ text_column (codes "credentials")
     ∷ []
 
-abbrev pub instance_columns : List Column
-instance_columns =
+abbrev pub columns_of_instances : List Column
+columns_of_instances =
     text_column (codes "instance_id")
     ∷ number_column (codes "phase")
     ∷ number_column (codes "busy")
@@ -89,8 +89,8 @@ instance_columns =
     ∷ text_column (codes "maint")
     ∷ []
 
-abbrev pub binding_columns : List Column
-binding_columns =
+abbrev pub columns_of_bindings : List Column
+columns_of_bindings =
     text_column (codes "instance_id")
     ∷ text_column (codes "binding_id")
     ∷ number_column (codes "phase")
@@ -102,31 +102,31 @@ binding_columns =
     ∷ text_column (codes "credentials")
     ∷ []
 
-abbrev pub context_columns : List Column
-context_columns =
+abbrev pub columns_of_contexts : List Column
+columns_of_contexts =
     text_column (codes "instance_id")
     ∷ number_column (codes "seq")
     ∷ text_column (codes "context")
     ∷ []
 
 abbrev pub format_table : Table
-format_table = plain_table (codes "format") 0 format_columns [] []
+format_table = plain_table (codes "format") 0 columns_of_formats [] []
 
 -- its key is the instance and the number of the order
 abbrev pub orders_table : Table
-orders_table = plain_table (codes "orders") 1 order_columns (1 ∷ 2 ∷ []) ((1 ∷ 2 ∷ []) ∷ [])
+orders_table = plain_table (codes "orders") 1 columns_of_orders (1 ∷ 2 ∷ []) ((1 ∷ 2 ∷ []) ∷ [])
 
 -- one row for each instance
 abbrev pub instances_table : Table
-instances_table = plain_table (codes "instances") 3 instance_columns (1 ∷ []) ((1 ∷ []) ∷ [])
+instances_table = plain_table (codes "instances") 3 columns_of_instances (1 ∷ []) ((1 ∷ []) ∷ [])
 
 -- its key is the instance and the binding
 abbrev pub bindings_table : Table
-bindings_table = plain_table (codes "bindings") 5 binding_columns (1 ∷ 2 ∷ []) ((1 ∷ 2 ∷ []) ∷ [])
+bindings_table = plain_table (codes "bindings") 5 columns_of_bindings (1 ∷ 2 ∷ []) ((1 ∷ 2 ∷ []) ∷ [])
 
 -- its key is the instance and the number of the order, or 0 for what stands
 abbrev pub contexts_table : Table
-contexts_table = plain_table (codes "contexts") 7 context_columns (1 ∷ 2 ∷ []) ((1 ∷ 2 ∷ []) ∷ [])
+contexts_table = plain_table (codes "contexts") 7 columns_of_contexts (1 ∷ 2 ∷ []) ((1 ∷ 2 ∷ []) ∷ [])
 
 abbrev pub no_schema : Schema
 no_schema = record { tables = []; indexes = []; views = [] }
@@ -174,13 +174,6 @@ with_busy schema = indexed schema instances_table busy_index
 abbrev pub with_subject : Schema → Schema
 with_subject schema = indexed schema orders_table subject_index
 
--- version 1 with one index, and with both
-abbrev pub listed_schema : Schema
-listed_schema = with_busy tables_schema
-
-abbrev pub record_schema : Schema
-record_schema = with_subject listed_schema
-
 -- version 2 with one index, and with both
 abbrev pub second_listed : Schema
 second_listed = with_busy five_tables
@@ -193,26 +186,3 @@ abbrev pub made : Schema → Indexes → Schema
 made tables None = tables
 made tables Listing = with_busy tables
 made tables Both = with_subject (with_busy tables)
-
--- the indexes that the keys have, by name
-abbrev pub key_indexes : List Index
-key_indexes =
-    index_of (codes "sqlite_autoindex_orders_1") 2 1 (1 ∷ 2 ∷ []) true
-    ∷ index_of (codes "sqlite_autoindex_instances_1") 4 3 (1 ∷ []) true
-    ∷ index_of (codes "sqlite_autoindex_bindings_1") 6 5 (1 ∷ 2 ∷ []) true
-    ∷ []
-
-abbrev pub contexts_index : Index
-contexts_index = index_of (codes "sqlite_autoindex_contexts_1") 8 7 (1 ∷ 2 ∷ []) true
-
--- the indexes as they stand in a schema whose last object has the tree before this one
-abbrev pub busy_at : ℕ → Index
-busy_at tree = record busy_index { tree = tree }
-
-abbrev pub subject_at : ℕ → Index
-subject_at tree = record subject_index { tree = tree }
-
-abbrev pub indexes_at : ℕ → Indexes → List Index
-indexes_at tree None = []
-indexes_at tree Listing = busy_at tree ∷ []
-indexes_at tree Both = busy_at tree ∷ subject_at (tree + 1) ∷ []

@@ -2,7 +2,8 @@
 
 ghost use Rattle.std.specs.Prelude.{◌≡◌, ◌≢◌, ◌<◌, true, false, [], ◌∷◌, ◌++◌, None, IfSome};
 ghost use Rattle.osb_tables.specs.Tables as spec;
-ghost use Rattle.osb_tables.specs.Tables.{column_of, columns_of, plain_table, index_of, key_indexes, contexts_table, contexts_index, busy_at, subject_at, indexes_at, made, no_schema, tables_schema, five_tables};
+ghost use Rattle.osb_tables.specs.Tables.{column_of, columns_of, plain_table, index_of, contexts_table, made, no_schema, tables_schema, five_tables};
+ghost use Rattle.osb_tables.specs.Inside.{key_indexes, contexts_index, busy_at, subject_at, indexes_at};
 
 use sqlite_items::Items;
 use sqlite_schema::schema::{Column, Index, Kind, Schema, Table};
@@ -20,7 +21,7 @@ pub enum Indexes {
 
 /// What a database has of the tables.
 #[derive(Clone, Copy, Debug, PartialEq, Eq)]
-pub enum Found {
+pub enum FoundSchema {
     /// It is empty.
     Nothing,
     /// The four tables of version 1 with these indexes, and nothing else.
@@ -119,8 +120,8 @@ fn are_keys(keys: &[Items<usize>], key: &[usize]) -> bool
 }
 
 fn are_plain(orders: &[Order], key: &[usize]) -> bool
-    ensures is { result ≡ true → orders.now ≡ spec.orders_of key.now }
-    ensures exact { orders.now ≡ spec.orders_of key.now → result ≡ true }
+    ensures is { result ≡ true → orders.now ≡ spec.sorts_of key.now }
+    ensures exact { orders.now ≡ spec.sorts_of key.now → result ≡ true }
 {
     match orders {
         [] => key.is_empty(),
@@ -152,9 +153,9 @@ fn has_no_more(table: &Table) -> bool
 
 fn has_key(table: &Table, key: &[usize]) -> bool
     ensures is { result ≡ true → (table.now.primary ≡ key.now)
-        × (table.now.uniques ≡ spec.keys_of key.now) × (table.now.orders ≡ spec.orders_of key.now) }
+        × (table.now.uniques ≡ spec.keys_of key.now) × (table.now.orders ≡ spec.sorts_of key.now) }
     ensures exact { (table.now.primary ≡ key.now) × (table.now.uniques ≡ spec.keys_of key.now)
-        × (table.now.orders ≡ spec.orders_of key.now) → result ≡ true }
+        × (table.now.orders ≡ spec.sorts_of key.now) → result ≡ true }
 {
     table.primary.as_slice() == key
         && are_keys(table.uniques.as_slice(), key)
@@ -335,33 +336,33 @@ fn found_second(indexes: &[Index]) -> Option<Indexes>
 /// What the schema has. Each table is compared column by column, with its key, its rules and its
 /// place.
 #[tactic(auto, using(crate::proofs::SchemaLemmas::first_made, crate::proofs::SchemaLemmas::second_made, crate::proofs::SchemaLemmas::first_back, crate::proofs::SchemaLemmas::second_back))]
-pub fn find(schema: &Schema) -> Found
-    ensures nothing { result ≡ Found.Nothing → schema.now ≡ no_schema }
-    ensures first { (indexes : Indexes) → result ≡ Found.First indexes →
+pub fn find(schema: &Schema) -> FoundSchema
+    ensures nothing { result ≡ FoundSchema.Nothing → schema.now ≡ no_schema }
+    ensures first { (indexes : Indexes) → result ≡ FoundSchema.First indexes →
         schema.now ≡ made tables_schema indexes }
-    ensures second { (indexes : Indexes) → result ≡ Found.Second indexes →
+    ensures second { (indexes : Indexes) → result ≡ FoundSchema.Second indexes →
         schema.now ≡ made five_tables indexes }
-    ensures others { result ≡ Found.Others → (schema.now ≢ no_schema)
+    ensures others { result ≡ FoundSchema.Others → (schema.now ≢ no_schema)
         × ((indexes : Indexes) → schema.now ≢ made tables_schema indexes)
         × ((indexes : Indexes) → schema.now ≢ made five_tables indexes) }
 {
     if !schema.views.is_empty() {
-        return Found::Others;
+        return FoundSchema::Others;
     }
     if schema.tables.is_empty() && schema.indexes.is_empty() {
-        return Found::Nothing;
+        return FoundSchema::Nothing;
     }
     if are_first_tables(schema.tables.as_slice()) {
         return match found_first(schema.indexes.as_slice()) {
-            Some(indexes) => Found::First(indexes),
-            None => Found::Others,
+            Some(indexes) => FoundSchema::First(indexes),
+            None => FoundSchema::Others,
         };
     }
     if are_second_tables(schema.tables.as_slice()) {
         return match found_second(schema.indexes.as_slice()) {
-            Some(indexes) => Found::Second(indexes),
-            None => Found::Others,
+            Some(indexes) => FoundSchema::Second(indexes),
+            None => FoundSchema::Others,
         };
     }
-    Found::Others
+    FoundSchema::Others
 }

@@ -2,7 +2,7 @@
 
 ghost use Rattle.std.specs.Prelude.{◌≡◌, ◌≤◌, ◌<◌, ◌+◌, ◌++◌, OnErr, IfOk, length, take};
 
-use osb_frames::{Counted, Kept, Sink, Source, send_all};
+use osb_frames::{Counted, InMemory, Sink, Source, send_all};
 use std::io::{self, Read, Write};
 use std::mem::size_of;
 use std::process::Abort;
@@ -194,7 +194,7 @@ fn write_short<W: Sink>(sink: &mut W, bytes: &[u8]) -> usize
 
 #[test]
 fn what_has_room_is_written_whole(rt: HostRuntime) -> Result<(), Fail> {
-    let mut kept = Kept::new(Vec::new(rt.alloc()));
+    let mut kept = InMemory::new(Vec::new(rt.alloc()));
     kept.reserve(7)?;
     assert_eq!(rt; write_short(&mut kept, b"catalog"), 7);
     assert_eq!(rt; kept.into_bytes().as_slice(), b"catalog".as_slice());

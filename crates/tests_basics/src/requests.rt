@@ -1,7 +1,7 @@
 //! Heads, bodies and faults at their limits. Each input is looked at whole, byte by byte and in
 //! pieces of 7 bytes, and has to be answered alike.
 
-use osb_frames::{Kept, Limits, Request, Sink, Step, StopKind, next, next_at_once};
+use osb_frames::{InMemory, Limits, Request, Sink, Step, StopKind, next, next_at_once};
 use std::alloc::{AllocError, Global};
 use std::test::Fail;
 
@@ -388,7 +388,7 @@ fn keeps_what_it_takes(rt: HostRuntime) -> Result<(), Fail> {
     let alloc = rt.alloc();
     let mut bytes = Vec::new(alloc);
     bytes.extend_from_slice(b"cat")?;
-    let mut kept = Kept::new(bytes);
+    let mut kept = InMemory::new(bytes);
     kept.reserve(4)?;
     assert!(rt; matches!(kept.write(b"alog"), Ok(4)));
     assert_eq!(rt; kept.into_bytes().as_slice(), b"catalog".as_slice());

@@ -5,7 +5,7 @@ use crate::standing::standing_by;
 use osb_asks::{Ask, AskFault, read_ask};
 use osb_catalog::Settings;
 use osb_frames::{Limits, Step as Front, next};
-use osb_machine::{Step, decide};
+use osb_machine::{AnswerAndChange, decide};
 use osb_orders::{Change, PlainLives, View};
 use osb_records::{Records, memory};
 use sqlite::MemStore;
@@ -44,14 +44,14 @@ fn decided<'s>(
     settings: &'s Settings,
     view: View,
     ask: &Ask,
-) -> Result<Step<'s>, AllocError> {
+) -> Result<AnswerAndChange<'s>, AllocError> {
     let step = decide(alloc, settings, &view, ask);
     drop(view);
     step
 }
 
-fn change_of(step: Step<'_>) -> Change {
-    let Step { answer: _, change } = step;
+fn change_of(step: AnswerAndChange<'_>) -> Change {
+    let AnswerAndChange { answer: _, change } = step;
     change
 }
 

@@ -2,7 +2,7 @@
 
 use osb_broker::{Broker, Room};
 use osb_catalog::Settings;
-use osb_frames::{Kept, Limits, Sink, Step, next};
+use osb_frames::{InMemory, Limits, Sink, Step, next};
 use osb_replies::Status;
 use sqlite::MemStore;
 use std::alloc::{AllocError, Global};
@@ -80,7 +80,7 @@ impl<W: Sink> Sink for Narrow<W> {
 
     ghost failures = { λ s. W.failures s.inner };
 
-    ghost fruitless = { λ s. W.fruitless s.inner };
+    ghost failed_or_empty = { λ s. W.failed_or_empty s.inner };
 
     ghost contents = { λ s. W.contents s.inner };
 
@@ -123,7 +123,7 @@ fn answered<W: Room>(
 /// Whether a request without room is answered 500, without its identity, and leaves nothing.
 fn waits_for_room(
     broker: &mut Broker<'_, MemStore>,
-    room: &mut Narrow<Kept>,
+    room: &mut Narrow<InMemory>,
 ) -> Result<bool, Fail> {
     room.full = true;
     let refused = answered(broker, room)?;
@@ -141,7 +141,7 @@ fn waits_for_room(
 fn new_one_waits_for_room(alloc: Global, settings: &Settings) -> Result<bool, Fail> {
     let mut broker = new_broker(alloc, settings, 1)?;
     let mut room = Narrow {
-        inner: Kept::new(Vec::new(alloc)),
+        inner: InMemory::new(Vec::new(alloc)),
         full: true,
     };
     waits_for_room(&mut broker, &mut room)

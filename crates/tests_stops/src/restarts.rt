@@ -49,7 +49,7 @@ fn acknowledged_over<D: Crash + Drop>(
     alloc: Global,
     records: Records<FileStore<D>>,
 ) -> Result<(bool, Records<FileStore<D>>), Fail> {
-    records.are_whole();
+    records.lives_are_whole();
     let nothing = Change::Nothing;
     let again = committed_and_restarted(alloc, records, "i", &nothing, OPTIONS);
     drop(nothing);

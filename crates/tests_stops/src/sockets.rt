@@ -3,7 +3,7 @@
 use osb_broker::{Broker, Buffer};
 use osb_file::DatabaseFile;
 use osb_frames::{Counted, Limits};
-use osb_listen::{Entrance, ListenFault, serve_listener, serve_stream};
+use osb_listen::{Acceptor, ListenFault, serve_listener, serve_stream};
 use sqlite::MemStore;
 use std::io::{self, Read, Write};
 use std::net::{Shutdown, TcpListener, TcpStream};
@@ -84,7 +84,7 @@ fn a_write_that_fails_is_told(rt: HostRuntime) -> Result<(), Fail> {
 fn ended_with(
     rt: &HostRuntime,
     broker: &mut Broker<'_, MemStore>,
-    entrance: &Entrance<'_>,
+    entrance: &Acceptor<'_>,
 ) -> Result<Result<(), ListenFault>, Fail> {
     let mut buffer = Buffer::new(rt.alloc(), &Limits::STANDARD)?;
     let mut errors = Counted::new(Vec::new(rt.alloc()));
@@ -99,7 +99,7 @@ fn ended(
 ) -> Result<Result<(), ListenFault>, Fail> {
     let settings = built_in(rt.alloc())?;
     let mut broker = new_broker(rt.alloc(), &settings, 1)?;
-    let entrance = Entrance {
+    let entrance = Acceptor {
         listener,
         file,
         time_limit: Duration::from_secs(10),

@@ -13,7 +13,7 @@ use osb_contexts::{
     set_version, update_context,
 };
 use osb_joined::ContextEntry;
-use osb_tables::{Found, Indexes, find};
+use osb_tables::{FoundSchema, Indexes, find};
 use osb_text::Text;
 use sqlite::{Alter, Connection, Error, MemStore, Transaction};
 use std::alloc::{AllocError, Global};
@@ -90,7 +90,7 @@ fn indexes_of<S: Alter>(conn: &Connection<S>) -> Result<Indexes, Error>
         return Err(Error::InvalidQuery);
     }
     match find(conn.schema()) {
-        Found::First(indexes) => Ok(indexes),
+        FoundSchema::First(indexes) => Ok(indexes),
         _ => Err(Error::InvalidQuery),
     }
 }
@@ -149,7 +149,7 @@ fn migrated(alloc: Global, indexes: &[&str], is_kept: bool) -> Result<Connection
     Ok(conn)
 }
 
-fn found_after(alloc: Global, indexes: &[&str], is_kept: bool) -> Result<Found, Error> {
+fn found_after(alloc: Global, indexes: &[&str], is_kept: bool) -> Result<FoundSchema, Error> {
     let conn = migrated(alloc, indexes, is_kept)?;
     Ok(find(conn.schema()))
 }
@@ -162,7 +162,7 @@ fn has_rows(alloc: Global, indexes: &[&str]) -> Result<bool, Error> {
 
 #[test]
 fn each_form_is_migrated(rt: HostRuntime) -> Result<(), Fail> {
-    let second = Found::Second(Indexes::Both);
+    let second = FoundSchema::Second(Indexes::Both);
     assert_eq!(rt; found_after(rt.alloc(), &[], true)?, second);
     assert_eq!(rt; found_after(rt.alloc(), &[BUSY], true)?, second);
     assert_eq!(rt; found_after(rt.alloc(), &[BUSY, SUBJECT], true)?, second);
@@ -179,9 +179,9 @@ fn the_rows_stay(rt: HostRuntime) -> Result<(), Fail> {
 
 #[test]
 fn a_rollback_leaves_version_1(rt: HostRuntime) -> Result<(), Fail> {
-    let none = Found::First(Indexes::None);
-    let listing = Found::First(Indexes::Listing);
-    let both = Found::First(Indexes::Both);
+    let none = FoundSchema::First(Indexes::None);
+    let listing = FoundSchema::First(Indexes::Listing);
+    let both = FoundSchema::First(Indexes::Both);
     assert_eq!(rt; found_after(rt.alloc(), &[], false)?, none);
     assert_eq!(rt; found_after(rt.alloc(), &[BUSY], false)?, listing);
     assert_eq!(rt; found_after(rt.alloc(), &[BUSY, SUBJECT], false)?, both);
@@ -199,7 +199,7 @@ fn second_indexes_of<S: Alter>(conn: &Connection<S>) -> Result<Indexes, Error>
         return Err(Error::InvalidQuery);
     }
     match find(conn.schema()) {
-        Found::Second(indexes) => Ok(indexes),
+        FoundSchema::Second(indexes) => Ok(indexes),
         _ => Err(Error::InvalidQuery),
     }
 }
@@ -222,7 +222,7 @@ fn complete_in<S: Alter>(conn: &mut Connection<S>) -> Result<(), Error> {
 }
 
 /// What is found of a database of version 2 that had these indexes, once it is complete.
-fn completed(alloc: Global, indexes: &[&str]) -> Result<Found, Error> {
+fn completed(alloc: Global, indexes: &[&str]) -> Result<FoundSchema, Error> {
     let mut conn = Connection::open_in_memory(alloc)?;
     run(&mut conn, &TABLES)?;
     run(&mut conn, &[CONTEXTS])?;
@@ -233,7 +233,7 @@ fn completed(alloc: Global, indexes: &[&str]) -> Result<Found, Error> {
 
 #[test]
 fn lacking_indexes_are_made(rt: HostRuntime) -> Result<(), Fail> {
-    let second = Found::Second(Indexes::Both);
+    let second = FoundSchema::Second(Indexes::Both);
     assert_eq!(rt; completed(rt.alloc(), &[])?, second);
     assert_eq!(rt; completed(rt.alloc(), &[BUSY])?, second);
     Ok(())

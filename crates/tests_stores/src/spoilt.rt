@@ -5,7 +5,7 @@ use crate::adopting::{
     READY, STANDING, SUBJECTS, WHOLE, changed, first, run,
 };
 use osb_records::{Records, StoreFault};
-use osb_tables::{Found, find};
+use osb_tables::{FoundSchema, find};
 use sqlite::{Alter, Connection, Error, MemStore};
 use std::alloc::Global;
 use std::test::Fail;
@@ -16,7 +16,7 @@ fn number<S: Alter>(conn: &mut Connection<S>, query: &str) -> Result<u32, Error>
 
 /// What tells databases apart: the tables and the indexes, the version, and how many rows there are. A table
 /// that isn't there has none.
-fn told<S: Alter>(conn: &mut Connection<S>) -> (Found, [u32; 4]) {
+fn told<S: Alter>(conn: &mut Connection<S>) -> (FoundSchema, [u32; 4]) {
     let numbers = [
         number(conn, "SELECT version FROM format").unwrap_or(0),
         number(conn, "SELECT count(*) FROM orders").unwrap_or(0),

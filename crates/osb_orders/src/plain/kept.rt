@@ -5,7 +5,7 @@ ghost use Rattle.std.specs.FinMap.{insert};
 ghost use Rattle.osb_orders.specs.Lives.{life_of};
 ghost use Rattle.osb_orders.specs.Listing.{listing};
 ghost use Rattle.osb_orders.specs.Changed.{with_last_ended};
-ghost use Rattle.osb_orders.specs.Plain.{lives_in};
+ghost use Rattle.osb_orders.specs.Plain.{held_in};
 
 use super::listed::running_after;
 use crate::order::{Order, Outcome};
@@ -20,7 +20,7 @@ pub(super) fn life_of(
     lives: &BTreeMap<Text, Vec<Order>>,
     id: &str,
 ) -> Result<Vec<Order>, AllocError>
-    ensures { IfOk result (λ life. life.items ≡ life_of (lives_in lives.now) id.now) }
+    ensures { IfOk result (λ life. life.items ≡ life_of (held_in lives.now) id.now) }
 {
     let key = Text::from_str(alloc, id)?;
     match lives.get(&key) {
@@ -46,8 +46,8 @@ pub(super) fn append(
     id: &str,
     order: Order,
 ) -> Result<(), AllocError>
-    ensures ok { OnOk result (lives_in lives.new ≡ insert (lives_in lives.old) id.now (life_of (lives_in lives.old) id.now ++ order ∷ [])) }
-    ensures err { OnErr result (lives_in lives.new ≡ lives_in lives.old) }
+    ensures ok { OnOk result (held_in lives.new ≡ insert (held_in lives.old) id.now (life_of (held_in lives.old) id.now ++ order ∷ [])) }
+    ensures err { OnErr result (held_in lives.new ≡ held_in lives.old) }
 {
     let mut life = life_of(alloc, lives, id)?;
     life.push(order)?;
@@ -61,8 +61,8 @@ pub(super) fn finish(
     id: &str,
     outcome: Outcome,
 ) -> Result<(), AllocError>
-    ensures ok { OnOk result (lives_in lives.new ≡ insert (lives_in lives.old) id.now (with_last_ended outcome (life_of (lives_in lives.old) id.now))) }
-    ensures err { OnErr result (lives_in lives.new ≡ lives_in lives.old) }
+    ensures ok { OnOk result (held_in lives.new ≡ insert (held_in lives.old) id.now (with_last_ended outcome (life_of (held_in lives.old) id.now))) }
+    ensures err { OnErr result (held_in lives.new ≡ held_in lives.old) }
 {
     let mut life = life_of(alloc, lives, id)?;
     end_last(&mut life, outcome)?;
@@ -77,8 +77,8 @@ fn keep(
     id: &str,
     life: Vec<Order>,
 ) -> Result<(), AllocError>
-    ensures ok { OnOk result (lives_in lives.new ≡ insert (lives_in lives.old) id.now life.items) }
-    ensures err { OnErr result (lives_in lives.new ≡ lives_in lives.old) }
+    ensures ok { OnOk result (held_in lives.new ≡ insert (held_in lives.old) id.now life.items) }
+    ensures err { OnErr result (held_in lives.new ≡ held_in lives.old) }
 {
     let key = Text::from_str(alloc, id)?;
     lives.insert(key, life)?;
@@ -102,7 +102,7 @@ pub(super) fn listing(
     after: &str,
     limit: usize,
 ) -> Result<Vec<(Text, Order)>, AllocError>
-    ensures { IfOk result (λ pairs. pairs.items ≡ listing (lives_in lives.now) after.now limit) }
+    ensures { IfOk result (λ pairs. pairs.items ≡ listing (held_in lives.now) after.now limit) }
 {
     let mut pairs = running_after(alloc, lives, after)?;
     pairs.truncate(limit);

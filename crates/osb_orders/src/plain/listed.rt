@@ -2,7 +2,7 @@
 
 ghost use Rattle.std.specs.Prelude.{◌≡◌, ◌++◌, ◌∷◌, [], IfOk, OnOk, filter, filter_map};
 ghost use Rattle.osb_orders.specs.Listing.{with_last, is_listed};
-ghost use Rattle.osb_orders.specs.Plain.{lives_in};
+ghost use Rattle.osb_orders.specs.Plain.{held_in};
 ghost use Rattle.std.specs.FinMap.{entries};
 
 use super::named::last_in;
@@ -17,7 +17,7 @@ pub(super) fn running_after(
     lives: &BTreeMap<Text, Vec<Order>>,
     after: &str,
 ) -> Result<Vec<(Text, Order)>, AllocError>
-    ensures { IfOk result (λ pairs. pairs.items ≡ filter (is_listed after.now) (filter_map with_last (entries (lives_in lives.now)))) }
+    ensures { IfOk result (λ pairs. pairs.items ≡ filter (is_listed after.now) (filter_map with_last (entries (held_in lives.now)))) }
 {
     let mut pairs = Vec::new(alloc);
     for (id, life) in lives {

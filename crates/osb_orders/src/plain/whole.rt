@@ -5,7 +5,7 @@ ghost use Rattle.osb_orders.specs.Bindings.{binding_of};
 ghost use Rattle.osb_orders.specs.Lists.{last_of};
 ghost use Rattle.osb_orders.specs.Life.{standing_of};
 ghost use Rattle.osb_orders.specs.Named.{binding_in, named_in, subject};
-ghost use Rattle.osb_orders.specs.Facts.{facts, facts_of};
+ghost use Rattle.osb_orders.specs.ViewData.{data_in, view_data_of};
 
 use super::bindings::{binding_of, has_bindings};
 use super::instances::standing_of;
@@ -23,7 +23,7 @@ pub(super) fn shown(
     life: &[Order],
     listing: Vec<(Text, Order)>,
 ) -> Result<View, AllocError>
-    ensures { IfOk result (λ view. facts view ≡ record (facts_of life.now [] ask.now) { listing = listing.items }) }
+    ensures { IfOk result (λ view. data_in view ≡ record (view_data_of life.now [] ask.now) { listing = listing.items }) }
 {
     let view = shown_alone(alloc, ask, life)?;
     Ok(View { listing, ..view })
@@ -31,7 +31,7 @@ pub(super) fn shown(
 
 /// The view of the life for the ask, with an empty listing.
 fn shown_alone(alloc: Global, ask: &Ask, life: &[Order]) -> Result<View, AllocError>
-    ensures { IfOk result (λ view. facts view ≡ record (facts_of life.now [] ask.now) { listing = [] }) }
+    ensures { IfOk result (λ view. data_in view ≡ record (view_data_of life.now [] ask.now) { listing = [] }) }
 {
     let count = count_of(life)?;
     let (standing, binding) = standings(alloc, ask, life)?;

@@ -34,7 +34,7 @@ fn fault_in(alloc: Global, file: &[u8]) -> Result<SettingsFault, Fail> {
 }
 
 /// Where the fault of a file is.
-fn place_in(alloc: Global, file: &[u8]) -> Result<String, Fail> {
+fn id_position_in(alloc: Global, file: &[u8]) -> Result<String, Fail> {
     let fault = fault_in(alloc, file)?;
     let place = place_of(alloc, fault, file)?;
     let text = text_of(alloc, &place);
@@ -45,7 +45,7 @@ fn place_in(alloc: Global, file: &[u8]) -> Result<String, Fail> {
 /// Where the fault is of a file with `to` at the first place of `from`.
 fn place_with(alloc: Global, file: &str, from: &str, to: &str) -> Result<String, Fail> {
     let file = changed(alloc, file, from, to)?;
-    place_in(alloc, file.as_bytes())
+    id_position_in(alloc, file.as_bytes())
 }
 
 fn finds_places(rt: &(impl Abort + AllocGlobal), file: &str, cases: &[Case]) -> Result<(), Fail> {

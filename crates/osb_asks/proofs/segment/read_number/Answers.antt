@@ -3,10 +3,10 @@ use Rattle.osb_asks.proofs.SegmentLemmas.{number_utf8, number_read}
 use Rattle.osb_asks.proofs.segment.read_number.Goals as goal
 
 pub returns-in_default : goal.returns-in_default
-returns-in_default c = absurd (c.in_default.ensures.cases.0 (number_utf8 _ (sym c.if-not-is_number.ensures)))
+returns-in_default c = absurd (c.in_default.ensures.cases.0 (number_utf8 _ (sym c.if-not-is_order_number.ensures)))
 
 pub returns-in-Err : goal.returns-in-Err
 returns-in-Err c =
-    let read = number_read c.in-Ok.digits.now c.parse.result (rw c.in-Ok.ensures.cases.0 (sym c.if-not-is_number.ensures)) c.parse.ensures.value.0 in
+    let read = number_read c.in-Ok.digits.now c.parse.result (rw c.in-Ok.ensures.cases.0 (sym c.if-not-is_order_number.ensures)) c.parse.ensures.value.0 in
     let failed = c.in-Err.is in
     cc

@@ -12,7 +12,7 @@ returns-then-not-branch c = λ rise.
     let entry = c.loop-id-item.result in
     let front = drop_more instances i entry c.loop-id-test.true ∙ ap (λ (entry : InstanceEntry). entry ∷ drop (i + 1) instances) (sym c.loop-id-item.is) in
     refused false refl (stopped entry.0 entry.1 _ _ front _ _ _ _ _ _ c.orders_of-life.ensures.front c.orders_of-life.ensures.back c.bindings_of-bound.ensures.front c.bindings_of-bound.ensures.back (c.loop-id.invariant rise)
-    (λ alone. let yes = c.in_ok-is_standing.ensures.1 alone in let no_more = c.if-not-branch.true in cc))
+    (λ alone. let yes = c.in_ok-is_consistent.ensures.1 alone in let no_more = c.if-not-branch.true in cc))
 
 pub loop-id-preserved : goal.loop-id-preserved
 loop-id-preserved c = λ rise.
@@ -21,7 +21,7 @@ loop-id-preserved c = λ rise.
     let entry = c.loop-id-item.result in
     let front = drop_more instances i entry c.loop-id-test.true ∙ ap (λ (entry : InstanceEntry). entry ∷ drop (i + 1) instances) (sym c.loop-id-item.is) in
     stepped entry.0 entry.1 _ _ front _ _ _ _ _ _ c.orders_of-life.ensures.front c.orders_of-life.ensures.back c.bindings_of-bound.ensures.front c.bindings_of-bound.ensures.back (c.loop-id.invariant rise)
-    (c.in_ok-is_standing.ensures.0 c.if-not-branch.false)
+    (c.in_ok-is_consistent.ensures.0 c.if-not-branch.false)
 
 pub returns-then-is_empty : goal.returns-then-is_empty
 returns-then-is_empty c = λ rise.

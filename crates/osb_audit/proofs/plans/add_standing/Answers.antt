@@ -1,5 +1,5 @@
 use Rattle.osb_audit.specs.Instances.{InstanceEntry}
-use Rattle.osb_audit.specs.Plans.{pairs_in_row}
+use Rattle.osb_audit.specs.Gathered.{pairs_in_row}
 use Rattle.osb_audit.proofs.SetLemmas.{adds_more}
 use Rattle.osb_audit.proofs.plans.add_standing.Goals as goal
 

@@ -1,5 +1,5 @@
 use Rattle.osb_audit.specs.Orders.{Entry}
-use Rattle.osb_audit.specs.Plans.{pairs_in_order}
+use Rattle.osb_audit.specs.Gathered.{pairs_in_order}
 use Rattle.osb_audit.proofs.SetLemmas.{adds_more}
 use Rattle.osb_audit.proofs.plans.add_updating.Goals as goal
 

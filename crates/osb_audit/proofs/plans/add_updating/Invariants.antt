@@ -1,5 +1,5 @@
 use Rattle.std.proofs.Common.{take}
-use Rattle.osb_audit.specs.Plans.{pairs_in_orders, Adds}
+use Rattle.osb_audit.specs.Gathered.{pairs_in_orders, Adds}
 use Rattle.osb_audit.proofs.plans.add_updating.Given as goal
 
 abbrev pub invariant-loop-order : goal.invariant-loop-order

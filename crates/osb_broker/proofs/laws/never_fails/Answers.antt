@@ -4,5 +4,5 @@ use Rattle.osb_broker.proofs.laws.never_fails.Goals as goal
 pub returns-clause-machine : goal.returns-clause-machine
 returns-clause-machine c = never_fails c.never_500.ensures c.never_memory.ensures
 
-pub returns-clause-crowded : goal.returns-clause-crowded
-returns-clause-crowded c = never_fails c.never_500.ensures c.never_memory.ensures
+pub returns-clause-capped : goal.returns-clause-capped
+returns-clause-capped c = never_fails c.never_500.ensures c.never_memory.ensures

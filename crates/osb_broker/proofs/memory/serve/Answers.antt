@@ -1,5 +1,5 @@
 use Rattle.std.proofs.Common.{inl, refl}
-use Rattle.osb_broker.specs.Kept.{lives_of}
+use Rattle.osb_broker.specs.BrokerState.{lives_of}
 use Rattle.osb_broker.proofs.StoreLemmas.{memory_works}
 use Rattle.osb_broker.proofs.memory.serve.Goals as goal
 

@@ -1,6 +1,6 @@
 use Rattle.std.proofs.lemmas.Option.{IfSome_then}
 use Rattle.std.proofs.lemmas.Result.{on_ok_weaker}
-use Rattle.osb_cli.specs.Words.{AsksCheck, AsksReplay, AsksServe}
+use Rattle.osb_cli.specs.Inside.{AsksCheck, AsksReplay, AsksServe}
 use Rattle.osb_cli.proofs.DoneLemmas.{done_well, if_done, if_failed, is_checked, is_neither, is_replayed, not_both}
 use Rattle.osb_cli.proofs.ServeLemmas.{in_vain, served_as}
 use Rattle.osb_cli.proofs.commands.perform.Goals as goal

@@ -2,7 +2,7 @@ use Rattle.std.proofs.Common.{◌≡◌, true, None, subst, sym, map, string_byt
 use Rattle.std.proofs.lemmas.Option.{IfSome_then}
 use Rattle.clap.specs.Words.{subcommand_of, takes}
 use Rattle.sqlite.specs.Files.{file_state}
-use Rattle.osb_records.specs.Steps.{stored}
+use Rattle.osb_statements.specs.Steps.{stored}
 use Rattle.osb_cli.specs.Grammar.{osb_broker}
 use Rattle.osb_cli.specs.Serve.{IsServedAs}
 use Rattle.osb_cli.proofs.DoneLemmas.{is_plain, nothing_named, nothing_taken}

@@ -1,7 +1,7 @@
 use Rattle.std.proofs.Common.{subst}
 use Rattle.std.proofs.lemmas.Option.{IfSome_then}
 use Rattle.sqlite.specs.Files.{file_state}
-use Rattle.osb_records.specs.Steps.{stored}
+use Rattle.osb_statements.specs.Steps.{stored}
 use Rattle.osb_cli.specs.Serve.{IsServed}
 use Rattle.osb_cli.proofs.ServeLemmas.{is_opened, is_served, names_in_use}
 use Rattle.osb_cli.proofs.listen.listen.Goals as goal

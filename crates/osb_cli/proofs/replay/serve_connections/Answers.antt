@@ -1,7 +1,7 @@
 use Rattle.std.proofs.Common.{map, vec_items}
 use Rattle.std.proofs.lemmas.Result.{on_ok_weaker}
 use Rattle.sqlite.specs.Steps.{over_memory}
-use Rattle.osb_broker.specs.Kept.{lives_of}
+use Rattle.osb_broker.specs.BrokerState.{lives_of}
 use Rattle.osb_cli.proofs.replay.serve_connections.Goals as goal
 
 pub returns : goal.returns

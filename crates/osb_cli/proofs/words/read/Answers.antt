@@ -1,7 +1,7 @@
 use Rattle.std.proofs.Common.{rules, refl, ◌≡◌, ◌≢◌, ◌∙◌, sym, ap, subst, map, string_bytes, Some, option_map, [], codes, unwrap_or}
 use Rattle.clap.specs.Words.{found_of, rows_of, subcommand_of, takes}
 use Rattle.osb_cli.specs.Grammar.{osb_broker}
-use Rattle.osb_cli.specs.Words.{Asks}
+use Rattle.osb_cli.specs.Inside.{Asks}
 use Rattle.osb_cli.proofs.WordLemmas.{are_read, is_found, none_found}
 use Rattle.osb_cli.proofs.words.read.Goals as goal
 

@@ -1,5 +1,6 @@
 use Rattle.std.proofs.Common.{[], refl}
-use Rattle.osb_tables.specs.Tables.{listed_schema, tables_schema, busy_at}
+use Rattle.osb_tables.specs.Tables.{tables_schema}
+use Rattle.osb_tables.specs.Inside.{listed_schema, busy_at}
 use Rattle.osb_contexts.specs.Reads.{behind}
 use Rattle.osb_contexts.proofs.Texts.{drop_busy, drop_busy_is}
 use Rattle.osb_contexts.proofs.SchemaLemmas.{drops_index}

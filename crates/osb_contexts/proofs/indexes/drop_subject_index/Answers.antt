@@ -1,5 +1,6 @@
 use Rattle.std.proofs.Common.{[], refl}
-use Rattle.osb_tables.specs.Tables.{record_schema, listed_schema, tables_schema, subject_at}
+use Rattle.osb_tables.specs.Tables.{tables_schema}
+use Rattle.osb_tables.specs.Inside.{record_schema, listed_schema, subject_at}
 use Rattle.osb_contexts.specs.Reads.{behind}
 use Rattle.osb_contexts.proofs.Texts.{drop_subject, drop_subject_is}
 use Rattle.osb_contexts.proofs.SchemaLemmas.{drops_index}

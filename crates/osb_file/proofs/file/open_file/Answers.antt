@@ -2,7 +2,7 @@ use Rattle.std.proofs.Common.{subst, arith}
 use Rattle.sqlite.specs.Tree.{Trees}
 use Rattle.sqlite.specs.Files.{file_state}
 use Rattle.sqlite.specs.State.{HasCleanDisk}
-use Rattle.osb_records.specs.Steps.{stored}
+use Rattle.osb_statements.specs.Steps.{stored}
 use Rattle.osb_file.specs.File.{AreLivesOf}
 use Rattle.osb_file.proofs.FileLemmas.{opened_stand, stands_opened}
 use Rattle.osb_file.proofs.file.open_file.Goals as goal

@@ -1,6 +1,6 @@
 use Rattle.std.proofs.Common.{rules, ◌≡◌}
 use Rattle.sqlite.specs.Held.{state}
-use Rattle.osb_records.specs.Steps.{stored}
+use Rattle.osb_statements.specs.Steps.{stored}
 use Rattle.osb_file.specs.declared.unseen.Unseen.TheVariants.{NotOurs}
 use Rattle.osb_file.proofs.LookLemmas.{if_ok_so}
 use Rattle.osb_file.proofs.looking.count_in.Goals as goal

@@ -10,7 +10,7 @@ invariant-loop-done g l =
     record {
       inside : l.done ≤ length l.piece;
       sent : sink.taken l.sink ≡ sink.taken l.fn.sink ++ take l.done l.piece;
-      quiet : sink.fruitless l.sink ≡ sink.fruitless l.fn.sink;
+      quiet : sink.failed_or_empty l.sink ≡ sink.failed_or_empty l.fn.sink;
       room : sink.room l.fn.sink ≤ sink.room l.sink + l.done;
       silent : l.done ≡ 0 → sink.writes l.sink ≡ sink.writes l.fn.sink;
       once : length l.piece ≤ sink.room l.fn.sink → 0 < l.done → (l.done ≡ length l.piece) × (sink.writes l.sink ≡ sink.writes l.fn.sink + 1);

@@ -1,7 +1,8 @@
 use Rattle.std.proofs.Common.{◌∙◌, ◌+◌, ◌∷◌, ◌++◌, [], drop, ap, sym}
 use Rattle.std.proofs.lemmas.List.{nil_from_length}
 use Rattle.osb_audit.specs.Orders.{Entry}
-use Rattle.osb_joined.specs.Join.{is_of_order, fits_order}
+use Rattle.osb_joined.specs.Join.{is_of_order}
+use Rattle.osb_joined.specs.Fits.{fits_order}
 use Rattle.osb_joined.proofs.PassLemmas.{passes_first, passes_by, passes_none, passes_other, passes_on, passed, items_left}
 use Rattle.osb_joined.proofs.WithLemmas.{order_joins, orders_given, no_orders, front, back, of_order, not_of_order, none_left, first_left}
 use Rattle.osb_joined.proofs.pass.join_orders.Goals as goal

@@ -1,7 +1,8 @@
 use Rattle.std.proofs.Common.{◌∙◌, ◌+◌, ◌∷◌, ◌++◌, [], drop, ap, sym}
 use Rattle.std.proofs.lemmas.List.{nil_from_length}
 use Rattle.osb_audit.specs.Instances.{InstanceEntry}
-use Rattle.osb_joined.specs.Join.{is_of_standing, fits_row}
+use Rattle.osb_joined.specs.Join.{is_of_standing}
+use Rattle.osb_joined.specs.Fits.{fits_row}
 use Rattle.osb_joined.proofs.PassLemmas.{passes_first, passes_by, passes_none, passes_other, passes_on, passed, items_left}
 use Rattle.osb_joined.proofs.WithLemmas.{row_joins, rows_given, no_rows, front, back, of_standing, not_of_standing, none_left, first_left}
 use Rattle.osb_joined.proofs.pass.join_rows.Goals as goal

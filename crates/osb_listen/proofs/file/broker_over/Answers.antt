@@ -2,12 +2,12 @@ use Rattle.std.proofs.Common.{sym, subst}
 use Rattle.sqlite.specs.Files.{file_state}
 use Rattle.osb_catalog.specs.Rules as catalog
 use Rattle.osb_orders.specs.Lives.{Lives}
-use Rattle.osb_records.specs.Steps.{stored}
+use Rattle.osb_statements.specs.Steps.{stored}
 use Rattle.osb_file.specs.File.{AreLivesOf}
-use Rattle.osb_broker.specs.Kept.{Works}
+use Rattle.osb_broker.specs.BrokerState.{Works}
 use Rattle.osb_broker.specs.Plans.{OffersInUse}
 use Rattle.osb_listen.specs.declared.fault.ListenFault.{ListenFault}
-use Rattle.osb_listen.specs.Listen.{IsOfDatabase}
+use Rattle.osb_listen.specs.Inside.{IsOfDatabase}
 use Rattle.osb_listen.proofs.FaultLemmas.{of_database}
 use Rattle.osb_listen.proofs.HeldLemmas.{if_some_under, not_made, not_taken}
 use Rattle.osb_listen.proofs.file.broker_over.Goals as goal

@@ -3,8 +3,8 @@ use Rattle.std.proofs.lemmas.Option.{IfSome_then}
 use Rattle.std.proofs.lemmas.Result.{IfErr-weaker}
 use Rattle.sqlite.specs.Files.{file_state, over_files}
 use Rattle.osb_catalog.specs.Rules as catalog
-use Rattle.osb_records.specs.Steps.{stored}
-use Rattle.osb_broker.specs.Kept.{Works, lives_of, most_of, rules_of}
+use Rattle.osb_statements.specs.Steps.{stored}
+use Rattle.osb_broker.specs.BrokerState.{Works, lives_of, most_of, rules_in}
 use Rattle.osb_listen.proofs.HeldLemmas.{all_served, if_err_under, left_at, names_none, on_ok_under, without_broker}
 use Rattle.osb_listen.proofs.file.serve_file.Goals as goal
 
@@ -24,7 +24,7 @@ returns-clause-served g c =
     c.into_records.ensures.works (subst (λ conn. Works (file_state conn)) same works) in
     on_ok_under c.serve_at-result.result _ _ (Works (file_state c.into_connection.result))
     (λ works. c.serve_at-result.ensures.ok (worked works))
-    (λ after works db holds. all_served (rules_of c.in-Ok-broker_over.broker) (catalog.rules_of c.args.settings.now)
+    (λ after works db holds. all_served (rules_in c.in-Ok-broker_over.broker) (catalog.rules_of c.args.settings.now)
     (most_of c.in-Ok-broker_over.broker) c.args.per_connection c.args.place.now.connections db
     (lives_of over_files c.in-Ok-broker_over.broker) (lives_of over_files c.serve_at-result.new.broker) (stored (file_state c.into_connection.result))
     (g.E.Sink.taken c.args.errors.now) (g.E.Sink.taken c.serve_at-result.new.errors)
@@ -40,7 +40,7 @@ returns-clause-leaves g c =
     c.into_records.ensures.works (subst (λ conn. Works (file_state conn)) same works) in
     if_err_under c.serve_at-result.result (Works (file_state c.into_connection.result)) _ _ _ _ c.serve_at-result.ensures.fault
     (λ works. c.serve_at-result.ensures.accepted (worked works)) c.serve_at-result.ensures.same
-    (λ fault is fewer unchanged works db holds. left_at (rules_of c.in-Ok-broker_over.broker) (catalog.rules_of c.args.settings.now)
+    (λ fault is fewer unchanged works db holds. left_at (rules_in c.in-Ok-broker_over.broker) (catalog.rules_of c.args.settings.now)
     (most_of c.in-Ok-broker_over.broker) c.args.per_connection c.args.place.now.connections db
     (lives_of over_files c.in-Ok-broker_over.broker) (lives_of over_files c.serve_at-result.new.broker) (stored (file_state c.into_connection.result))
     (g.E.Sink.taken c.args.errors.now) (g.E.Sink.taken c.serve_at-result.new.errors)

@@ -1,5 +1,5 @@
 use Rattle.std.proofs.Common.{◌∙◌}
-use Rattle.osb_broker.specs.Kept.{lives_of, most_of, rules_of}
+use Rattle.osb_broker.specs.BrokerState.{lives_of, most_of, rules_in}
 use Rattle.osb_broker.specs.Room.{limits_of}
 use Rattle.osb_listen.proofs.AfterLemmas.{after_more}
 use Rattle.osb_listen.proofs.listen.serve_listener.Goals as goal
@@ -14,7 +14,7 @@ loop-preserved g c =
       limits = c.serve_next.ensures.limits ∙ before.limits;
       works = λ works. before.works (c.serve_next.ensures.works works);
       after = λ works.
-          after_more (rules_of c.args.broker.now) (limits_of c.args.buffer.now) (most_of c.args.broker.now) c.loop.counter
+          after_more (rules_in c.args.broker.now) (limits_of c.args.buffer.now) (most_of c.args.broker.now) c.loop.counter
           (lives_of g.S.Store c.args.broker.now) (lives_of g.S.Store c.loop.broker) (lives_of g.S.Store c.serve_next.new.broker)
           (g.E.Sink.taken c.args.errors.now) (g.E.Sink.taken c.loop.errors) (g.E.Sink.taken c.serve_next.new.errors)
           (before.after (c.serve_next.ensures.works works))

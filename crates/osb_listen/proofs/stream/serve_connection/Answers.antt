@@ -1,5 +1,5 @@
 use Rattle.std.proofs.Common.{inl, refl}
-use Rattle.osb_broker.specs.Kept.{lives_of}
+use Rattle.osb_broker.specs.BrokerState.{lives_of}
 use Rattle.osb_listen.proofs.stream.serve_connection.Goals as goal
 
 pub returns-clause-served : goal.returns-clause-served

@@ -3,8 +3,8 @@ use Rattle.sqlite.specs.Held.{state}
 use Rattle.sqlite.specs.Effect.{Database}
 use Rattle.sqlite.specs.State.{HasCleanDisk}
 use Rattle.sqlite.proofs.StateLemmas.{survives_weaker}
-use Rattle.osb_records.specs.Opened.{HoldsSame, StandIn}
-use Rattle.osb_records.specs.Steps.{stored}
+use Rattle.osb_records.specs.Opened.{HoldsSame, AreLivesOfDatabase}
+use Rattle.osb_statements.specs.Steps.{stored}
 use Rattle.osb_records.proofs.OpenedLemmas.{completed_same, lacking_second, taken}
 use Rattle.osb_records.proofs.adopt.complete_tables.Goals as goal
 
@@ -44,4 +44,4 @@ returns-clause-takes g c =
     let stand = c.in_ok-index_tables.ensures.lives before in
     let now : new.now ≡ mid.now = search rules in
     let committed : new.now ≡ new.committed = search rules in
-    (c.in_ok-index_tables.ensures.ok before, stand.1.lives, now, committed, subst (λ (d : Database). StandIn d (stored begun)) same (inr (inr (lacking_second c.args.is_listed _ stand.0, stand.1, refl)))))
+    (c.in_ok-index_tables.ensures.ok before, stand.1.lives, now, committed, subst (λ (d : Database). AreLivesOfDatabase d (stored begun)) same (inr (inr (lacking_second c.args.is_listed _ stand.0, stand.1, refl)))))

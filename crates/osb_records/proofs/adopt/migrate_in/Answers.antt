@@ -1,7 +1,7 @@
 use Rattle.osb_contexts.specs.Reads.{behind}
-use Rattle.osb_records.proofs.StepLemmas.{clean_before}
 use Rattle.osb_records.proofs.OpenedLemmas.{migrate_writes}
 use Rattle.osb_records.proofs.adopt.migrate_in.Goals as goal
+use Rattle.osb_contexts.proofs.StepLemmas.{clean_before}
 
 pub returns-clause-ok : goal.returns-clause-ok
 returns-clause-ok g c clean =

@@ -3,8 +3,8 @@ use Rattle.sqlite.specs.Held.{state}
 use Rattle.sqlite.specs.Effect.{Database}
 use Rattle.sqlite.specs.State.{HasCleanDisk}
 use Rattle.sqlite.proofs.StateLemmas.{survives_weaker}
-use Rattle.osb_records.specs.Opened.{HoldsSame, StandIn}
-use Rattle.osb_records.specs.Stored.{lives_told}
+use Rattle.osb_records.specs.Opened.{HoldsSame, AreLivesOfDatabase}
+use Rattle.osb_statements.specs.Stored.{bare_lives_in}
 use Rattle.osb_records.proofs.OpenedLemmas.{migrated_same, made_first, taken}
 use Rattle.osb_records.proofs.adopt.migrate_tables.Goals as goal
 
@@ -39,9 +39,9 @@ returns-clause-takes g c =
     let mid = state g.S.Store c.migrate_in.new.tx.conn.now in
     let new = state g.S.Store c.conn-2-1.given.0 in
     let same : begun.now ≡ old.now = ap (λ held. (state g.S.Store held).now) c.transaction-tx.ensures.begun in
-    taken old begun mid new (lives_told begun.now.trees) (search rules) (λ clean live.
+    taken old begun mid new (bare_lives_in begun.now.trees) (search rules) (λ clean live.
     let before : HasCleanDisk mid = search rules in
     let stand = c.in_ok-migrate_in.ensures.lives before in
     let now : new.now ≡ mid.now = search rules in
     let committed : new.now ≡ new.committed = search rules in
-    (c.in_ok-migrate_in.ensures.ok before, stand.1.lives, now, committed, subst (λ (d : Database). StandIn d (lives_told begun.now.trees)) same (inr (inl (made_first c.args.indexes _ stand.0, stand.1, refl)))))
+    (c.in_ok-migrate_in.ensures.ok before, stand.1.lives, now, committed, subst (λ (d : Database). AreLivesOfDatabase d (bare_lives_in begun.now.trees)) same (inr (inl (made_first c.args.indexes _ stand.0, stand.1, refl)))))

@@ -6,7 +6,7 @@ use Rattle.sqlite.proofs.StateLemmas.{survives_weaker}
 use Rattle.osb_tables.specs.declared.schema.Indexes.{Indexes}
 use Rattle.osb_tables.specs.Tables.{made, no_schema, tables_schema, five_tables}
 use Rattle.osb_records.specs.Opened.{HoldsSame}
-use Rattle.osb_records.specs.Steps.{HoldsLives}
+use Rattle.osb_statements.specs.Steps.{HoldsLives}
 use Rattle.osb_records.proofs.OpenedLemmas.{empty_same, others_stand}
 use Rattle.osb_records.proofs.adopt.take_settled.Goals as goal
 

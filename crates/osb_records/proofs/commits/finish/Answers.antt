@@ -1,9 +1,9 @@
 use Rattle.std.proofs.Common.{rules, ◌≡◌, IsTrue, sym, ap, subst}
 use Rattle.sqlite.specs.Held.{state}
 use Rattle.sqlite.specs.State.{HasCleanDisk}
-use Rattle.osb_records.specs.Queries.{HasLives}
-use Rattle.osb_records.proofs.ContextLemmas.{ready_lives}
-use Rattle.osb_records.proofs.StepLemmas.{ready_of, tables_along, lives_along, standing_along, contexts_along, written_kept}
+use Rattle.osb_statements.specs.Queries.{HasLives}
+use Rattle.osb_statements.proofs.ContextLemmas.{ready_lives}
+use Rattle.osb_statements.proofs.StepLemmas.{ready_of, tables_along, lives_along, standing_along, contexts_along, written_kept}
 use Rattle.osb_records.proofs.commits.finish.Goals as goal
 
 pub end_joined-requires-clause-lives : goal.end_joined-requires-clause-lives

@@ -13,4 +13,4 @@ returns-clause-same c = same_lives _ _ (c.view.ensures.looks.same (memory_is_cle
 pub returns-clause-whole : goal.returns-clause-whole
 returns-clause-whole c =
     let same = same_lives _ _ (c.view.ensures.looks.same (memory_is_clean c.view.new.self) refl) in
-    subst IsLives (sym same) (c.are_whole.ensures.whole (memory_is_clean c.args.records.now) refl)
+    subst IsLives (sym same) (c.lives_are_whole.ensures.whole (memory_is_clean c.args.records.now) refl)

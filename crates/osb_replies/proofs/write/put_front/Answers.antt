@@ -11,7 +11,7 @@ use Rattle.osb_replies.proofs.write.put_front.Goals as goal
 pub returns : goal.returns
 returns g c = λ start text was.
     let sink = g.W.Sink in
-    let after = seen (sink.taken c.put-7.new.sink) (sink.writes c.put-7.new.sink) (sink.fruitless c.put-7.new.sink) (sink.room c.put-7.new.sink) in
+    let after = seen (sink.taken c.put-7.new.sink) (sink.writes c.put-7.new.sink) (sink.failed_or_empty c.put-7.new.sink) (sink.room c.put-7.new.sink) in
     let name = c.put-2.ensures start _ (c.put.ensures start text was) in
     let phrase = c.put-4.ensures start _ (c.put-3.ensures start _ name) in
     let all = c.put-7.ensures start _ (c.put-6.ensures start _ (c.put-5.ensures start _ phrase)) in

@@ -11,7 +11,7 @@ pub returns : goal.returns
 unfolding reply_text
 returns g c = λ start text was.
     let sink = g.W.Sink in
-    let after = seen (sink.taken c.put-4.new.sink) (sink.writes c.put-4.new.sink) (sink.fruitless c.put-4.new.sink) (sink.room c.put-4.new.sink) in
+    let after = seen (sink.taken c.put-4.new.sink) (sink.writes c.put-4.new.sink) (sink.failed_or_empty c.put-4.new.sink) (sink.room c.put-4.new.sink) in
     let reply = c.args.reply.now in
     let body = body_bytes reply.body in
     let echoed = c.put_echo.ensures start _ (c.put.ensures start _ (c.put_front.ensures start text was)) in

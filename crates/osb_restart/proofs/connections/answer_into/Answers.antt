@@ -3,7 +3,7 @@ use Rattle.std.proofs.lemmas.Result.{on_ok_weaker}
 use Rattle.osb_frames.specs.Steps.{message}
 use Rattle.osb_replies.specs.Parts.{parts}
 use Rattle.osb_replies.specs.Text.{reply_text}
-use Rattle.osb_broker.specs.Kept.{lives_of, rules_of, store_of}
+use Rattle.osb_broker.specs.BrokerState.{lives_of, rules_in, store_of}
 use Rattle.osb_broker.specs.Machine.{fault_reply}
 use Rattle.osb_restart.specs.Inside.{Attempted}
 use Rattle.osb_restart.proofs.AttemptLemmas.{fault_came, request_came, told_here, wrote_text}
@@ -11,19 +11,19 @@ use Rattle.osb_restart.proofs.connections.answer_into.Goals as goal
 
 pub returns-in-Whole-clause-attempted : goal.returns-in-Whole-clause-attempted
 returns-in-Whole-clause-attempted g c =
-    let rules = rules_of c.args.broker.now in
+    let rules = rules_in c.args.broker.now in
     let q = message c.in-Whole.request in
     let handles = c.handle.ensures in
     on_ok_weaker c.write_reply.result
     (λ sent. subst (λ l. Attempted rules c.args.limits.now (store_of g.S.Store c.args.broker.now) (store_of g.S.Store c.handle.new.self) (lives_of g.S.Store c.args.broker.now) (lives_of g.S.Store c.handle.new.self) c.args.bytes.now l)
     (sym (sent ∙ ap (λ l. l ++ reply_text (parts c.handle.result)) c.requires))
     (request_came rules c.args.limits.now c.args.bytes.now q _ c.in-Whole.ensures.says (parts c.handle.result) (c.never_fails.ensures.machine rules) _ _ _ _ _
-    handles.works c.are_whole.ensures.kept handles.crash handles.durable handles.handled handles.told handles.plain handles.shut))
+    handles.works c.lives_are_whole.ensures.kept handles.crash handles.durable handles.handled handles.told handles.plain handles.shut))
     c.write_reply.ensures.sent
 
 pub returns-in-Stop-clause-attempted : goal.returns-in-Stop-clause-attempted
 returns-in-Stop-clause-attempted g c =
-    let rules = rules_of c.args.broker.now in
+    let rules = rules_in c.args.broker.now in
     let at = told_here c.args.limits.now c.args.bytes.now _ c.in-Stop.kind c.in-Stop.ensures.stays in
     on_ok_weaker c.refuse.result
     (λ sent. fault_came rules c.args.limits.now c.args.bytes.now _ _ c.in-Stop.kind _ at (sent ∙ ap (λ l. l ++ reply_text (fault_reply c.in-Stop.kind)) c.requires))

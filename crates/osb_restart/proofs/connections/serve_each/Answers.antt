@@ -1,6 +1,6 @@
 use Rattle.std.proofs.Common.{[], ◌∷◌, ap, map, subst₂, vec_items, ◌∙◌}
 use Rattle.std.proofs.lemmas.List.{map-append}
-use Rattle.osb_broker.specs.Kept.{lives_of, rules_of, store_of}
+use Rattle.osb_broker.specs.BrokerState.{lives_of, rules_in, store_of}
 use Rattle.osb_restart.specs.Inside.{Attempted}
 use Rattle.osb_restart.proofs.EpisodeLemmas.{came_more, goes_more}
 use Rattle.osb_restart.proofs.connections.serve_each.Goals as goal
@@ -14,7 +14,7 @@ loop-bytes-preserved g c =
     before.rules c.deref.ensures.value c.in_ok-output.ensures.attempted in
     record {
       rules = c.output_of.ensures.rules ∙ before.rules;
-      goes_on = goes_more (rules_of c.args.broker.now) c.args.limits.now c.histories.ensures.one _ _ _ _ _ _ _ _ _ _ _ _ _
+      goes_on = goes_more (rules_in c.args.broker.now) c.args.limits.now c.histories.ensures.one _ _ _ _ _ _ _ _ _ _ _ _ _
           (came_more vec_items c.args.connections.now c.loop-bytes.bytes-index c.bytes-item.result c.loop-bytes-test.true c.bytes-item.is)
           (ap (map vec_items) c.in_ok-push.ensures.items ∙ map-append vec_items c.loop-bytes.outputs.items (output ∷ []))
           before.goes_on attempted;

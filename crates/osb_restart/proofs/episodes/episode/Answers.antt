@@ -1,7 +1,7 @@
 use Rattle.std.proofs.Common.{[], map, vec_items}
 use Rattle.sqlite.specs.Files.{file_state}
 use Rattle.osb_catalog.specs.Rules.{rules_of}
-use Rattle.osb_records.specs.Steps.{stored}
+use Rattle.osb_statements.specs.Steps.{stored}
 use Rattle.osb_restart.proofs.EpisodeLemmas.{restarted_then}
 use Rattle.osb_restart.proofs.episodes.episode.Goals as goal
 

@@ -7,7 +7,7 @@ use Rattle.sqlite_store.specs.Laws.{settled_at}
 use Rattle.osb_orders.specs.Lives.{Lives}
 use Rattle.osb_file.specs.File.{AreLivesOf}
 use Rattle.osb_file.proofs.FileLemmas.{opened_stand}
-use Rattle.osb_records.specs.Steps.{HoldsLives, stored}
+use Rattle.osb_statements.specs.Steps.{HoldsLives, stored}
 use Rattle.osb_restart.proofs.FoundLemmas.{finds_kept, holds_same}
 use Rattle.osb_restart.proofs.restart.restarted.Goals as goal
 
@@ -28,7 +28,7 @@ returns-in-Ok-clause-found g c clean live =
 
 pub returns-in-Ok-clause-kept : goal.returns-in-Ok-clause-kept
 returns-in-Ok-clause-kept g c clean live was_open =
-    let keeps = c.are_whole.ensures.kept (returns-in-Ok-clause-clean g c clean) was_open in
+    let keeps = c.lives_are_whole.ensures.kept (returns-in-Ok-clause-clean g c clean) was_open in
     finds_kept (file_state c.args.records) _ _ keeps (returns-in-Ok-clause-found g c clean live)
 
 pub returns-in-Ok-clause-left : goal.returns-in-Ok-clause-left

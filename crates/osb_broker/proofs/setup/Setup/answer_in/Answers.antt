@@ -1,19 +1,19 @@
 use Rattle.std.proofs.Common.{refl, inl, inr, arith}
 use Rattle.osb_frames.specs.Steps.{message}
 use Rattle.osb_broker.specs.Inside.{given_rules}
-use Rattle.osb_broker.specs.Steps.{crowded}
+use Rattle.osb_broker.specs.Steps.{capped}
 use Rattle.osb_broker.proofs.ReplyLemmas.{handles_reply, handles_refusal}
 use Rattle.osb_broker.proofs.setup.Setup.answer_in.Goals as goal
 
 pub returns-in-Ok-clause-handles : goal.returns-in-Ok-clause-handles
 returns-in-Ok-clause-handles g c =
     let rules = given_rules c.args.self.now in
-    handles_reply (crowded rules) rules (message c.args.request.now) c.args.last (λ lives. refl) (c.never_fails.ensures.crowded rules) c.in-Ok.ensures.gives
+    handles_reply (capped rules) rules (message c.args.request.now) c.args.last (λ lives. refl) (c.never_fails.ensures.capped rules) c.in-Ok.ensures.gives
 
 pub returns-in-Err-clause-handles : goal.returns-in-Err-clause-handles
 returns-in-Err-clause-handles g c =
     let rules = given_rules c.args.self.now in
-    handles_refusal (crowded rules) rules (message c.args.request.now) c.args.last (λ lives. refl) refl c.in-Err.ensures.gives
+    handles_refusal (capped rules) rules (message c.args.request.now) c.args.last (λ lives. refl) refl c.in-Err.ensures.gives
 
 pub returns-in-Ok-clause-room : goal.returns-in-Ok-clause-room
 returns-in-Ok-clause-room g c = inr c.in-Ok.ensures.room

@@ -1,6 +1,6 @@
 use Rattle.std.proofs.Common.{refl}
 use Rattle.osb_broker.proofs.HandleLemmas.{late}
-use Rattle.osb_broker.proofs.ReplyLemmas.{by_step, not_settled}
+use Rattle.osb_broker.proofs.ReplyLemmas.{by_step, not_applied}
 use Rattle.osb_broker.proofs.setup.Setup.replied.Goals as goal
 
 pub returns-in-Err-clause-late : goal.returns-in-Err-clause-late
@@ -9,8 +9,8 @@ returns-in-Err-clause-late g c =
 
 pub returns-in-Err-clause-gives : goal.returns-in-Err-clause-gives
 returns-in-Err-clause-gives g c =
-    not_settled _ refl c.in_ok-answer.ensures.gives c.in-Err.ensures.settles
+    not_applied _ refl c.in_ok-answer.ensures.gives c.in-Err.ensures.applies
 
 pub returns-in-Ok-clause-gives : goal.returns-in-Ok-clause-gives
 returns-in-Ok-clause-gives g c =
-    by_step c.reply_to-reply.result c.in_ok-answer.ensures.gives c.prepared.ensures.kept c.in-Ok.ensures.settles c.reply_to-reply.ensures
+    by_step c.reply_to-reply.result c.in_ok-answer.ensures.gives c.prepared.ensures.kept c.in-Ok.ensures.applies c.reply_to-reply.ensures

@@ -1,7 +1,7 @@
 use Rattle.std.proofs.Common.{◌++◌, refl, ap, ◌∙◌}
 use Rattle.osb_replies.specs.Parts.{parts}
 use Rattle.osb_replies.specs.Text.{reply_text}
-use Rattle.osb_frames.specs.Kept.{room_of}
+use Rattle.osb_frames.specs.InMemory.{room_of}
 use Rattle.osb_broker.proofs.ReplyLemmas.{worked}
 use Rattle.osb_broker.proofs.ShutLemmas.{handled_so}
 use Rattle.osb_broker.proofs.FixedLemmas.{reply_fits, written_whole}

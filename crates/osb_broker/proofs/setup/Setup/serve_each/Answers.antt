@@ -2,8 +2,8 @@ use Rattle.std.proofs.Common.{◌+◌, ◌≤◌, [], ◌∷◌, length, map, ve
 use Rattle.std.proofs.lemmas.List.{length-append, take_all}
 use Rattle.sqlite.specs.Held.{state}
 use Rattle.osb_broker.specs.Room.{IsBlank}
-use Rattle.osb_broker.specs.Steps.{crowded}
-use Rattle.osb_broker.specs.Kept.{LivesGo}
+use Rattle.osb_broker.specs.Steps.{capped}
+use Rattle.osb_broker.specs.BrokerState.{LivesGo}
 use Rattle.osb_broker.specs.Inside.{given_most, given_rules, Worked}
 use Rattle.osb_broker.specs.Served.{RunServed}
 use Rattle.osb_broker.proofs.ShutLemmas.{go_through, lives_stay, not_touched, worked_then}
@@ -18,7 +18,7 @@ loop-connection-init g c = record {
   count = c.in_ok-outputs.ensures.len;
   room = c.in_ok-outputs.ensures.capacity;
   worked = not_touched;
-  served = λ before after go. rw (c.in_ok-outputs.ensures.items, lives_stay go) (run_start (crowded (given_rules c.args.self.now)) c.args.limits.now (given_most c.args.self.now) before);
+  served = λ before after go. rw (c.in_ok-outputs.ensures.items, lives_stay go) (run_start (capped (given_rules c.args.self.now)) c.args.limits.now (given_most c.args.self.now) before);
 }
 
 pub output_of-output-requires : goal.output_of-output-requires
@@ -36,7 +36,7 @@ loop-connection-preserved g c =
         worked = subst (λ records. Worked (state g.S.Store c.args.records.now) (state g.S.Store records)) (sym w.records-is) (worked_then before.worked w.output_of-output.ensures.worked);
         served = λ was now go.
             let through = go_through before.worked w.output_of-output.ensures.worked was now (subst (λ records. LivesGo (state g.S.Store c.args.records.now) (state g.S.Store records) was now) w.records-is go) in
-            run_on (crowded (given_rules c.args.self.now)) c.args.limits.now (given_most c.args.self.now) was vec_items c.args.connections.now c.loop-connection.connection-index c.connection-item.result
+            run_on (capped (given_rules c.args.self.now)) c.args.limits.now (given_most c.args.self.now) was vec_items c.args.connections.now c.loop-connection.connection-index c.connection-item.result
             c.loop-connection.outputs.items c.match-pop.outputs.items w.output_of-output.result through.0 now
             c.loop-connection-test.true c.connection-item.is (ap vec_items w.outputs-is ∙ w.in_ok-push.ensures.items) (before.served was through.0 through.1)
             (rw w.deref.ensures.value at (w.output_of-output.ensures.served through.0 now through.2));
@@ -48,4 +48,4 @@ pub returns-clause-ok : goal.returns-clause-ok
 returns-clause-ok g c before after go =
     let connections = c.args.connections.now in
     let all = take_all c.loop-connection.connection-index connections (omega (arith, c.loop-connection-test.false)) in
-    subst (λ served. RunServed (crowded (given_rules c.args.self.now)) c.args.limits.now (given_most c.args.self.now) before (map vec_items served) (map vec_items c.loop-connection.outputs.items) after) all (c.loop-connection.invariant.served before after go)
+    subst (λ served. RunServed (capped (given_rules c.args.self.now)) c.args.limits.now (given_most c.args.self.now) before (map vec_items served) (map vec_items c.loop-connection.outputs.items) after) all (c.loop-connection.invariant.served before after go)

@@ -3,8 +3,8 @@ use Rattle.std.specs.List.{AllByRecursion}
 use Rattle.sqlite.specs.Held.{state}
 use Rattle.osb_orders.specs.Lives.{Lives}
 use Rattle.osb_broker.specs.Room.{IsBlank}
-use Rattle.osb_broker.specs.Steps.{crowded}
-use Rattle.osb_broker.specs.Kept.{LivesGo}
+use Rattle.osb_broker.specs.Steps.{capped}
+use Rattle.osb_broker.specs.BrokerState.{LivesGo}
 use Rattle.osb_broker.specs.Inside.{given_most, given_rules, Worked}
 use Rattle.osb_broker.specs.Served.{RunServed}
 use Rattle.osb_broker.proofs.setup.Setup.serve_each.Given as goal
@@ -16,5 +16,5 @@ invariant-loop-connection g l = record {
   count : vec_len l.outputs ≡ l.connection-index;
   room : length l.connections ≤ vec_capacity l.outputs;
   worked : Worked (state g.S.Store l.fn.records) (state g.S.Store l.records);
-  served : (before after : Lives) → LivesGo (state g.S.Store l.fn.records) (state g.S.Store l.records) before after → RunServed (crowded (given_rules l.self)) l.limits (given_most l.self) before (map vec_items (take l.connection-index l.connections)) (map vec_items l.outputs.items) after;
+  served : (before after : Lives) → LivesGo (state g.S.Store l.fn.records) (state g.S.Store l.records) before after → RunServed (capped (given_rules l.self)) l.limits (given_most l.self) before (map vec_items (take l.connection-index l.connections)) (map vec_items l.outputs.items) after;
 }

@@ -137,7 +137,7 @@ loop-left-preserved g c =
     let held = take c.loop-left.filled c.loop-left.room in
     let n = c.in-Ok-fill.n in
     let piece = take n (drop c.loop-left.filled c.fill.new.room) in
-    let fruitful = fruitful_yet c.loop-left.ended calls c.in-More.ensures.says.0 c.loop-left.invariant.holding.4 in
+    let gave_bytes = fruitful_yet c.loop-left.ended calls c.in-More.ensures.says.0 c.loop-left.invariant.holding.4 in
     let size : length piece ≡ n = omega (arith, length-take n (drop c.loop-left.filled c.fill.new.room), length-drop c.loop-left.filled c.fill.new.room, c.in-Ok-fill.ensures.bound) in
     let front : take (c.loop-left.filled + n) c.fill.new.room ≡ held ++ piece = take-add c.loop-left.filled n c.fill.new.room ∙ ap (λ l. l ++ piece) c.in-Ok-fill.ensures.kept in
     record {
@@ -156,8 +156,8 @@ loop-left-preserved g c =
         rw (front, all_more calls piece) (left_fed c.args.limits.now (given_most c.args.self.now) got c.loop-left.left held piece c.loop-left.invariant.holding.2),
         (λ before after go. rw (front, all_more calls piece) (holding_fed (machine (given_rules c.args.self.now)) c.args.limits.now (given_most c.args.self.now) before got _ c.loop-left.left _ _ held piece (c.loop-left.invariant.holding.3 before after go))),
         elim c.if-n-eq0.branch [
-          | then-n-eq0 w ↦ rw w.ended-is (ended_here calls piece fruitful (nil_from_length piece (omega (arith, size, w.if-n-eq0.true))))
-          | else-n-eq0 w ↦ rw (w.ended-is, c.in-More.ensures.says.0) (fruitful_more calls piece fruitful (omega (arith, size, w.if-n-eq0.false)))
+          | then-n-eq0 w ↦ rw w.ended-is (ended_here calls piece gave_bytes (nil_from_length piece (omega (arith, size, w.if-n-eq0.true))))
+          | else-n-eq0 w ↦ rw (w.ended-is, c.in-More.ensures.says.0) (fruitful_more calls piece gave_bytes (omega (arith, size, w.if-n-eq0.false)))
         ],
         needed_more c.args.limits.now (given_most c.args.self.now) _ calls (Some piece) c.loop-left.invariant.holding.5 (record {
           left = c.loop-left.left;

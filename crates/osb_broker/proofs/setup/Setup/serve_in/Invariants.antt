@@ -4,10 +4,10 @@ use Rattle.sqlite.specs.Held.{state}
 use Rattle.osb_frames.specs.Calls.{Call, all_bytes}
 use Rattle.osb_orders.specs.Lives.{Lives}
 use Rattle.osb_broker.specs.Steps.{machine}
-use Rattle.osb_broker.specs.Kept.{LivesGo}
+use Rattle.osb_broker.specs.BrokerState.{LivesGo}
 use Rattle.osb_broker.specs.Inside.{given_most, given_rules, Worked}
-use Rattle.osb_broker.specs.Serving.{EachWasNeeded, Gave, Left}
-use Rattle.osb_broker.proofs.HoldLemmas.{Holding}
+use Rattle.osb_broker.specs.Serving.{EachWasNeeded, ReadsMade, RequestsPassed}
+use Rattle.osb_broker.proofs.HoldLemmas.{ReadSoFar}
 use Rattle.osb_broker.proofs.ReadLemmas.{SoFar}
 use Rattle.osb_broker.proofs.setup.Setup.serve_in.Given as goal
 
@@ -19,15 +19,15 @@ invariant-loop-left g l =
     let sink = g.W.Sink in
     let source = g.R.Source in
     record {
-      kept : sink.fruitless l.sink ≡ sink.fruitless l.fn.sink;
+      kept : sink.failed_or_empty l.sink ≡ sink.failed_or_empty l.fn.sink;
       failed : source.failures l.source ≡ source.failures l.fn.source;
       inside : l.filled ≤ length l.room;
       met : l.met_fault ≡ l.fn.met_fault;
       over : l.ended ≡ true → IsAtEnd (source.rest l.source);
       worked : Worked (state g.S.Store l.fn.records) (state g.S.Store l.records);
-      holding : (calls : List Call) × Gave (source.calls l.fn.source) (source.calls l.source) (source.rest l.fn.source) (source.rest l.source) calls
-          × Left l.limits (given_most l.self) (all_bytes calls) l.left (take l.filled l.room)
-          × ((before after : Lives) → LivesGo (state g.S.Store l.fn.records) (state g.S.Store l.records) before after → Holding (machine (given_rules l.self)) l.limits (given_most l.self) before (all_bytes calls) (sink.taken l.fn.sink) l.left (sink.taken l.sink) after (take l.filled l.room))
+      holding : (calls : List Call) × ReadsMade (source.calls l.fn.source) (source.calls l.source) (source.rest l.fn.source) (source.rest l.source) calls
+          × RequestsPassed l.limits (given_most l.self) (all_bytes calls) l.left (take l.filled l.room)
+          × ((before after : Lives) → LivesGo (state g.S.Store l.fn.records) (state g.S.Store l.records) before after → ReadSoFar (machine (given_rules l.self)) l.limits (given_most l.self) before (all_bytes calls) (sink.taken l.fn.sink) l.left (sink.taken l.sink) after (take l.filled l.room))
           × SoFar l.ended calls
           × EachWasNeeded l.limits (given_most l.self) (length l.fn.room) calls;
     }

@@ -1,0 +1,78 @@
+-- What the words ask for, and what was done of it. For contracts inside the crate.
+use Rattle.std.specs.Prelude.{ℕ, List, map, Option, option_map, ◌≡◌, ⊤, ◌*◌, [], codes, unwrap_or}
+use Rattle.osb_cli.specs.declared.words.Replay.{Replay}
+use Rattle.osb_cli.specs.Done.{IsReplayedBy}
+use Rattle.sqlite.specs.Tree.{Trees}
+use Rattle.osb_listen.specs.declared.fault.ListenFault.{ListenFault}
+use Rattle.osb_listen.specs.declared.fault.ListenFault.TheVariants as listen
+use Rattle.osb_cli.specs.declared.fault.Unserved.{Unserved}
+use Rattle.osb_cli.specs.declared.fault.Unserved.TheVariants.{Fault, PlanInUse}
+use Rattle.osb_cli.specs.Serve.{LacksPlan}
+use Rattle.std.specs.Duration.{as_nanos}
+use Rattle.clap.specs.Words.{all_of, found_of, one_of, rows_of}
+use Rattle.clap.specs.declared.parser.matches.ArgMatches.{ArgMatches}
+use Rattle.osb_cli.specs.declared.words.Check.{Check}
+use Rattle.osb_cli.specs.declared.words.Listen.{Listen}
+use Rattle.osb_cli.specs.declared.words.Job.{Job}
+use Rattle.osb_cli.specs.declared.words.Job.TheVariants as order
+use Rattle.osb_cli.specs.Words.{FoundCommand, Names, text_in, texts_in, number_text_in, HasNumber, HasPerConnection, HasConnections}
+
+-- as a replay was asked for
+abbrev pub IsReplayedFor : Replay → Option (List ℕ) → List ℕ → List ℕ → Type 0
+IsReplayedFor asked = IsReplayedBy (option_map (λ it. it.now) asked.settings) asked.per_connection.number
+    (map (λ it. it.now) asked.connections.items)
+
+-- a plan that is named as in use is one
+abbrev pub NamesInUse : Trees → Unserved → Type 0
+NamesInUse db (PlanInUse service plan) = LacksPlan db service plan
+NamesInUse db (Fault fault) = ⊤
+
+-- a fault of serving and the one that the command has for it name the same plan, or none
+abbrev pub NameOne : ListenFault → Unserved → Type 0
+NameOne (listen.PlanInUse service plan) (PlanInUse found named) = (found ≡ service) × (named ≡ plan)
+NameOne fault (PlanInUse found named) = ⊥
+NameOne fault (Fault other) = ⊤
+
+-- the fault names a plan
+abbrev pub IsPlan : Unserved → Type 0
+IsPlan (PlanInUse service plan) = ⊤
+IsPlan (Fault fault) = ⊥
+
+-- the same of what clap found behind the command's name
+abbrev pub number_text_of : List ℕ → ArgMatches → Option (List ℕ)
+number_text_of id found = one_of id (rows_of (found_of found))
+
+abbrev pub option_texts_of : List ℕ → ArgMatches → List (List ℕ)
+option_texts_of id found = unwrap_or (all_of id (rows_of (found_of found))) []
+
+abbrev pub HasTimeLimit : FoundCommand → ℕ → Type 0
+HasTimeLimit found = HasNumber 86400 10 (number_text_in (codes "time-limit") found)
+
+pub record AsksReplay (found : FoundCommand) (asked : Replay) : Type 0 where
+  pub no_check : ¬ Names (codes "check") found
+  pub no_serve : ¬ Names (codes "serve") found
+  pub settings : option_map (λ it. it.now) asked.settings ≡ text_in (codes "settings") found
+  pub connections : map (λ it. it.now) asked.connections.items ≡ texts_in (codes "connections") found
+  pub per_connection : HasPerConnection found asked.per_connection.number
+
+pub record AsksServe (found : FoundCommand) (asked : Listen) : Type 0 where
+  pub named : Names (codes "serve") found
+  pub settings : asked.settings.now ≡ unwrap_or (text_in (codes "settings") found) []
+  pub database : asked.place.database.now ≡ unwrap_or (text_in (codes "database") found) []
+  pub address : asked.place.address.now ≡ unwrap_or (text_in (codes "listen") found) []
+  pub connections : HasConnections found asked.place.connections
+  pub per_connection : HasPerConnection found asked.per_connection.number
+  pub seconds : ℕ
+  pub time_limit : as_nanos asked.place.time_limit ≡ seconds * 1000000000
+  pub limit : HasTimeLimit found seconds
+
+pub record AsksCheck (found : FoundCommand) (asked : Check) : Type 0 where
+  pub named : Names (codes "check") found
+  pub settings : option_map (λ it. it.now) asked.settings ≡ text_in (codes "settings") found
+  pub database : option_map (λ it. it.now) asked.database ≡ text_in (codes "database") found
+
+-- the order is what the words ask for
+abbrev pub Asks : FoundCommand → Job → Type 0
+Asks found (order.Check asked) = AsksCheck found asked
+Asks found (order.Replay asked) = AsksReplay found asked
+Asks found (order.Serve asked) = AsksServe found asked

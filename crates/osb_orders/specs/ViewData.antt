@@ -1,0 +1,51 @@
+-- What an ask needs to know of the lives.
+use Rattle.std.specs.Prelude.{ℕ, Bool, List, [], length, Option, option_and_then}
+use Rattle.osb_asks.specs.declared.ask.Ask.{Ask}
+use Rattle.osb_asks.specs.declared.ask.Ask.TheVariants.{Orders}
+use Rattle.osb_orders.specs.declared.order.Order.{Order}
+use Rattle.osb_orders.specs.declared.view.Standing.{Standing}
+use Rattle.osb_orders.specs.declared.view.BindingNow.{BindingNow}
+use Rattle.osb_orders.specs.declared.view.View.{View}
+use Rattle.osb_orders.specs.Lists.{last_of}
+use Rattle.osb_orders.specs.Life.{Life, standing_of}
+use Rattle.osb_orders.specs.Bindings.{binding_of, has_bindings}
+use Rattle.osb_orders.specs.Lives.{Lives, named_life}
+use Rattle.osb_orders.specs.Named.{instance_in, binding_in, subject, named_in}
+use Rattle.osb_orders.specs.Listing.{listing_for}
+
+-- the parts of a view
+pub record ViewData : Type 0 where
+  pub standing : Option Standing
+  pub last : Option Order
+  pub binding : Option BindingNow
+  pub named : Option Order
+  pub subject_last : Option Order
+  pub count : ℕ
+  pub bound : Bool
+  pub listing : List (List ℕ × Order)
+
+-- the facts that a view has
+abbrev pub data_in : View → ViewData
+data_in view = record { standing = view.standing; last = view.last; binding = view.binding; named = view.named; subject_last = view.subject_last; count = view.count; bound = view.bound; listing = view.listing.items }
+
+-- running orders matter to the ask that lists them alone
+abbrev pub listing_in : Ask → List (List ℕ × Order) → List (List ℕ × Order)
+listing_in (Orders ask) listing = listing
+listing_in _ listing = []
+
+-- the facts for an ask, from the life that it names and the running orders
+abbrev pub view_data_of : Life → List (List ℕ × Order) → Ask → ViewData
+view_data_of life listing ask = record {
+  standing = standing_of life;
+  last = last_of life;
+  binding = option_and_then (λ id. binding_of id life) (binding_in ask);
+  named = named_in ask life;
+  subject_last = last_of (subject ask life);
+  count = length life;
+  bound = has_bindings life;
+  listing = listing_in ask listing;
+}
+
+-- the view of the lives for an ask
+abbrev pub view_of : Lives → Ask → ViewData
+view_of lives ask = view_data_of (named_life lives (instance_in ask)) (listing_for lives ask) ask

@@ -1,7 +1,0 @@
-use Rattle.sqlite_trees.specs.Tree.{rowid}
-use Rattle.osb_records.specs.Read.{rowid_shown}
-use Rattle.osb_records.proofs.ReadLemmas.{told_more}
-use Rattle.osb_records.proofs.cells.rowids_in.Goals as goal
-
-pub loop-row-preserved : goal.loop-row-preserved
-loop-row-preserved c = told_more rowid_shown rowid c.args.rows.now c.loop-row.row-index c.row-item.result c.loop-row.ids.items c.push.new.self.items _ c.loop-row-test.true c.row-item.is c.loop-row.invariant c.in_ok-rowid_in.ensures.told c.in_ok-push.ensures.items

@@ -1,7 +1,0 @@
-use Rattle.std.proofs.Common.{◌≡◌, map, take}
-use Rattle.sqlite_trees.specs.Tree.{rowid}
-use Rattle.osb_records.specs.Read.{rowid_shown}
-use Rattle.osb_records.proofs.cells.rowids_in.Given as goal
-
-abbrev pub invariant-loop-row : goal.invariant-loop-row
-invariant-loop-row l = map rowid_shown l.ids.items ≡ map rowid (take l.row-index l.rows)

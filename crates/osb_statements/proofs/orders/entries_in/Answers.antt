@@ -1,0 +1,18 @@
+use Rattle.std.proofs.Common.{rules, sym, subst}
+use Rattle.osb_statements.specs.Stored.{AreBare, entry_row}
+use Rattle.osb_statements.specs.Read.{entry_columns}
+use Rattle.osb_statements.proofs.ReadLemmas.{row_of}
+use Rattle.osb_statements.proofs.BareLemmas.{all_pushed}
+use Rattle.osb_statements.proofs.orders.entries_in.Goals as goal
+use Rattle.osb_contexts.proofs.ReadLemmas.{told_more}
+
+pub loop-row-preserved : goal.loop-row-preserved
+loop-row-preserved c = (
+  told_more entry_row entry_columns c.args.rows.now c.loop-row.row-index c.row-item.result c.loop-row.entries.items c.push.new.self.items _ c.loop-row-test.true c.row-item.is c.loop-row.invariant.0 c.in_ok-entry_in.ensures.entry.told c.in_ok-push.ensures.items,
+  subst AreBare (sym c.in_ok-push.ensures.items) (all_pushed _ c.loop-row.entries.items _ c.loop-row.invariant.1 c.in_ok-entry_in.ensures.bare),
+)
+
+pub returns-in_err-entry_in-clause-known : goal.returns-in_err-entry_in-clause-known
+returns-in_err-entry_in-clause-known c entries are is =
+    let at = row_of entry_row c.args.rows.now entries c.loop-row.row-index c.row-item.result c.loop-row-test.true c.row-item.is are in
+    c.in_err-entry_in.ensures.entry.known at.0 at.1 (search rules)

@@ -1,0 +1,90 @@
+//! Cells of a row as values.
+
+ghost use Rattle.std.specs.Prelude.{◌≡◌, true, pos, map, IfOk, IfErr, OnOk};
+ghost use Rattle.std.specs.Ordering.{nat_cmp};
+ghost use Rattle.std.specs.List.Sorted.{IsStrictlySortedBy};
+ghost use Rattle.sqlite.specs.declared.types.Value.TheVariants.{Int, Text as Words};
+ghost use Rattle.sqlite.specs.Order.{column, bytes};
+ghost use Rattle.sqlite_trees.specs.Tree.{rowid};
+ghost use Rattle.osb_statements.specs.declared.fault.StoreFault.TheVariants as faults;
+ghost use Rattle.osb_statements.specs.Read.{HoldAttributes};
+ghost use Rattle.osb_contexts.specs.Read.{rowid_shown, AreRowids};
+ghost use Rattle.osb_statements.specs.Columns.{number_in, attributes_decoded};
+
+use crate::fault::StoreFault;
+use osb_orders::Attributes;
+use osb_text::Text;
+use sqlite::Row;
+use std::alloc::Global;
+
+pub(crate) fn text_in(row: &Row, at: usize) -> Result<Text, StoreFault>
+    ensures told { IfOk result (λ text. text ≡ bytes (column row.now at)) }
+    ensures held { IfOk result (λ text. column row.now at ≡ Words text) }
+    ensures refused { IfErr result (λ fault. fault ≡ faults.Refused) }
+{
+    let string: String = row.get(at)?;
+    Ok(Text::from(string))
+}
+
+pub(crate) fn number_in(row: &Row, at: usize) -> Result<u32, StoreFault>
+    ensures told { IfOk result (λ number. number ≡ number_in (column row.now at)) }
+    ensures held { IfOk result (λ number. column row.now at ≡ Int (pos number)) }
+    ensures refused { IfErr result (λ fault. fault ≡ faults.Refused) }
+{
+    Ok(row.get(at)?)
+}
+
+/// The attributes that the columns hold. None of them is the context.
+pub(crate) fn attributes_in(alloc: Global, row: &Row) -> Result<Attributes, StoreFault>
+    ensures told { IfOk result (λ attributes. attributes ≡ attributes_decoded row.now) }
+    ensures held { IfOk result (HoldAttributes row.now) }
+    ensures refused { IfErr result (λ fault. fault ≡ faults.Refused) }
+{
+    Ok(Attributes {
+        service: text_in(row, 4)?,
+        plan: text_in(row, 5)?,
+        place: text_in(row, 6)?,
+        spot: text_in(row, 7)?,
+        parameters: text_in(row, 8)?,
+        maintenance: text_in(row, 9)?,
+        context: Text::from_str(alloc, "{}")?,
+    })
+}
+
+fn rowid_in(row: &Row) -> Result<u64, StoreFault>
+    ensures told { IfOk result (λ id. rowid_shown id ≡ rowid row.now) }
+    ensures refused { IfErr result (λ fault. fault ≡ faults.Refused) }
+{
+    Ok(row.get(0)?)
+}
+
+/// The rowids of the rows, none of them negative.
+fn rowids_in(alloc: Global, rows: &[Row]) -> Result<Vec<u64>, StoreFault>
+    ensures told { IfOk result (λ ids. map rowid_shown ids.items ≡ map rowid rows.now) }
+    ensures refused { IfErr result (λ fault. fault ≡ faults.Refused) }
+{
+    let mut ids = Vec::new(alloc);
+    for row in rows {
+        ids.push(rowid_in(row)?)?;
+    }
+    Ok(ids)
+}
+
+fn rise(ids: &[u64]) -> bool
+    ensures { result ≡ true → IsStrictlySortedBy nat_cmp ids.now }
+{
+    ids.is_sorted_by(|id, next| id < next)
+}
+
+/// Refuses rows that are no rising rowids.
+pub(crate) fn check_rowids(alloc: Global, rows: &[Row]) -> Result<(), StoreFault>
+    ensures ok { OnOk result (AreRowids rows.now) }
+    ensures refused { IfErr result (λ fault. fault ≡ faults.Refused) }
+{
+    let ids = rowids_in(alloc, rows)?;
+    if rise(&ids) {
+        Ok(())
+    } else {
+        Err(StoreFault::Refused)
+    }
+}
