@@ -1,12 +1,12 @@
 -- The connections of one instance, and those of others.
-use Rattle.std.proofs.Common.{◌≡◌, ℕ, Bool, true, false, cond, List, [], ◌∷◌, drop, Option, None, Some, Result, Ok, Err, refl, sym, ap, subst, ◌∙◌, ◌⊎◌, inl, inr}
+use Rattle.std.proofs.Common.{◌≡◌, ℕ, Bool, true, false, cond, List, [], ◌∷◌, Option, None, Some, Result, Ok, Err, refl, sym, ap, subst, ◌∙◌, ◌⊎◌, inl, inr}
 use Rattle.std.specs.Prelude.{bytes_eq, unwrap_or}
 use Rattle.std.specs.Cmp.{eq_by_cmp_equiv}
 use Rattle.std.specs.Cmp.Lexicographic.{nat_list_cmp_total}
 use Rattle.std.specs.FinMap.{get, insert, get-insert}
 use Rattle.std.proofs.lemmas.Slice.Eq.{bytes_eq-Decides}
 use Rattle.osb_frames.specs.declared.limits.Limits.{Limits}
-use Rattle.osb_frames.specs.Cuts.{Message, nothing, fault, whole, IsFront, empty}
+use Rattle.osb_frames.specs.Cuts.{Message, nothing, fault, whole, IsFront}
 use Rattle.osb_frames.proofs.FrontLemmas.{front_unique}
 use Rattle.osb_replies.specs.Text.{ReplyParts, reply_text}
 use Rattle.osb_catalog.specs.Rules.{Rules}
@@ -23,10 +23,11 @@ use Rattle.osb_machine.specs.Machine.{answer_to, after_step}
 use Rattle.osb_laws.proofs.MapLemmas.{answers_apart, others_stay, unnamed_stay}
 use Rattle.osb_broker.specs.Machine.{Answered, reply_of}
 use Rattle.osb_broker.specs.Steps.{answer_alone, step_of, step_for, lives_after}
-use Rattle.osb_broker.specs.Connection.{ConnectionText, answers, Run}
+use Rattle.osb_broker.specs.Connection.{ConnectionText, Run}
 use Rattle.osb_broker.specs.Resend.{refusing}
 use Rattle.osb_broker.specs.Apart.{AsksOf, Chooses, picked, InstancesAreApart}
-use Rattle.osb_broker.proofs.RequestLemmas.{Kind, silent, broken, asks, Seen, view, nothing_after_any, AreValidTexts}
+use Rattle.osb_broker.proofs.OneByOneLemmas.{text_of_request}
+use Rattle.osb_broker.proofs.RequestLemmas.{Kind, silent, broken, asks, Seen, view, AreValidTexts}
 use Rattle.osb_broker.proofs.RepeatLemmas.{once}
 
 -- ---- the life that an ask names, after its step
@@ -89,7 +90,7 @@ module _ (rules : Rules) (limits : Limits) (id : List ℕ) where
   instance_found (Err f) = None
 
   decide : (bytes : List ℕ) → Kind limits bytes → AsksOf rules limits id bytes ⊎ (AsksOf rules limits id bytes → ⊥)
-  decide bytes (silent e) = inr (λ names. let same = front_unique limits bytes nothing (whole names.q names.n) (empty e refl) names.front in cc)
+  decide bytes (silent e) = inr (λ names. let same = front_unique limits bytes nothing (whole names.q names.n) e names.front in cc)
   decide bytes (broken f at) = inr (λ names. let same = front_unique limits bytes (fault f) (whole names.q names.n) at names.front in cc)
   decide bytes (asks q n at) = decide_at bytes q n at (ask_of rules q) refl (instance_found (ask_of rules q)) (λ ask e. sym (ap instance_found e))
 
@@ -118,11 +119,10 @@ module _ (rules : Rules) (limits : Limits) (takes : Message → Bool) (id bytes 
     pub same : life_of u id ≡ life_of next id
 
   made : (q : Message) (n : ℕ) → IsFront limits bytes (whole q n) → (mark : Bool) (reply : ReplyParts) (v w : Lives) → Answered (refusing takes rules) q true mark v reply w → ConnectionText (refusing takes rules) limits 1 v bytes (mark ∷ []) (reply_text reply ∷ []) w
-  made q n at mark reply v w answered =
-      answers mark (reply_text reply) reply.close w (drop n bytes) [] [] (record { q = q; n = n; front = at; fewer = refl; reply = reply; answered = answered; says = refl; closed = refl; after = refl }) refl refl (nothing_after_any (refusing takes rules) limits reply.close w (drop n bytes))
+  made q n at mark reply v w answered = text_of_request (refusing takes rules) limits v bytes q n mark reply w at answered
 
   answers_alike : (kind : Kind limits bytes) (s v : Lives) (marks : List Bool) (texts : List (List ℕ)) (u : Lives) → Seen rules takes limits bytes kind s marks texts u → AsksOf rules limits id bytes → life_of s id ≡ life_of v id → Answers v marks texts u
-  answers_alike (silent e) s v marks texts u seen names same = let apart = front_unique limits bytes nothing (whole names.q names.n) (empty e refl) names.front in cc
+  answers_alike (silent e) s v marks texts u seen names same = let apart = front_unique limits bytes nothing (whole names.q names.n) e names.front in cc
   answers_alike (broken f at) s v marks texts u seen names same = let apart = front_unique limits bytes (fault f) (whole names.q names.n) at names.front in cc
   answers_alike (asks q n at) s v marks texts u (true, reply, a, b, answered) names same = record {
     next = v;

@@ -7,7 +7,7 @@ use Rattle.std.specs.Fmt.{digits}
 use Rattle.osb_replies.specs.Parts.{refused}
 use Rattle.osb_replies.specs.declared.write.WriteFault.{WriteFault}
 use Rattle.osb_broker.specs.Machine.{fault_reply}
-use Rattle.osb_broker.specs.Answering.{WritesText}
+use Rattle.osb_broker.specs.Serving.{WritesText}
 
 pub refused_fits : length (reply_text refused) ≤ 512
 unfolding reply_text digits

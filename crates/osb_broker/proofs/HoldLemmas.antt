@@ -1,9 +1,9 @@
 -- The steps of the loop over a buffer.
-use Rattle.std.proofs.Common.{◌≡◌, ℕ, zero, zero-add, suc, ◌+◌, ◌-◌, ◌≤◌, ◌==◌, inl, inr, Bool, true, false, List, [], ◌∷◌, ◌++◌, length, take, drop, Option, Some, None, Result, Ok, Err, IfSome, OnOk, sym, refl, ap, subst, ◌∙◌, arith}
+use Rattle.std.proofs.Common.{◌≡◌, ℕ, zero-add, suc, ◌+◌, ◌-◌, ◌<◌, ◌≤◌, ◌==◌, inl, inr, Bool, true, false, List, [], ◌∷◌, ◌++◌, length, take, drop, Option, Some, None, Result, Ok, Err, IfSome, OnOk, sym, refl, ap, subst, ◌∙◌, arith}
 use Rattle.std.specs.Io.KnownBytes.{Consumes, IsAtEnd, Keeps}
 use Rattle.std.specs.List.{concat, copy_within}
 use Rattle.std.proofs.lemmas.List.Edits.{take-paste}
-use Rattle.std.proofs.lemmas.List.{drop-take, append_assoc, append-nil, drop-append-le, length-drop}
+use Rattle.std.proofs.lemmas.List.{drop-take, append_assoc, append-nil, drop-append-le, length-append, length-drop}
 use Rattle.osb_frames.specs.declared.limits.Limits.{Limits}
 use Rattle.osb_frames.specs.declared.step.StopKind.{StopKind}
 use Rattle.osb_frames.specs.Calls.{Call, all_bytes}
@@ -13,10 +13,11 @@ use Rattle.osb_replies.specs.declared.write.WriteFault.{WriteFault}
 use Rattle.osb_replies.specs.Text.{reply_text}
 use Rattle.osb_broker.specs.declared.fault.ServeFault.{ServeFault}
 use Rattle.osb_broker.specs.Machine.{Machine, fault_reply}
-use Rattle.osb_broker.specs.Connection.{AfterRequests}
-use Rattle.osb_broker.specs.Served.{Served, Reached, BrokenOff}
-use Rattle.osb_broker.specs.Answering.{Answers, WritesText}
-use Rattle.osb_broker.specs.Serving.{ReadsMade, OfConnection, EndsAs, Past, RequestsPassed}
+use Rattle.osb_broker.proofs.OneByOne.{AfterRequests, WrittenSoFar}
+use Rattle.osb_broker.specs.Served.{Served, BrokenOff}
+use Rattle.osb_broker.specs.Answering.{Answers}
+use Rattle.osb_broker.specs.Serving.{WritesText, ReadsMade, OfConnection, EndsAs, NothingWaits, Past, ReadBroken, RequestsPassed}
+use Rattle.osb_broker.proofs.OneByOneLemmas.{passed}
 use Rattle.osb_broker.proofs.RunLemmas.{after_more, concat_more, served_silent, text_of_end, text_of_none, not_marked}
 use Rattle.osb_broker.proofs.LoopLemmas.{AtRequest, closing, breaking, refusing}
 use Rattle.osb_broker.proofs.CallLemmas.{all_more, all_failed}
@@ -59,13 +60,19 @@ pub holding_start : {S : Type 0} (machine : Machine S) (limits : Limits) (k : �
 holding_start machine limits k s old = record { texts = []; is = λ more. (refl, refl, refl); written = sym (append-nil old) }
 
 -- what was reached, whatever follows
-pub reached_with : {S : Type 0} (machine : Machine S) (limits : Limits) (k : ℕ) (s : S) (got old : List ℕ) (left : ℕ) (now : List ℕ) (u : S) (held : List ℕ) → ReadSoFar machine limits k s got old left now u held → (more : List ℕ) → Reached machine limits k s (got ++ more) old left now u (held ++ more)
+pub reached_with : {S : Type 0} (machine : Machine S) (limits : Limits) (k : ℕ) (s : S) (got old : List ℕ) (left : ℕ) (now : List ℕ) (u : S) (held : List ℕ) → ReadSoFar machine limits k s got old left now u held → (more : List ℕ) → WrittenSoFar machine limits k s (got ++ more) old left now u (held ++ more)
 reached_with machine limits k s got old left now u held h more = record { texts = h.texts; is = h.is more; written = h.written }
 
-pub reached_now : {S : Type 0} (machine : Machine S) (limits : Limits) (k : ℕ) (s : S) (got old : List ℕ) (left : ℕ) (now : List ℕ) (u : S) (held : List ℕ) → ReadSoFar machine limits k s got old left now u held → Reached machine limits k s got old left now u held
+reached_now : {S : Type 0} (machine : Machine S) (limits : Limits) (k : ℕ) (s : S) (got old : List ℕ) (left : ℕ) (now : List ℕ) (u : S) (held : List ℕ) → ReadSoFar machine limits k s got old left now u held → WrittenSoFar machine limits k s got old left now u held
 reached_now machine limits k s got old left now u held h =
-    subst (λ l. Reached machine limits k s l old left now u held) (append-nil got)
-    (subst (λ l. Reached machine limits k s (got ++ []) old left now u l) (append-nil held) (reached_with machine limits k s got old left now u held h []))
+    subst (λ l. WrittenSoFar machine limits k s l old left now u held) (append-nil got)
+    (subst (λ l. WrittenSoFar machine limits k s (got ++ []) old left now u l) (append-nil held) (reached_with machine limits k s got old left now u held h []))
+
+pub read_broken : {S : Type 0} (machine : Machine S) (limits : Limits) (k : ℕ) (s : S) (got old : List ℕ) (left : ℕ) (now : List ℕ) (u : S) (held : List ℕ) → 0 < left → NothingWaits limits held → ReadSoFar machine limits k s got old left now u held → ReadBroken machine limits k s got old now u
+read_broken machine limits k s got old left now u held some waits h =
+    let at = reached_now machine limits k s got old left now u held h in
+    let it = passed machine limits k s got at.texts left u held at.is in
+    record { requests = it.0; held = held; past = it.1; fewer = omega (arith, it.2, some); waits = waits; written = at.written ∙ ap (λ l. old ++ concat l) it.3; leaves = it.4 }
 
 pub holding_fed : {S : Type 0} (machine : Machine S) (limits : Limits) (k : ℕ) (s : S) (got old : List ℕ) (left : ℕ) (now : List ℕ) (u : S) (held piece : List ℕ) → ReadSoFar machine limits k s got old left now u held → ReadSoFar machine limits k s (got ++ piece) old left now u (held ++ piece)
 holding_fed machine limits k s got old left now u held piece h = record {
@@ -155,27 +162,27 @@ known_ok (Err fault) machine limits k s known now got old new t consumed of = tt
 -- ---- how much was read
 
 pub left_start : (limits : Limits) (k : ℕ) → RequestsPassed limits k [] k []
-left_start limits k = record { count = 0; is = λ more. refl; fewer = omega arith }
+left_start limits k = record { requests = []; is = λ more. refl; fewer = omega arith }
 
 pub left_fed : (limits : Limits) (k : ℕ) (got : List ℕ) (left : ℕ) (held piece : List ℕ) → RequestsPassed limits k got left held → RequestsPassed limits k (got ++ piece) left (held ++ piece)
 left_fed limits k got left held piece at = record {
-  count = at.count;
+  requests = at.requests;
   is = λ more.
-      subst (λ l. Past limits at.count l ((held ++ piece) ++ more)) (sym (append_assoc got piece more))
-      (subst (λ l. Past limits at.count (got ++ (piece ++ more)) l) (sym (append_assoc held piece more)) (at.is (piece ++ more)));
+      subst (λ l. Past limits at.requests l ((held ++ piece) ++ more)) (sym (append_assoc got piece more))
+      (subst (λ l. Past limits at.requests (got ++ (piece ++ more)) l) (sym (append_assoc held piece more)) (at.is (piece ++ more)));
   fewer = at.fewer;
 }
 
 -- one request more
-past_more : (limits : Limits) (count : ℕ) (bytes rest : List ℕ) (q : Message) (n : ℕ) → Past limits count bytes rest → IsFront limits rest (whole q n) → closes q ≡ false → Past limits (suc count) bytes (drop n rest)
-past_more limits zero bytes rest q n past front going = (q, n, subst (λ l. IsFront limits l (whole q n)) past front, going, ap (drop n) past)
-past_more limits (suc count) bytes rest q n (first, m, at, stays, past) front going = (first, m, at, stays, past_more limits count (drop m bytes) rest q n past front going)
+past_more : (limits : Limits) (qs : List Message) (bytes rest : List ℕ) (q : Message) (n : ℕ) → Past limits qs bytes rest → IsFront limits rest (whole q n) → closes q ≡ false → Past limits (qs ++ q ∷ []) bytes (drop n rest)
+past_more limits [] bytes rest q n past front going = (n, subst (λ l. IsFront limits l (whole q n)) past front, going, ap (drop n) past)
+past_more limits (first ∷ qs) bytes rest q n (m, at, stays, past) front going = (m, at, stays, past_more limits qs (drop m bytes) rest q n past front going)
 
 pub left_more : (limits : Limits) (k : ℕ) (got : List ℕ) (left : ℕ) (held : List ℕ) (q : Message) (n j : ℕ) → RequestsPassed limits k got left held → ((more : List ℕ) → IsFront limits (held ++ more) (whole q n)) → n ≤ length held → left ≡ suc j → closes q ≡ false → RequestsPassed limits k got j (drop n held)
 left_more limits k got left held q n j at front inside fewer going = record {
-  count = suc at.count;
-  is = λ more. subst (λ l. Past limits (suc at.count) (got ++ more) l) (drop-append-le n held more inside) (past_more limits at.count (got ++ more) (held ++ more) q n (at.is more) (front more) going);
-  fewer = let before = at.fewer in omega arith;
+  requests = at.requests ++ q ∷ [];
+  is = λ more. subst (λ l. Past limits (at.requests ++ q ∷ []) (got ++ more) l) (drop-append-le n held more inside) (past_more limits at.requests (got ++ more) (held ++ more) q n (at.is more) (front more) going);
+  fewer = let before = at.fewer in omega (arith, length-append at.requests (q ∷ []));
 }
 
 -- ---- the front of the room

@@ -1,3 +1,5 @@
+mod OneByOne
+pub mod OneByOneLemmas
 mod RunLemmas
 mod LoopLemmas
 mod CallLemmas

@@ -8,9 +8,10 @@ use Rattle.osb_replies.specs.declared.write.WriteFault.{WriteFault}
 use Rattle.osb_replies.specs.Text.{ReplyParts, reply_text}
 use Rattle.osb_replies.specs.Written.{WroteFirst}
 use Rattle.osb_broker.specs.Machine.{Machine, Answered, fault_reply}
-use Rattle.osb_broker.specs.Connection.{OneReply, of_request, of_fault}
-use Rattle.osb_broker.specs.Served.{Served, Reached, BrokenOff}
-use Rattle.osb_broker.specs.Answering.{Answers, WritesText}
+use Rattle.osb_broker.proofs.OneByOne.{OneReply, of_request, of_fault, WrittenSoFar}
+use Rattle.osb_broker.specs.Served.{Served, BrokenOff}
+use Rattle.osb_broker.specs.Serving.{WritesText}
+use Rattle.osb_broker.specs.Answering.{Answers}
 use Rattle.osb_broker.proofs.RunLemmas.{served_text, text_of_last, text_of_fault, broken}
 
 -- a reply that was begun answers
@@ -21,7 +22,7 @@ in_part machine q last s t base before now after (Err f) mark reply written err 
 
 -- a whole request at the front of the rest, of which one fewer may come after it
 pub record AtRequest {S : Type 0} (machine : Machine S) (limits : Limits) (k : ℕ) (s : S) (bytes old : List ℕ) (left : ℕ) (now : List ℕ) (u : S) (rest : List ℕ) (q : Message) (n j : ℕ) : Type 0 where
-  pub reached : Reached machine limits k s bytes old left now u rest
+  pub reached : WrittenSoFar machine limits k s bytes old left now u rest
   pub front : IsFront limits rest (whole q n)
   pub fewer : left ≡ suc j
 
@@ -47,10 +48,10 @@ closing machine limits k s bytes old left now u rest q n j t before new after cl
 pub breaking : {S : Type 0} (machine : Machine S) (limits : Limits) (k : ℕ) (s : S) (bytes old : List ℕ) (left : ℕ) (now : List ℕ) (u : S) (rest : List ℕ) (q : Message) (n j : ℕ) (t : S) (before : ℕ) (new : List ℕ) (after : ℕ) (f : WriteFault) → AtRequest machine limits k s bytes old left now u rest q n j → Answers machine q (j == 0) u t now before new after (Err f) → BrokenOff machine limits k s bytes old new t
 breaking machine limits k s bytes old left now u rest q n j t before new after f at (mark, reply, marked, wrote) =
     let one = one_reply machine limits left u rest q n j mark reply t reply.close at.front at.fewer marked refl in
-    broken machine limits k s bytes old left now u rest (reply_text reply) t wrote.0 new at.reached (of_request mark reply.close j (drop n rest) one) wrote.1 wrote.2
+    broken machine limits k s bytes old left j now u rest (reply_text reply) t wrote.0 new at.reached at.fewer (of_request mark reply.close j (drop n rest) one) wrote.1 wrote.2
 
-pub refusing : {S : Type 0} (machine : Machine S) (limits : Limits) (k : ℕ) (s : S) (bytes old : List ℕ) (left : ℕ) (now : List ℕ) (u : S) (rest : List ℕ) (f : StopKind) (j : ℕ) (before : ℕ) (new : List ℕ) (after : ℕ) (result : Result (Unit {0}) WriteFault) → Reached machine limits k s bytes old left now u rest → IsFront limits rest (fault f) → left ≡ suc j → WritesText now before new after result (reply_text (fault_reply f)) → OnOk result (Served machine limits k s bytes old new u) × OnErr result (BrokenOff machine limits k s bytes old new u)
+pub refusing : {S : Type 0} (machine : Machine S) (limits : Limits) (k : ℕ) (s : S) (bytes old : List ℕ) (left : ℕ) (now : List ℕ) (u : S) (rest : List ℕ) (f : StopKind) (j : ℕ) (before : ℕ) (new : List ℕ) (after : ℕ) (result : Result (Unit {0}) WriteFault) → WrittenSoFar machine limits k s bytes old left now u rest → IsFront limits rest (fault f) → left ≡ suc j → WritesText now before new after result (reply_text (fault_reply f)) → OnOk result (Served machine limits k s bytes old new u) × OnErr result (BrokenOff machine limits k s bytes old new u)
 refusing machine limits k s bytes old left now u rest f j before new after (Ok x) reached at fewer wrote =
     (served_text machine limits k s bytes old left now u rest [] (reply_text (fault_reply f)) u new reached (text_of_fault machine limits left j u rest f fewer at) wrote.0, tt)
 refusing machine limits k s bytes old left now u rest f j before new after (Err e) reached at fewer wrote =
-    (tt, broken machine limits k s bytes old left now u rest (reply_text (fault_reply f)) u wrote.0 new reached (of_fault f at refl refl) wrote.1 wrote.2)
+    (tt, broken machine limits k s bytes old left j now u rest (reply_text (fault_reply f)) u wrote.0 new reached fewer (of_fault f at refl refl) wrote.1 wrote.2)

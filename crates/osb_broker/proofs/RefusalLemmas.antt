@@ -4,15 +4,17 @@ use Rattle.std.specs.List.{concat}
 use Rattle.std.proofs.lemmas.List.{append-nil, append_cancel_left}
 use Rattle.std.specs.Fmt.{digits}
 use Rattle.osb_frames.specs.declared.limits.Limits.{Limits}
-use Rattle.osb_frames.specs.Cuts.{Message, nothing, fault, whole, empty}
+use Rattle.osb_frames.specs.Cuts.{Message, nothing, fault, whole}
 use Rattle.osb_frames.proofs.FrontLemmas.{front_unique}
 use Rattle.osb_replies.specs.declared.status.Status.{Status}
 use Rattle.osb_replies.specs.declared.status.Status.TheVariants as the
 use Rattle.osb_replies.specs.Text.{ReplyParts, reply_text}
 use Rattle.osb_laws.specs.Failures.{is_500}
 use Rattle.osb_broker.specs.Machine.{Machine, Answered, fault_reply}
-use Rattle.osb_broker.specs.Connection.{OneReply, Done, GoesOn, ends, faults, answers, ConnectionText, Run}
+use Rattle.osb_broker.specs.Connection.{ConnectionText, Run}
+use Rattle.osb_broker.proofs.OneByOne.{OneReply, Done, GoesOn, ends, faults, answers, OneByOne}
 use Rattle.osb_broker.specs.Refusals.{NeverFails, says_500}
+use Rattle.osb_broker.proofs.OneByOneLemmas.{one_by_one}
 
 -- the status of a reply stands in its first line
 shown : (status : Status) (body : List ℕ) (echo : Option (List ℕ)) (close : Bool) (rest : List ℕ) → says_500 (reply_text (record { status = status; body = body; echo = echo; close = close }) ++ rest) ≡ is_500 status
@@ -48,16 +50,19 @@ module _ {S : Type 0} (machine : Machine S) (never : NeverFails machine) (limits
   after_shows more true u marks texts t show done = subst (λ m. m ≡ take (length m) (map says_500 texts)) (sym done.0) refl
   after_shows more false u marks texts t show goes = show goes
 
-  pub marks_show : (k : ℕ) (s : S) (bytes : List ℕ) (marks : List Bool) (texts : List (List ℕ)) (t : S) → ConnectionText machine limits k s bytes marks texts t → marks ≡ take (length marks) (map says_500 texts)
-  marks_show zero s bytes marks texts t done = subst (λ m. m ≡ take (length m) (map says_500 texts)) (sym done.0) refl
-  marks_show (suc k) s bytes marks texts t (ends none done) = subst (λ m. m ≡ take (length m) (map says_500 texts)) (sym done.0) refl
-  marks_show (suc k) s bytes marks texts t (faults f at none again stays) = subst (λ m. m ≡ take (length m) (map says_500 texts)) (sym none) refl
-  marks_show (suc k) s bytes marks texts t (answers mark text close u later ma ta one em ex goes) =
+  shows_marks : (k : ℕ) (s : S) (bytes : List ℕ) (marks : List Bool) (texts : List (List ℕ)) (t : S) → OneByOne machine limits k s bytes marks texts t → marks ≡ take (length marks) (map says_500 texts)
+  shows_marks zero s bytes marks texts t done = subst (λ m. m ≡ take (length m) (map says_500 texts)) (sym done.0) refl
+  shows_marks (suc k) s bytes marks texts t (ends none done) = subst (λ m. m ≡ take (length m) (map says_500 texts)) (sym done.0) refl
+  shows_marks (suc k) s bytes marks texts t (faults f at none again stays) = subst (λ m. m ≡ take (length m) (map says_500 texts)) (sym none) refl
+  shows_marks (suc k) s bytes marks texts t (answers mark text close u later ma ta one em ex goes) =
       let first : mark ≡ says_500 text = sym (ap says_500 (sym (append-nil text)) ∙ text_is (suc k) s bytes mark text close k u later [] one) in
-      let rest : ma ≡ take (length ma) (map says_500 ta) = after_shows (ConnectionText machine limits k u later) close u ma ta t (λ more. marks_show k u later ma ta t more) goes in
+      let rest : ma ≡ take (length ma) (map says_500 ta) = after_shows (OneByOne machine limits k u later) close u ma ta t (λ more. shows_marks k u later ma ta t more) goes in
       subst (λ m. m ≡ take (length m) (map says_500 texts)) (sym em)
       (subst (λ l. mark ∷ ma ≡ take (length (mark ∷ ma)) (map says_500 l)) (sym ex)
       (ap (λ b. b ∷ ma) first ∙ ap (λ m. says_500 text ∷ m) rest))
+
+  pub marks_show : (k : ℕ) (s : S) (bytes : List ℕ) (marks : List Bool) (texts : List (List ℕ)) (t : S) → ConnectionText machine limits k s bytes marks texts t → marks ≡ take (length marks) (map says_500 texts)
+  marks_show k s bytes marks texts t text = shows_marks k s bytes marks texts t (one_by_one machine limits k s bytes marks texts t text)
 
   -- ---- two readings of one output
 
@@ -101,28 +106,28 @@ module _ {S : Type 0} (machine : Machine S) (never : NeverFails machine) (limits
   after_same more other true u marks others texts again t v same a b = same_done marks others texts again u t v a b
   after_same more other false u marks others texts again t v same a b = same a b
 
-  one_reading : (k : ℕ) (s : S) (bytes : List ℕ) (marks others : List Bool) (texts again : List (List ℕ)) (t u : S) → ConnectionText machine limits k s bytes marks texts t → ConnectionText machine limits k s bytes others again u → concat texts ≡ concat again → Same marks others texts again t u
+  one_reading : (k : ℕ) (s : S) (bytes : List ℕ) (marks others : List Bool) (texts again : List (List ℕ)) (t u : S) → OneByOne machine limits k s bytes marks texts t → OneByOne machine limits k s bytes others again u → concat texts ≡ concat again → Same marks others texts again t u
   one_reading zero s bytes marks others texts again t u a b e = same_done marks others texts again s t u a b
   one_reading (suc k) s bytes marks others texts again t u (ends none a) (ends gone b) e = same_done marks others texts again s t u a b
-  one_reading (suc k) s bytes marks others texts again t u (ends none a) (faults f at b c d) e = let x = front_unique limits bytes nothing (fault f) (empty none refl) at in cc
-  one_reading (suc k) s bytes marks others texts again t u (ends none a) (answers mark text close v later ma ta one em ex goes) e = let x = front_unique limits bytes nothing (whole one.q one.n) (empty none refl) one.front in cc
-  one_reading (suc k) s bytes marks others texts again t u (faults f at b c d) (ends none a) e = let x = front_unique limits bytes nothing (fault f) (empty none refl) at in cc
+  one_reading (suc k) s bytes marks others texts again t u (ends none a) (faults f at b c d) e = let x = front_unique limits bytes nothing (fault f) none at in cc
+  one_reading (suc k) s bytes marks others texts again t u (ends none a) (answers mark text close v later ma ta one em ex goes) e = let x = front_unique limits bytes nothing (whole one.q one.n) none one.front in cc
+  one_reading (suc k) s bytes marks others texts again t u (faults f at b c d) (ends none a) e = let x = front_unique limits bytes nothing (fault f) none at in cc
   one_reading (suc k) s bytes marks others texts again t u (faults f at b c d) (faults g on x y z) e =
       let here = front_unique limits bytes (fault f) (fault g) at on in
       let same : f ≡ g = cc in
       record { marks_are = b ∙ sym x; texts_are = c ∙ ap (λ h. reply_text (fault_reply h) ∷ []) same ∙ sym y; state_is = d ∙ sym z }
   one_reading (suc k) s bytes marks others texts again t u (faults f at b c d) (answers mark text close v later ma ta one em ex goes) e = let x = front_unique limits bytes (fault f) (whole one.q one.n) at one.front in cc
-  one_reading (suc k) s bytes marks others texts again t u (answers mark text close v later ma ta one em ex goes) (ends none a) e = let x = front_unique limits bytes nothing (whole one.q one.n) (empty none refl) one.front in cc
+  one_reading (suc k) s bytes marks others texts again t u (answers mark text close v later ma ta one em ex goes) (ends none a) e = let x = front_unique limits bytes nothing (whole one.q one.n) none one.front in cc
   one_reading (suc k) s bytes marks others texts again t u (answers mark text close v later ma ta one em ex goes) (faults f at b c d) e = let x = front_unique limits bytes (fault f) (whole one.q one.n) at one.front in cc
   one_reading (suc k) s bytes marks others texts again t u (answers mark text close v later ma ta one em ex goes) (answers other said shut w after mb tb two fm fx gone) e =
       let all : text ++ concat ta ≡ said ++ concat tb = sym (ap concat ex) ∙ e ∙ ap concat fx in
       let here = same_one (suc k) k s bytes mark other text said close shut v w later after (concat ta) (concat tb) one two all in
       let rest : concat ta ≡ concat tb = append_cancel_left said (concat ta) (concat tb) (ap (λ x. x ++ concat ta) (sym here.text_is) ∙ all) in
-      let moved : GoesOn shut (ConnectionText machine limits k w after) w ma ta t =
-      subst (λ x. GoesOn x (ConnectionText machine limits k w after) w ma ta t) here.close_is
-      (subst (λ x. GoesOn close (ConnectionText machine limits k w x) w ma ta t) here.later_is
-      (subst (λ x. GoesOn close (ConnectionText machine limits k x later) x ma ta t) here.state_is goes)) in
-      let then = after_same (ConnectionText machine limits k w after) (ConnectionText machine limits k w after) shut w ma mb ta tb t u (λ a b. one_reading k w after ma mb ta tb t u a b rest) moved gone in
+      let moved : GoesOn shut (OneByOne machine limits k w after) w ma ta t =
+      subst (λ x. GoesOn x (OneByOne machine limits k w after) w ma ta t) here.close_is
+      (subst (λ x. GoesOn close (OneByOne machine limits k w x) w ma ta t) here.later_is
+      (subst (λ x. GoesOn close (OneByOne machine limits k x later) x ma ta t) here.state_is goes)) in
+      let then = after_same (OneByOne machine limits k w after) (OneByOne machine limits k w after) shut w ma mb ta tb t u (λ a b. one_reading k w after ma mb ta tb t u a b rest) moved gone in
       record {
         marks_are = em ∙ ap (λ x. x ∷ ma) here.mark_is ∙ ap (λ l. other ∷ l) then.marks_are ∙ sym fm;
         texts_are = ex ∙ ap (λ x. x ∷ ta) here.text_is ∙ ap (λ l. said ∷ l) then.texts_are ∙ sym fx;
@@ -130,7 +135,7 @@ module _ {S : Type 0} (machine : Machine S) (never : NeverFails machine) (limits
       }
 
   pub shows_all : (k : ℕ) (s : S) (bytes : List ℕ) (marks others : List Bool) (texts again : List (List ℕ)) (t u : S) → ConnectionText machine limits k s bytes marks texts t → ConnectionText machine limits k s bytes others again u → concat texts ≡ concat again → (marks ≡ others) × (texts ≡ again) × (t ≡ u)
-  shows_all k s bytes marks others texts again t u a b e = let same = one_reading k s bytes marks others texts again t u a b e in (same.marks_are, same.texts_are, same.state_is)
+  shows_all k s bytes marks others texts again t u a b e = let same = one_reading k s bytes marks others texts again t u (one_by_one machine limits k s bytes marks texts t a) (one_by_one machine limits k s bytes others again u b) e in (same.marks_are, same.texts_are, same.state_is)
 
   pub run_shows : (k : ℕ) (s : S) (connections : List (List ℕ)) (marks others : List (List Bool)) (texts again : List (List (List ℕ))) (t u : S) → Run machine limits k s connections marks texts t → Run machine limits k s connections others again u → map concat texts ≡ map concat again → (marks ≡ others) × (texts ≡ again) × (t ≡ u)
   run_shows k s [] [] [] [] [] t u a b e = (refl, refl, a ∙ sym b)

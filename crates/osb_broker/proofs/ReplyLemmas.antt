@@ -16,9 +16,9 @@ use Rattle.osb_records.specs.CrashLeaves.{KeepsLives}
 use Rattle.osb_statements.specs.Steps.{stored}
 use Rattle.osb_broker.specs.declared.prepared.Prepared.{Prepared}
 use Rattle.osb_broker.specs.Inside.{GivesPrepared, GivesReply, Handles, AppliesPending, Worked}
-use Rattle.osb_broker.specs.BrokerState.{Works, answer_parts}
+use Rattle.osb_broker.specs.BrokerState.{Works}
 use Rattle.osb_broker.specs.Machine.{Answer, Answered, Machine, reply_of}
-use Rattle.osb_broker.specs.Prepared.{after_pending}
+use Rattle.osb_broker.specs.Prepared.{answer_parts, after_pending}
 use Rattle.osb_broker.specs.Refusals.{NeverFails}
 use Rattle.osb_broker.specs.Steps.{machine, step_for}
 use Rattle.osb_broker.proofs.FailureLemmas.{failures_stay}

@@ -18,8 +18,7 @@ use Rattle.osb_machine.specs.Steps.{decision}
 use Rattle.osb_records.specs.Commit.{FinishesLast}
 use Rattle.osb_laws.proofs.MapLemmas.{steps_are_allowed, steps_keep_lives}
 use Rattle.osb_broker.specs.declared.prepared.Prepared.{Prepared}
-use Rattle.osb_broker.specs.Prepared.{pending_for, after_pending, IsApplicable, Prepares}
-use Rattle.osb_broker.specs.BrokerState.{answer_parts}
+use Rattle.osb_broker.specs.Prepared.{answer_parts, pending_for, after_pending, IsApplicable, Prepares}
 use Rattle.osb_broker.specs.Steps.{answer_alone, step_of}
 
 finishes : (life : Life) (change : Change) → IsAllowed life change → FinishesLast life change

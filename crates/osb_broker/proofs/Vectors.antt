@@ -1,8 +1,9 @@
--- What the definitions of repeats, attempts and refusals say of short lists, computed.
+-- What the definitions of marks, repeats, attempts and refusals say of short lists, computed.
 use Rattle.std.proofs.Common.{◌≡◌, ℕ, Bool, true, false, List, [], ◌∷◌, refl, inl, inr}
 use Rattle.std.specs.Prelude.{codes}
 use Rattle.std.proofs.lemmas.Bool.{false≢true}
 use Rattle.std.proofs.lemmas.Slice.Eq.{bytes_eq-Decides}
+use Rattle.osb_broker.specs.Connection.{looked_for}
 use Rattle.osb_broker.specs.Repeats.{without_repeats, neighbours_once}
 use Rattle.osb_broker.specs.Apart.{Chooses, picked}
 use Rattle.osb_broker.specs.Refusals.{says_500}
@@ -13,6 +14,17 @@ a = 97 ∷ []
 
 abbrev b : List ℕ
 b = 98 ∷ []
+
+-- ---- how many requests are looked for
+
+none_behind_a_marked_one : looked_for 3 (false ∷ true ∷ []) ≡ 2
+none_behind_a_marked_one = refl
+
+all_where_none_is_marked : looked_for 3 (false ∷ []) ≡ 3
+all_where_none_is_marked = refl
+
+no_more_than_may_come : looked_for 1 (false ∷ true ∷ []) ≡ 1
+no_more_than_may_come = refl
 
 -- ---- runs: the marks of a connection with one request, and of one without a request
 

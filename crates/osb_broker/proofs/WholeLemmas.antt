@@ -9,14 +9,15 @@ use Rattle.osb_frames.specs.Cuts.{Message, fault, IsFront}
 use Rattle.osb_frames.specs.Steps.{FaultStays}
 use Rattle.osb_replies.specs.Text.{reply_text}
 use Rattle.osb_broker.specs.Machine.{Machine, fault_reply}
-use Rattle.osb_broker.specs.Served.{Served, Reached, RunServed}
+use Rattle.osb_broker.proofs.OneByOne.{WrittenSoFar}
+use Rattle.osb_broker.specs.Served.{Served, RunServed}
 use Rattle.osb_broker.specs.Answering.{AnswersWhole}
 use Rattle.osb_broker.proofs.RunLemmas.{after_more, concat_more, served_silent, served_text, text_of_end, text_of_fault, text_of_none, not_marked}
 use Rattle.osb_broker.proofs.LoopLemmas.{AtRequest, one_reply, closing}
 use Rattle.osb_broker.proofs.RunsLemmas.{run_more}
 
 -- after a reply that doesn't close
-going_whole : {S : Type 0} (machine : Machine S) (limits : Limits) (k : ℕ) (s : S) (bytes old : List ℕ) (left : ℕ) (now : List ℕ) (u : S) (rest : List ℕ) (q : Message) (n j : ℕ) (t : S) (new : List ℕ) (close : Bool) → AtRequest machine limits k s bytes old left now u rest q n j → AnswersWhole machine q (j == 0) u t now new close → close ≡ false → Reached machine limits k s bytes old j new t (drop n rest)
+going_whole : {S : Type 0} (machine : Machine S) (limits : Limits) (k : ℕ) (s : S) (bytes old : List ℕ) (left : ℕ) (now : List ℕ) (u : S) (rest : List ℕ) (q : Message) (n j : ℕ) (t : S) (new : List ℕ) (close : Bool) → AtRequest machine limits k s bytes old left now u rest q n j → AnswersWhole machine q (j == 0) u t now new close → close ≡ false → WrittenSoFar machine limits k s bytes old j new t (drop n rest)
 going_whole machine limits k s bytes old left now u rest q n j t new close at (mark, reply, marked, wrote, closes) e =
     let stays : false ≡ reply.close = sym e ∙ closes in
     record {
@@ -32,15 +33,15 @@ closing_whole machine limits k s bytes old left now u rest q n j t new close at 
     closing machine limits k s bytes old left now u rest q n j t 0 new 0 close at (mark, reply, marked, (wrote, refl, closes)) e
 
 -- after the text of a fault
-pub refusing_whole : {S : Type 0} (machine : Machine S) (limits : Limits) (k : ℕ) (s : S) (bytes old : List ℕ) (left : ℕ) (now : List ℕ) (u : S) (rest : List ℕ) (f : StopKind) (j : ℕ) (new : List ℕ) → Reached machine limits k s bytes old left now u rest → IsFront limits rest (fault f) → left ≡ suc j → new ≡ now ++ reply_text (fault_reply f) → Served machine limits k s bytes old new u
+pub refusing_whole : {S : Type 0} (machine : Machine S) (limits : Limits) (k : ℕ) (s : S) (bytes old : List ℕ) (left : ℕ) (now : List ℕ) (u : S) (rest : List ℕ) (f : StopKind) (j : ℕ) (new : List ℕ) → WrittenSoFar machine limits k s bytes old left now u rest → IsFront limits rest (fault f) → left ≡ suc j → new ≡ now ++ reply_text (fault_reply f) → Served machine limits k s bytes old new u
 refusing_whole machine limits k s bytes old left now u rest f j new reached at fewer wrote =
     served_text machine limits k s bytes old left now u rest [] (reply_text (fault_reply f)) u new reached (text_of_fault machine limits left j u rest f fewer at) wrote
 
-pub ending_whole : {S : Type 0} (machine : Machine S) (limits : Limits) (k : ℕ) (s : S) (bytes old : List ℕ) (left : ℕ) (now : List ℕ) (u : S) (rest : List ℕ) (j : ℕ) → Reached machine limits k s bytes old left now u rest → left ≡ suc j → rest ≡ [] → Served machine limits k s bytes old now u
+pub ending_whole : {S : Type 0} (machine : Machine S) (limits : Limits) (k : ℕ) (s : S) (bytes old : List ℕ) (left : ℕ) (now : List ℕ) (u : S) (rest : List ℕ) (j : ℕ) → WrittenSoFar machine limits k s bytes old left now u rest → left ≡ suc j → rest ≡ [] → Served machine limits k s bytes old now u
 ending_whole machine limits k s bytes old left now u rest j reached fewer none =
     served_silent machine limits k s bytes old left now u rest reached (text_of_end machine limits left j u rest fewer none)
 
-pub none_whole : {S : Type 0} (machine : Machine S) (limits : Limits) (k : ℕ) (s : S) (bytes old : List ℕ) (left : ℕ) (now : List ℕ) (u : S) (rest : List ℕ) → Reached machine limits k s bytes old left now u rest → left ≡ 0 → Served machine limits k s bytes old now u
+pub none_whole : {S : Type 0} (machine : Machine S) (limits : Limits) (k : ℕ) (s : S) (bytes old : List ℕ) (left : ℕ) (now : List ℕ) (u : S) (rest : List ℕ) → WrittenSoFar machine limits k s bytes old left now u rest → left ≡ 0 → Served machine limits k s bytes old now u
 none_whole machine limits k s bytes old left now u rest reached none =
     served_silent machine limits k s bytes old left now u rest reached (text_of_none machine limits left u rest none)
 
@@ -86,9 +87,9 @@ rest_is : (xs : List ℕ) (n : ℕ) → take (length xs - n) (drop n xs) ≡ dro
 rest_is xs n = ap (λ m. take m (drop n xs)) (sym (length-drop n xs)) ∙ take-length (drop n xs)
 
 -- the same as `going_whole`, in the words of a slice
-pub going_on : {S : Type 0} (machine : Machine S) (limits : Limits) (k : ℕ) (s : S) (bytes old : List ℕ) (left : ℕ) (now : List ℕ) (u : S) (rest : List ℕ) (q : Message) (n j : ℕ) (t : S) (new : List ℕ) (close : Bool) → AtRequest machine limits k s bytes old left now u rest q n j → AnswersWhole machine q (j == 0) u t now new close → close ≡ false → Reached machine limits k s bytes old j new t (take (length rest - n) (drop n rest))
+pub going_on : {S : Type 0} (machine : Machine S) (limits : Limits) (k : ℕ) (s : S) (bytes old : List ℕ) (left : ℕ) (now : List ℕ) (u : S) (rest : List ℕ) (q : Message) (n j : ℕ) (t : S) (new : List ℕ) (close : Bool) → AtRequest machine limits k s bytes old left now u rest q n j → AnswersWhole machine q (j == 0) u t now new close → close ≡ false → WrittenSoFar machine limits k s bytes old j new t (take (length rest - n) (drop n rest))
 going_on machine limits k s bytes old left now u rest q n j t new close at answers e =
-    subst (λ l. Reached machine limits k s bytes old j new t l) (sym (rest_is rest n)) (going_whole machine limits k s bytes old left now u rest q n j t new close at answers e)
+    subst (λ l. WrittenSoFar machine limits k s bytes old j new t l) (sym (rest_is rest n)) (going_whole machine limits k s bytes old left now u rest q n j t new close at answers e)
 
 -- ---- one connection more
 

@@ -1,15 +1,9 @@
--- One request answered: handled, and its reply written or begun.
+-- One request answered: handled, and its reply written or begun. For contracts inside the crate.
 use Rattle.std.specs.Prelude.{◌≡◌, ℕ, ◌<◌, ◌≤◌, Bool, List, ◌++◌, length, take, Result, Ok, Err}
 use Rattle.osb_frames.specs.Cuts.{Message}
 use Rattle.osb_replies.specs.declared.write.WriteFault.{WriteFault}
 use Rattle.osb_replies.specs.Text.{ReplyParts, reply_text}
 use Rattle.osb_broker.specs.Machine.{Machine, Answered}
-
--- a text was written whole and each write took bytes, or its first bytes were written and then a write failed or took nothing
-abbrev pub WritesText : List ℕ → ℕ → List ℕ → ℕ → Result (Unit {0}) WriteFault → List ℕ → Type 0
-WritesText base before now after (Ok x) text = (now ≡ base ++ text) × (after ≡ before)
-WritesText base before now after (Err f) text =
-    (k : ℕ) × (k ≤ length text) × (now ≡ base ++ take k text) × (before < after)
 
 -- the reply was written whole, and closes or doesn't; or its first bytes were
 abbrev pub WritesReply : List ℕ → ℕ → List ℕ → ℕ → Result Bool WriteFault → ReplyParts → Type 0

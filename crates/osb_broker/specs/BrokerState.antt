@@ -1,10 +1,7 @@
 -- The store, the lives and the settings of a broker, and whether its store works.
 use Rattle.std.specs.Prelude.{◌≡◌, ◌⊎◌, ℕ, false, IsTrue}
 use Rattle.osb_broker.specs.declared.broker.Broker.{Broker}
-use Rattle.osb_replies.specs.Body.{body_bytes}
-use Rattle.osb_machine.specs.declared.answer_and_change.Answer as code
 use Rattle.osb_catalog.specs.Rules as catalog
-use Rattle.osb_broker.specs.Machine.{Answer}
 use Rattle.osb_orders.specs.Lives.{Lives}
 use Rattle.sqlite_trees.specs.declared.store.Store.{Ghosts}
 use Rattle.sqlite.specs.Held.{Held, state}
@@ -45,7 +42,3 @@ most_of broker = broker.setup.per_connection.number
 -- the settings that it decides by
 abbrev pub rules_in : {S : Type 0} → Broker S → catalog.Rules
 rules_in broker = catalog.rules_of broker.setup.settings.now
-
--- an answer of the code
-abbrev pub answer_parts : code.Answer → Answer
-answer_parts answer = record { status = answer.status; body = body_bytes answer.body }

@@ -1,5 +1,6 @@
 -- What a call does to records that are lent to it, for each kind of call. For contracts inside the crate.
-use Rattle.std.specs.Prelude.{◌≡◌, ◌≢◌, ℕ, Bool, true, false, Option, None, Result, IfOk, OnOk, OnErr, IsTrue}
+use Rattle.std.specs.Prelude.{◌≡◌, ◌≢◌, ℕ, ◌≤◌, Bool, true, false, [], Option, None, Result, IfOk, OnOk, OnErr, IsTrue, vec_len, vec_capacity}
+use Rattle.std.specs.Global.{Vec}
 use Rattle.sqlite.specs.Tree.{Trees}
 use Rattle.sqlite.specs.Held.{Held, state}
 use Rattle.sqlite.specs.State.{State, HasCleanDisk, Survives}
@@ -90,3 +91,9 @@ pub record Handles {S : Type 0} (g : Ghosts S) (machine : Machine Lives) (rules 
   pub works : Works (state g new) → Works (state g old)
   pub crash : Survives (state g old) (state g new) (Commits (state g old) (lives_after rules (stored (state g old)) q))
   pub durable : Works (state g old) → HasCleanDisk (state g new) → reply ≢ refused → LeavesOnly (state g new) (lives_after rules (stored (state g old)) q)
+
+-- nothing is in the output, and there is room for a fixed reply
+pub record IsBlank (output : Vec ℕ) : Type 0 where
+  pub empty : output.items ≡ []
+  pub unused : vec_len output ≡ 0
+  pub room : 512 ≤ vec_capacity output

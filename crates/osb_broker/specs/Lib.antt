@@ -4,18 +4,17 @@
 pub mod Machine
 pub mod Steps
 pub mod Faults
--- The texts that answer a connection, and those of one connection after another.
+-- What answers a connection, and one connection after another.
 pub mod Connection
 -- What serving did: what was written, how it ended, and which reads were made.
 pub mod Served
 pub mod Serving
-pub mod Answering
--- What a broker keeps, its plans in use, and the room that it reads into.
+-- What a broker keeps, how many requests of a connection it takes, its plans in use, and the room that it reads into.
 pub mod BrokerState
+pub mod PerConnection
 pub mod Plans
 pub mod Room
--- Texts are determined by the cut and the marks, and outputs show what was refused.
-pub mod Laws
+-- Outputs show what was refused.
 pub mod Refusals
 -- A request that is sent again acts once: in runs, then over stops and starts.
 pub mod Repeats
@@ -26,5 +25,6 @@ pub mod Attempts
 pub mod Histories
 pub mod ActsOnce
 -- For contracts inside the crate.
+pub mod Answering
 pub mod Inside
 pub mod Prepared

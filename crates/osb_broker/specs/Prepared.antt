@@ -2,16 +2,21 @@
 use Rattle.std.specs.Prelude.{◌≡◌, ◌⊎◌, ℕ, List, Option, None, Some, IsTrue}
 use Rattle.sqlite.specs.Tree.{Trees}
 use Rattle.sqlite.specs.State.{State}
+use Rattle.osb_replies.specs.Body.{body_bytes}
 use Rattle.osb_orders.specs.declared.order.Change.{Change}
 use Rattle.osb_orders.specs.Lives.{Lives, life_of}
 use Rattle.osb_orders.specs.Changed.{lives_changed}
 use Rattle.osb_orders.specs.IsLife.{IsLives}
+use Rattle.osb_machine.specs.declared.answer_and_change.Answer as code
 use Rattle.osb_records.specs.Commit.{FinishesLast}
 use Rattle.osb_statements.specs.Stored.{lives_stored}
 use Rattle.osb_broker.specs.declared.prepared.Pending.{Pending}
 use Rattle.osb_broker.specs.declared.prepared.Prepared.{Prepared}
 use Rattle.osb_broker.specs.Machine.{Answer}
-use Rattle.osb_broker.specs.BrokerState.{answer_parts}
+
+-- an answer of the code
+abbrev pub answer_parts : code.Answer → Answer
+answer_parts answer = record { status = answer.status; body = body_bytes answer.body }
 
 -- the change of an ask that names an instance, or none
 abbrev pub pending_for : Option (List ℕ) → Change → Option Pending

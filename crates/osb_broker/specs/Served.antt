@@ -1,10 +1,12 @@
 -- What serving a connection did, of the bytes as a whole.
-use Rattle.std.specs.Prelude.{◌≡◌, ℕ, ◌≤◌, Bool, List, ◌++◌, length, map, take}
+use Rattle.std.specs.Prelude.{◌≡◌, ℕ, ◌≤◌, Bool, List, [], ◌∷◌, ◌++◌, length, map, take}
 use Rattle.std.specs.List.{concat}
 use Rattle.osb_frames.specs.declared.limits.Limits.{Limits}
 use Rattle.osb_frames.specs.declared.limits.TheConstants.{MOST_HEAD, MOST_FIELDS, MOST_BODY}
+use Rattle.osb_frames.specs.Cuts.{Message, End, Cuts}
+use Rattle.osb_replies.specs.Text.{reply_text}
 use Rattle.osb_broker.specs.Machine.{Machine}
-use Rattle.osb_broker.specs.Connection.{ConnectionText, Run, AfterRequests, FirstText}
+use Rattle.osb_broker.specs.Connection.{replies_of, AreMarks, looked_for, ConnectionText, Run}
 
 -- what was written is the texts of the connection, for some marks
 pub record Served {S : Type 0} (machine : Machine S) (limits : Limits) (k : ℕ) (s : S) (bytes old new : List ℕ) (t : S) : Type 0 where
@@ -13,21 +15,25 @@ pub record Served {S : Type 0} (machine : Machine S) (limits : Limits) (k : ℕ)
   pub is : ConnectionText machine limits k s bytes marks texts t
   pub written : new ≡ old ++ concat texts
 
--- so far the texts of the requests before rest were written
-pub record Reached {S : Type 0} (machine : Machine S) (limits : Limits) (k : ℕ) (s : S) (bytes old : List ℕ) (left : ℕ) (now : List ℕ) (u : S) (rest : List ℕ) : Type 0 where
-  pub texts : List (List ℕ)
-  pub is : AfterRequests machine limits k s bytes texts left u rest
-  pub written : now ≡ old ++ concat texts
+-- These are the first texts of the connection, and t is the state after them: of the k requests that may come at most so
+-- many are looked for.
+pub record FirstTexts {S : Type 0} (machine : Machine S) (limits : Limits) (k : ℕ) (s : S) (bytes : List ℕ) (texts : List (List ℕ)) (t : S) : Type 0 where
+  pub most : ℕ
+  pub fewer : most ≤ k
+  pub marks : List Bool
+  pub requests : List Message
+  pub end : End
+  pub cut : Cuts limits (looked_for most marks) bytes requests end
+  pub marked : AreMarks machine requests marks
+  pub printed : texts ≡ map reply_text (replies_of machine k s requests end marks).0
+  pub leaves : t ≡ (replies_of machine k s requests end marks).1
 
--- the texts of some requests were written whole, and of what stands next its first bytes; the state is the one after that
+-- the first texts of the connection were written whole, and of the one behind them its first bytes; the state is the one
+-- after that
 pub record BrokenOff {S : Type 0} (machine : Machine S) (limits : Limits) (k : ℕ) (s : S) (bytes old new : List ℕ) (t : S) : Type 0 where
   pub texts : List (List ℕ)
-  pub left : ℕ
-  pub u : S
-  pub rest : List ℕ
-  pub is : AfterRequests machine limits k s bytes texts left u rest
   pub text : List ℕ
-  pub next : FirstText machine limits left u rest text t
+  pub is : FirstTexts machine limits k s bytes (texts ++ text ∷ []) t
   pub count : ℕ
   pub inside : count ≤ length text
   pub written : new ≡ old ++ (concat texts ++ take count text)

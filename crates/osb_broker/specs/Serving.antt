@@ -1,18 +1,27 @@
 -- What serving a connection did, of bytes that came in pieces.
-use Rattle.std.specs.Prelude.{◌≡◌, ℕ, zero, suc, ◌<◌, ◌≤◌, ◌+◌, ◌⊎◌, false, List, [], ◌∷◌, ◌++◌, length, drop, ⊤, Option, Some, None, Result, Ok, Err}
-use Rattle.std.specs.List.{AllByRecursion}
+use Rattle.std.specs.Prelude.{◌≡◌, ℕ, ◌<◌, ◌≤◌, ◌+◌, ◌⊎◌, false, List, [], ◌∷◌, ◌++◌, length, map, take, drop, ⊤, Option, Some, None, Result, Ok, Err}
+use Rattle.std.specs.List.{concat, AllByRecursion}
 use Rattle.std.specs.Io.KnownBytes.{Consumes, IsAtEnd}
 use Rattle.osb_frames.specs.declared.limits.Limits.{Limits}
 use Rattle.osb_frames.specs.declared.step.StopKind.{StopKind}
 use Rattle.osb_frames.specs.Calls.{Call, all_bytes, call_bytes, is_failed_or_empty}
 use Rattle.osb_frames.specs.Heads.{IsHopeful}
-use Rattle.osb_frames.specs.Cuts.{Message, closes, fault, whole, IsFront}
+use Rattle.osb_frames.specs.Cuts.{Message, closes, fault, whole, IsFront, ended}
 use Rattle.osb_frames.specs.Steps.{IsFinal}
 use Rattle.osb_broker.specs.declared.fault.ServeFault.{ServeFault}
 use Rattle.osb_broker.specs.declared.fault.ServeFault.TheVariants.{Read, Write}
-use Rattle.osb_replies.specs.Text.{reply_text}
+use Rattle.osb_replies.specs.declared.write.WriteFault.{WriteFault}
+use Rattle.osb_replies.specs.Text.{ReplyParts, reply_text}
 use Rattle.osb_broker.specs.Machine.{Machine, fault_reply}
-use Rattle.osb_broker.specs.Served.{Served, Reached, BrokenOff}
+use Rattle.osb_broker.specs.Connection.{replies_of}
+use Rattle.osb_broker.specs.Served.{Served, BrokenOff}
+
+-- a text was written whole and each write took bytes, or its first bytes were written and then a write failed or took
+-- nothing
+abbrev pub WritesText : List ℕ → ℕ → List ℕ → ℕ → Result (Unit {0}) WriteFault → List ℕ → Type 0
+WritesText base before now after (Ok x) text = (now ≡ base ++ text) × (after ≡ before)
+WritesText base before now after (Err f) text =
+    (k : ℕ) × (k ≤ length text) × (now ≡ base ++ take k text) × (before < after)
 
 -- each fault has its cause
 abbrev pub HasCause : Result (Unit {0}) ServeFault → Type 0 → Type 0 → Type 0
@@ -59,25 +68,31 @@ pub record NothingWaits (limits : Limits) (held : List ℕ) : Type 0 where
   pub stop : (f : StopKind) → IsFinal f → ¬ (IsFront limits held (fault f))
   pub hope : IsHopeful limits held
 
--- a read failed: exactly the texts of the requests that came whole were written
-pub record ReadBroken {S : Type 0} (machine : Machine S) (limits : Limits) (k : ℕ) (s : S) (got old new : List ℕ) (t : S) : Type 0 where
-  pub left : ℕ
-  pub some : 0 < left
-  pub held : List ℕ
-  pub reached : Reached machine limits k s got old left new t held
-  pub waits : NothingWaits limits held
+-- the bytes begin with these requests, one behind the other, of which none closes; rest follows them
+abbrev pub Past : Limits → List Message → List ℕ → List ℕ → Type 0
+Past limits [] bytes rest = rest ≡ bytes
+Past limits (q ∷ qs) bytes rest =
+    (n : ℕ) × IsFront limits bytes (whole q n) × (closes q ≡ false) × Past limits qs (drop n bytes) rest
 
--- the bytes begin with so many requests, one behind the other, of which none closes; rest follows them
-abbrev pub Past : Limits → ℕ → List ℕ → List ℕ → Type 0
-Past limits zero bytes rest = rest ≡ bytes
-Past limits (suc count) bytes rest =
-    (q : Message) × (n : ℕ) × IsFront limits bytes (whole q n) × (closes q ≡ false) × Past limits count (drop n bytes) rest
+-- the replies to requests that met no refusal, and the state after them
+abbrev pub replies_unmarked : {S : Type 0} → Machine S → ℕ → S → List Message → List ReplyParts × S
+replies_unmarked machine k s requests = replies_of machine k s requests ended (map (λ q. false) requests)
+
+-- a read failed: exactly the texts of the requests that came whole were written, and more requests might have come
+pub record ReadBroken {S : Type 0} (machine : Machine S) (limits : Limits) (k : ℕ) (s : S) (got old new : List ℕ) (t : S) : Type 0 where
+  pub requests : List Message
+  pub held : List ℕ
+  pub past : Past limits requests got held
+  pub fewer : length requests < k
+  pub waits : NothingWaits limits held
+  pub written : new ≡ old ++ concat (map reply_text (replies_unmarked machine k s requests).0)
+  pub leaves : t ≡ (replies_unmarked machine k s requests).1
 
 -- Whatever follows, got is requests of which none closes, and then held. Of k requests so many may still come.
 pub record RequestsPassed (limits : Limits) (k : ℕ) (got : List ℕ) (left : ℕ) (held : List ℕ) : Type 0 where
-  pub count : ℕ
-  pub is : (more : List ℕ) → Past limits count (got ++ more) (held ++ more)
-  pub fewer : left + count ≡ k
+  pub requests : List Message
+  pub is : (more : List ℕ) → Past limits requests (got ++ more) (held ++ more)
+  pub fewer : left + length requests ≡ k
 
 -- The read was made where more was needed: of k requests some may still come, nothing waits behind those before, and
 -- there was room for what it gave.

@@ -5,7 +5,7 @@ ghost use Rattle.osb_frames.specs.Steps.{message};
 ghost use Rattle.osb_replies.specs.Parts.{parts};
 ghost use Rattle.osb_broker.specs.Machine.{reply_of};
 ghost use Rattle.osb_broker.specs.Faults.{plain, fixed, fault_answer};
-ghost use Rattle.osb_broker.specs.BrokerState.{answer_parts};
+ghost use Rattle.osb_broker.specs.Prepared.{answer_parts};
 
 use osb_asks::AskFault;
 use osb_frames::Request;

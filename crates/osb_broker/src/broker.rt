@@ -18,6 +18,7 @@ ghost use Rattle.osb_records.specs.CrashLeaves.{KeepsLives};
 ghost use Rattle.osb_statements.specs.Steps.{LeavesOnly, stored};
 ghost use Rattle.osb_laws.specs.Failures.{is_500};
 ghost use Rattle.osb_broker.specs.Machine.{Handled, MayReply};
+ghost use Rattle.osb_broker.specs.PerConnection.{IsPerConnection};
 ghost use Rattle.osb_broker.specs.Plans.{first_lacking, NamesLacking, OffersInUse, ReportsLacking};
 ghost use Rattle.osb_broker.specs.Steps.{lives_after, machine, capped, needs_lives};
 
@@ -53,8 +54,7 @@ impl<'s, S: Alter> Broker<'s, S> {
         mut records: Records<S>,
         per_connection: u32,
     ) -> Result<Broker<'s, S>, (NewFault, Records<S>)>
-        requires some { 1 ≤ per_connection }
-        requires few { per_connection ≤ 1000 }
+        requires per_connection { IsPerConnection per_connection }
         ensures lives { IfOk result (λ broker. Works (store_of S.Store broker) →
             lives_of S.Store broker ≡ stored (state S.Store records)) }
         ensures works { IfOk result (λ broker. Works (store_of S.Store broker) →

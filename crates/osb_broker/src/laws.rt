@@ -1,16 +1,16 @@
 //! Laws of texts, runs and histories, over the definitions alone.
 
-ghost use Rattle.std.specs.Prelude.{◌≡◌, [], ◌∷◌, ◌++◌, ℕ, List, Bool, Result};
+ghost use Rattle.std.specs.Prelude.{◌≡◌, [], ◌∷◌, ◌++◌, ℕ, List, Bool, Result, map};
 ghost use Rattle.osb_frames.specs.declared.limits.Limits.{Limits};
 ghost use Rattle.osb_frames.specs.Calls.{Call};
 ghost use Rattle.osb_frames.specs.Cuts.{Message, End, Cuts};
+ghost use Rattle.osb_replies.specs.Text.{reply_text};
 ghost use Rattle.osb_broker.specs.Machine.{Machine};
 ghost use Rattle.osb_orders.specs.Lives.{Lives};
-ghost use Rattle.osb_broker.specs.Connection.{ConnectionText, Run};
+ghost use Rattle.osb_broker.specs.Connection.{ConnectionText, Run, replies_of};
 ghost use Rattle.osb_catalog.specs.Rules.{Rules};
 ghost use Rattle.osb_laws.specs.AskedAgain.{AskedAgainStays};
 ghost use Rattle.osb_broker.specs.declared.fault.ServeFault.{ServeFault};
-ghost use Rattle.osb_broker.specs.Laws.{texts_of};
 ghost use Rattle.osb_broker.specs.Serving.{EachWasNeeded, IsBounded, ReadsOf};
 ghost use Rattle.osb_broker.specs.Steps.{machine, capped};
 ghost use Rattle.osb_broker.specs.Refusals.{NeverFails, FailuresStay, MarksShow, OutputShowsAll, OutputsShowAll};
@@ -29,8 +29,8 @@ pub fn texts_are_of_the_cut()
         (requests : List Message) (end : End) (marks : List Bool) (texts : List (List ℕ))
         (t : Lives) →
         Cuts limits k bytes requests end → ConnectionText machine limits k s bytes marks texts t →
-        (texts ≡ (texts_of machine k s requests end marks).0)
-        × (t ≡ (texts_of machine k s requests end marks).1) }
+        (texts ≡ map reply_text (replies_of machine k s requests end marks).0)
+        × (t ≡ (replies_of machine k s requests end marks).1) }
 {}
 
 /// A run goes on with one connection more: who serves one connection after another serves a run.

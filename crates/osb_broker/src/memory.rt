@@ -18,6 +18,7 @@ ghost use Rattle.osb_laws.specs.Failures.{is_500};
 ghost use Rattle.osb_broker.specs.BrokerState.{lives_of, most_of, records_of, rules_in};
 ghost use Rattle.osb_broker.specs.Machine.{Handled};
 ghost use Rattle.osb_broker.specs.Once.{ServedOnce};
+ghost use Rattle.osb_broker.specs.PerConnection.{IsPerConnection};
 ghost use Rattle.osb_broker.specs.Plans.{first_lacking, NamesLacking, OffersInUse, ReportsLacking};
 ghost use Rattle.osb_broker.specs.Room.{limits_of, met_fault};
 ghost use Rattle.osb_broker.specs.Served.{Served, AreStandard, RunServed};
@@ -42,8 +43,7 @@ pub fn new(
     records: Records<MemStore>,
     per_connection: u32,
 ) -> Result<Broker<'_, MemStore>, (NewFault, Records<MemStore>)>
-    requires some { 1 ≤ per_connection }
-    requires few { per_connection ≤ 1000 }
+    requires per_connection { IsPerConnection per_connection }
     ensures lives { IfOk result (λ broker.
         lives_of over_memory broker ≡ stored (state over_memory records)) }
     ensures most { IfOk result (λ broker. most_of broker ≡ per_connection) }

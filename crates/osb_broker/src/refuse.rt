@@ -4,7 +4,7 @@ ghost use Rattle.std.specs.Prelude.{◌≡◌, ◌<◌, length, OnErr};
 ghost use Rattle.osb_replies.specs.Parts.{parts};
 ghost use Rattle.osb_replies.specs.Text.{reply_text};
 ghost use Rattle.osb_broker.specs.Machine.{error_of, fault_reply};
-ghost use Rattle.osb_broker.specs.Answering.{WritesText};
+ghost use Rattle.osb_broker.specs.Serving.{WritesText};
 
 use osb_frames::{Sink, StopKind};
 use osb_replies::{FixedError, Reply, WriteFault, write_reply};

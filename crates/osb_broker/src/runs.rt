@@ -13,7 +13,7 @@ ghost use Rattle.osb_broker.specs.Machine.{fault_reply};
 ghost use Rattle.osb_broker.specs.Steps.{capped};
 ghost use Rattle.osb_broker.specs.Answering.{AnswersWhole};
 ghost use Rattle.osb_broker.specs.Served.{Served, AreStandard, RunServed};
-ghost use Rattle.osb_broker.specs.Room.{IsBlank};
+ghost use Rattle.osb_broker.specs.Inside.{IsBlank};
 
 use crate::broker::Broker;
 use crate::refuse::refuse;

@@ -1,12 +1,13 @@
 //! Opens a database file, listens, and serves from the lives in it.
 
-ghost use Rattle.std.specs.Prelude.{◌≡◌, ◌≤◌, ◌<◌, ◌++◌, Err, IfOk, IfErr, IfSome, IfNone, OnOk, IsOkUnless};
+ghost use Rattle.std.specs.Prelude.{◌≡◌, ◌<◌, ◌++◌, Err, IfOk, IfErr, IfSome, IfNone, OnOk, IsOkUnless};
 ghost use Rattle.sqlite_trees.specs.Tree.{Trees};
 ghost use Rattle.sqlite_wal.specs.Files.{image_at};
 ghost use Rattle.sqlite.specs.Files.{file_state, over_files, HoldsDatabase};
 ghost use Rattle.osb_catalog.specs.Rules as catalog;
 ghost use Rattle.osb_file.specs.File.{AreLivesOf};
 ghost use Rattle.osb_broker.specs.BrokerState.{Works, lives_of, most_of, rules_in, store_of};
+ghost use Rattle.osb_broker.specs.PerConnection.{IsPerConnection};
 ghost use Rattle.osb_broker.specs.Plans.{OffersInUse};
 ghost use Rattle.osb_statements.specs.Steps.{stored};
 ghost use Rattle.osb_statements.specs.declared.fault.StoreFault.TheVariants.{Refused};
@@ -42,8 +43,7 @@ fn broker_over<'s, S: Start>(
     per_connection: u32,
     start: S,
 ) -> Result<Broker<'s, HeldFile<S>>, (ListenFault, Opened<S>)>
-    requires some { 1 ≤ per_connection }
-    requires few { per_connection ≤ 1000 }
+    requires per_connection { IsPerConnection per_connection }
     ensures most { IfOk result (λ broker. most_of broker ≡ per_connection) }
     ensures rules { IfOk result (λ broker. rules_in broker ≡ catalog.rules_of settings.now) }
     ensures offered { IfOk result (λ broker. Works (store_of over_files broker) →
@@ -87,8 +87,7 @@ pub fn serve_file<S: Start, W: Sink, E: Sink>(
     output: &mut W,
     errors: &mut E,
 ) -> (Result<(), ListenFault>, Opened<S>)
-    requires some { 1 ≤ per_connection }
-    requires few { per_connection ≤ 1000 }
+    requires per_connection { IsPerConnection per_connection }
     ensures served { OnOk result.0 (IfSome result.1 (λ conn. Works (file_state conn) →
         (db : Trees) → HoldsDatabase (image_at S.Start) db →
         ServesFrom (catalog.rules_of settings.now) per_connection place.now.connections db

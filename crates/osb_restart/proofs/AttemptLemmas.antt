@@ -1,13 +1,12 @@
 -- What `handle` promises of a request, and what is known of bytes in which none stands, is what an attempt has to tell.
-use Rattle.std.proofs.Common.{◌≡◌, ◌≢◌, ℕ, ◌⊎◌, inl, inr, Bool, true, false, List, [], ◌∷◌, ◌++◌, drop, Result, Ok, Err, OnOk, IsTrue, refl, sym, ap, subst, ◌∙◌, arith}
+use Rattle.std.proofs.Common.{◌≡◌, ◌≢◌, ℕ, ◌⊎◌, inl, inr, Bool, true, false, List, [], ◌∷◌, ◌++◌, Result, Ok, Err, OnOk, IsTrue, refl, sym, ap, subst, ◌∙◌, arith}
 use Rattle.std.specs.List.{concat}
 use Rattle.std.proofs.lemmas.List.{append-nil}
 use Rattle.std.proofs.lemmas.Bool.{true≢false}
-use Rattle.sqlite.specs.Tree.{Trees}
 use Rattle.sqlite.specs.State.{State, HasCleanDisk, Survives}
 use Rattle.osb_frames.specs.declared.limits.Limits.{Limits}
 use Rattle.osb_frames.specs.declared.step.StopKind.{StopKind}
-use Rattle.osb_frames.specs.Cuts.{Message, fault, whole, IsFront}
+use Rattle.osb_frames.specs.Cuts.{Message, fault, whole, IsFront, empty}
 use Rattle.osb_frames.specs.Steps.{FaultStays}
 use Rattle.osb_replies.specs.declared.write.WriteFault.{WriteFault}
 use Rattle.osb_replies.specs.Text.{ReplyParts, reply_text}
@@ -19,12 +18,12 @@ use Rattle.osb_records.specs.Commit.{Commits}
 use Rattle.osb_records.specs.CrashLeaves.{KeepsLives}
 use Rattle.osb_statements.specs.Steps.{HoldsLives, LeavesOnly}
 use Rattle.osb_broker.specs.ActsOnce.{Carried}
-use Rattle.osb_broker.specs.Answering.{WritesText}
-use Rattle.osb_broker.specs.Connection.{ConnectionText, GoesOn, ends, faults, answers}
+use Rattle.osb_broker.specs.Serving.{WritesText}
 use Rattle.osb_broker.specs.BrokerState.{IsShut, Works}
 use Rattle.osb_broker.specs.Machine.{Answered, Handled, MayReply, fault_reply, reply_of}
 use Rattle.osb_broker.specs.Refusals.{NeverFails}
 use Rattle.osb_broker.specs.Steps.{machine, lives_after}
+use Rattle.osb_broker.proofs.OneByOneLemmas.{text_of_nothing, text_of_stop, text_of_request}
 use Rattle.osb_restart.specs.Inside.{Attempted}
 
 -- a fault that is reported stands there
@@ -49,29 +48,19 @@ module _ (rules : Rules) (limits : Limits) (bytes : List ℕ) where
   }
 
   pub nothing_came : (now : State) (has : Lives) → bytes ≡ [] → Attempted rules limits now now has has bytes []
-  nothing_came now has none = idle now has [] [] refl (λ any. record { marks = []; is = ends none (refl, refl, refl); unmarked = refl })
+  nothing_came now has none = idle now has [] [] refl (λ any. record { marks = []; is = text_of_nothing (machine rules) limits 0 any bytes (empty none refl); unmarked = refl })
 
   pub fault_came : (now : State) (has : Lives) (f : StopKind) (output : List ℕ) → IsFront limits bytes (fault f) → output ≡ reply_text (fault_reply f) → Attempted rules limits now now has has bytes output
   fault_came now has f output at is =
       idle now has output (reply_text (fault_reply f) ∷ []) (is ∙ sym (append-nil (reply_text (fault_reply f))))
-      (λ any. record { marks = []; is = faults f at refl refl refl; unmarked = refl })
-
-  nothing_after : (close : Bool) (u : Lives) (later : List ℕ) → GoesOn close (ConnectionText (machine rules) limits 0 u later) u [] [] u
-  nothing_after true u later = (refl, refl, refl)
-  nothing_after false u later = (refl, refl, refl)
+      (λ any. record { marks = []; is = text_of_stop (machine rules) limits 0 any bytes f at; unmarked = refl })
 
   says : (reply : ReplyParts) → reply_text reply ≡ concat (reply_text reply ∷ [])
   says reply = sym (append-nil (reply_text reply))
 
   module _ (q : Message) (n : ℕ) (front : IsFront limits bytes (whole q n)) where
     carried_by : (reply : ReplyParts) (s t : Lives) → Answered (machine rules) q true false s reply t → Carried rules limits s bytes (reply_text reply ∷ []) t
-    carried_by reply s t answered = record {
-      marks = false ∷ [];
-      is = answers false (reply_text reply) reply.close t (drop n bytes) [] []
-          (record { q = q; n = n; front = front; fewer = refl; reply = reply; answered = answered; says = refl; closed = refl; after = refl })
-          refl refl (nothing_after reply.close t (drop n bytes));
-      unmarked = refl;
-    }
+    carried_by reply s t answered = record { marks = false ∷ []; is = text_of_request (machine rules) limits s bytes q n false reply t front answered; unmarked = refl }
 
     module _ (reply : ReplyParts) (never : NeverFails (machine rules)) (old new : State) (before after : Lives) (needs : Bool)
         (works : Works new → Works old) (kept : Works old → KeepsLives old before)

@@ -1,6 +1,6 @@
 use Rattle.std.proofs.Common.{◌≡◌, length}
 use Rattle.std.specs.List.{AllByRecursion}
-use Rattle.osb_broker.specs.Room.{IsBlank}
+use Rattle.osb_broker.specs.Inside.{IsBlank}
 use Rattle.osb_broker.proofs.runs.blank_outputs.Given as goal
 
 abbrev pub invariant-loop : goal.invariant-loop

@@ -1,4 +1,4 @@
-use Rattle.std.proofs.Common.{[], ap, subst, sym, ◌++◌, ◌∙◌}
+use Rattle.std.proofs.Common.{ap, rules, subst, sym, ◌++◌, ◌∙◌}
 use Rattle.std.proofs.lemmas.Result.{on_ok_weaker}
 use Rattle.osb_frames.specs.Steps.{message}
 use Rattle.osb_replies.specs.Parts.{parts}
@@ -6,7 +6,7 @@ use Rattle.osb_replies.specs.Text.{reply_text}
 use Rattle.osb_broker.specs.BrokerState.{lives_of, rules_in, store_of}
 use Rattle.osb_broker.specs.Machine.{fault_reply}
 use Rattle.osb_restart.specs.Inside.{Attempted}
-use Rattle.osb_restart.proofs.AttemptLemmas.{fault_came, request_came, told_here, wrote_text}
+use Rattle.osb_restart.proofs.AttemptLemmas.{fault_came, nothing_came, request_came, told_here, wrote_text}
 use Rattle.osb_restart.proofs.connections.answer_into.Goals as goal
 
 pub returns-in-Whole-clause-attempted : goal.returns-in-Whole-clause-attempted
@@ -28,3 +28,10 @@ returns-in-Stop-clause-attempted g c =
     on_ok_weaker c.refuse.result
     (λ sent. fault_came rules c.args.limits.now c.args.bytes.now _ _ c.in-Stop.kind _ at (sent ∙ ap (λ l. l ++ reply_text (fault_reply c.in-Stop.kind)) c.requires))
     (wrote_text _ _ _ _ c.refuse.result (reply_text (fault_reply c.in-Stop.kind)) c.refuse.ensures.writes)
+
+pub returns-in-Ended-clause-attempted : goal.returns-in-Ended-clause-attempted
+returns-in-Ended-clause-attempted g c =
+    let broker = c.args.broker.now in
+    subst (λ l. Attempted (rules_in broker) c.args.limits.now (store_of g.S.Store broker) (store_of g.S.Store broker) (lives_of g.S.Store broker) (lives_of g.S.Store broker) c.args.bytes.now l)
+    (sym c.requires)
+    (nothing_came (rules_in broker) c.args.limits.now c.args.bytes.now (store_of g.S.Store broker) (lives_of g.S.Store broker) (search rules))

@@ -1,10 +1,9 @@
 use Rattle.std.proofs.Common.{◌+◌, ◌≤◌, [], ◌∷◌, length, map, vec_items, vec_len, vec_capacity, sym, ap, subst, ◌∙◌, arith}
 use Rattle.std.proofs.lemmas.List.{length-append, take_all}
 use Rattle.sqlite.specs.Held.{state}
-use Rattle.osb_broker.specs.Room.{IsBlank}
 use Rattle.osb_broker.specs.Steps.{capped}
 use Rattle.osb_broker.specs.BrokerState.{LivesGo}
-use Rattle.osb_broker.specs.Inside.{given_most, given_rules, Worked}
+use Rattle.osb_broker.specs.Inside.{given_most, given_rules, IsBlank, Worked}
 use Rattle.osb_broker.specs.Served.{RunServed}
 use Rattle.osb_broker.proofs.ShutLemmas.{go_through, lives_stay, not_touched, worked_then}
 use Rattle.osb_broker.proofs.WholeLemmas.{of_last, of_front, run_start, run_on}

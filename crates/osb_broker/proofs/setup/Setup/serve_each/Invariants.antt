@@ -2,10 +2,9 @@ use Rattle.std.proofs.Common.{◌≡◌, ◌≤◌, ◌+◌, length, map, take, 
 use Rattle.std.specs.List.{AllByRecursion}
 use Rattle.sqlite.specs.Held.{state}
 use Rattle.osb_orders.specs.Lives.{Lives}
-use Rattle.osb_broker.specs.Room.{IsBlank}
 use Rattle.osb_broker.specs.Steps.{capped}
 use Rattle.osb_broker.specs.BrokerState.{LivesGo}
-use Rattle.osb_broker.specs.Inside.{given_most, given_rules, Worked}
+use Rattle.osb_broker.specs.Inside.{given_most, given_rules, IsBlank, Worked}
 use Rattle.osb_broker.specs.Served.{RunServed}
 use Rattle.osb_broker.proofs.setup.Setup.serve_each.Given as goal
 

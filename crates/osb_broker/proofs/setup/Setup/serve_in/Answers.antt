@@ -8,7 +8,7 @@ use Rattle.osb_broker.specs.Steps.{machine}
 use Rattle.osb_broker.specs.Inside.{given_most, given_rules}
 use Rattle.osb_broker.specs.Serving.{NothingWaits}
 use Rattle.osb_broker.proofs.CallLemmas.{all_more, all_failed}
-use Rattle.osb_broker.proofs.HoldLemmas.{gave_nothing, gave_more, gave_failed, holding_start, reached_now, holding_fed, holding_more, closing_held, breaking_held, refusing_ok, refusing_err, ending_held, none_held, left_start, left_more, left_fed}
+use Rattle.osb_broker.proofs.HoldLemmas.{gave_nothing, gave_more, gave_failed, holding_start, read_broken, holding_fed, holding_more, closing_held, breaking_held, refusing_ok, refusing_err, ending_held, none_held, left_start, left_more, left_fed}
 use Rattle.osb_broker.proofs.ReadLemmas.{ended_here, failed_here, fruitful_yet, fruitful_more, needed_more, none_needed, reads_so_far}
 use Rattle.osb_broker.proofs.ShutLemmas.{go_through, lives_stay, not_touched, worked_then}
 use Rattle.osb_broker.proofs.setup.Setup.serve_in.Goals as goal
@@ -197,13 +197,7 @@ returns-in-Err-fill-clause-outcome g c =
         free = omega (arith, c.in-More.ensures.room, c.loop-left.auto.room);
         fits = omega (arith, c.loop-left.auto.room, c.loop-left.invariant.inside, length-take c.loop-left.filled c.loop-left.room);
       }),
-      λ before after go. rw (all_failed calls) (record {
-        left = c.loop-left.left;
-        some = c.loop-left-test.true;
-        held = held;
-        reached = reached_now (machine (given_rules c.args.self.now)) c.args.limits.now (given_most c.args.self.now) before got _ c.loop-left.left _ _ held (c.loop-left.invariant.holding.3 before after go);
-        waits = waits;
-      }),
+      λ before after go. rw (all_failed calls) (read_broken (machine (given_rules c.args.self.now)) c.args.limits.now (given_most c.args.self.now) before got _ c.loop-left.left _ _ held c.loop-left-test.true waits (c.loop-left.invariant.holding.3 before after go)),
     )
 
 pub returns-clause-outcome : goal.returns-clause-outcome

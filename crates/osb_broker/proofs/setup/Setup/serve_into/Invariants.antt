@@ -5,7 +5,7 @@ use Rattle.osb_orders.specs.Lives.{Lives}
 use Rattle.osb_broker.specs.Steps.{capped}
 use Rattle.osb_broker.specs.BrokerState.{LivesGo}
 use Rattle.osb_broker.specs.Inside.{given_most, given_rules, Worked}
-use Rattle.osb_broker.specs.Served.{Reached}
+use Rattle.osb_broker.proofs.OneByOne.{WrittenSoFar}
 use Rattle.osb_broker.proofs.setup.Setup.serve_into.Given as goal
 
 abbrev pub decreases-loop-left : goal.decreases-loop-left
@@ -15,5 +15,5 @@ abbrev pub invariant-loop-left : goal.invariant-loop-left
 invariant-loop-left g l = record {
   room : 512 ≤ room_of l.output;
   worked : Worked (state g.S.Store l.fn.records) (state g.S.Store l.records);
-  reached : (before after : Lives) → LivesGo (state g.S.Store l.fn.records) (state g.S.Store l.records) before after → Reached (capped (given_rules l.self)) l.limits (given_most l.self) before l.bytes (bytes_of l.fn.output) l.left (bytes_of l.output) after l.rest;
+  reached : (before after : Lives) → LivesGo (state g.S.Store l.fn.records) (state g.S.Store l.records) before after → WrittenSoFar (capped (given_rules l.self)) l.limits (given_most l.self) before l.bytes (bytes_of l.fn.output) l.left (bytes_of l.output) after l.rest;
 }

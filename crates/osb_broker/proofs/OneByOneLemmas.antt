@@ -1,0 +1,271 @@
+-- What the loops keep, and its two stages: they say the same.
+use Rattle.std.proofs.Common.{◌≡◌, ℕ, zero, suc, ◌+◌, ◌==◌, Bool, true, false, ◌||◌, List, [], ◌∷◌, ◌++◌, drop, length, map, sym, refl, ap, subst, ◌∙◌, arith}
+use Rattle.std.proofs.lemmas.Bool.{ne_eqb}
+use Rattle.osb_frames.specs.declared.limits.Limits.{Limits}
+use Rattle.osb_frames.specs.declared.step.StopKind.{StopKind}
+use Rattle.osb_frames.specs.Cuts.{Message, closes, Front, nothing, fault, whole, IsFront, End, ended, closed, stopped, Goes, Follows, Cuts}
+use Rattle.osb_replies.specs.Text.{ReplyParts, reply_text}
+use Rattle.osb_replies.specs.Parts.{refused}
+use Rattle.osb_broker.specs.Machine.{Machine, Answered, reply_of, fault_reply}
+use Rattle.osb_broker.specs.Connection.{end_replies, replies_of, AreMarks, looked_for, ConnectionText}
+use Rattle.osb_broker.proofs.OneByOne.{OneReply, Done, GoesOn, ends, faults, answers, OneByOne, AfterRequests, FirstText, of_request, of_fault}
+use Rattle.osb_broker.specs.Served.{FirstTexts}
+use Rattle.osb_broker.specs.Serving.{Past, replies_unmarked}
+
+-- nothing is cut behind the last that is looked for
+goes_none : (limits : Limits) (c : Bool) (bytes : List ℕ) → Goes c (Cuts limits 0 bytes) [] closed
+goes_none limits true bytes = (refl, refl)
+goes_none limits false bytes = (refl, refl)
+
+none_goes : (limits : Limits) (c : Bool) (bytes : List ℕ) (qs : List Message) (end : End) → Goes c (Cuts limits 0 bytes) qs end → (qs ≡ []) × (end ≡ closed)
+none_goes limits true bytes qs end cut = cut
+none_goes limits false bytes qs end cut = cut
+
+-- after a reply that closes nothing is cut
+goes_closed : (limits : Limits) (k : ℕ) (c : Bool) (bytes : List ℕ) → (c || (k == 0)) ≡ true → Goes c (Cuts limits (looked_for k []) bytes) [] closed
+goes_closed limits k true bytes e = (refl, refl)
+goes_closed limits zero false bytes e = (refl, refl)
+goes_closed limits (suc k) false bytes e = let f : (suc k == 0) ≡ false = ne_eqb (suc k) 0 (omega arith) in let g : true ≡ false = sym e ∙ f in cc
+
+-- no reply is left behind one that closes
+no_replies : {S : Type 0} (machine : Machine S) (k : ℕ) (s : S) (marks : List Bool) → replies_of machine k s [] closed marks ≡ ([], s)
+no_replies machine zero s marks = refl
+no_replies machine (suc k) s marks = refl
+
+module _ {S : Type 0} (machine : Machine S) (limits : Limits) where
+  -- one request more in front of a connection that goes on
+  in_front : (k : ℕ) (s : S) (bytes : List ℕ) (q : Message) (n : ℕ) (marks : List Bool) (texts : List (List ℕ)) (t : S) → IsFront limits bytes (whole q n) → closes q ≡ false → ConnectionText machine limits k (machine.step s q).1 (drop n bytes) marks texts t → ConnectionText machine limits (suc k) s bytes (false ∷ marks) (reply_text (reply_of q (k == 0) (machine.step s q).0) ∷ texts) t
+  in_front k s bytes q n marks texts t front stays more = record {
+    requests = q ∷ more.requests;
+    end = more.end;
+    cut = (whole q n, front, (more.requests, refl, subst (λ c. Goes c (Cuts limits (looked_for k marks) (drop n bytes)) more.requests more.end) (sym stays) more.cut));
+    marked = ((λ e. cc), more.marked);
+    printed = ap (λ l. reply_text (reply_of q (k == 0) (machine.step s q).0) ∷ l) more.printed;
+    leaves = more.leaves;
+  }
+
+  -- a request whose reply closes
+  alone : (k : ℕ) (s : S) (bytes : List ℕ) (q : Message) (n : ℕ) → IsFront limits bytes (whole q n) → (closes q || (k == 0)) ≡ true → ConnectionText machine limits (suc k) s bytes (false ∷ []) (reply_text (reply_of q (k == 0) (machine.step s q).0) ∷ []) (machine.step s q).1
+  alone k s bytes q n front shut = record {
+    requests = q ∷ [];
+    end = closed;
+    cut = (whole q n, front, ([], refl, goes_closed limits k (closes q) (drop n bytes) shut));
+    marked = ((λ e. cc), tt);
+    printed = ap (λ r. reply_text (reply_of q (k == 0) (machine.step s q).0) ∷ map reply_text r.0) (sym (no_replies machine k (machine.step s q).1 []));
+    leaves = ap (λ r. r.1) (sym (no_replies machine k (machine.step s q).1 []));
+  }
+
+  -- a request that met a refusal
+  met : (k : ℕ) (s : S) (bytes : List ℕ) (q : Message) (n : ℕ) → IsFront limits bytes (whole q n) → machine.takes_memory q ≡ true → ConnectionText machine limits (suc k) s bytes (true ∷ []) (reply_text refused ∷ []) s
+  met k s bytes q n front takes = record {
+    requests = q ∷ [];
+    end = closed;
+    cut = (whole q n, front, ([], refl, goes_none limits (closes q) (drop n bytes)));
+    marked = ((λ e. takes), tt);
+    printed = refl;
+    leaves = refl;
+  }
+
+  -- ---- from the loop to the two stages
+
+  pub text_of_nothing : (k : ℕ) (s : S) (bytes : List ℕ) → IsFront limits bytes nothing → ConnectionText machine limits (suc k) s bytes [] [] s
+  text_of_nothing k s bytes none = record { requests = []; end = ended; cut = (nothing, none, (refl, refl)); marked = tt; printed = refl; leaves = refl }
+
+  pub text_of_stop : (k : ℕ) (s : S) (bytes : List ℕ) (f : StopKind) → IsFront limits bytes (fault f) → ConnectionText machine limits (suc k) s bytes [] (reply_text (fault_reply f) ∷ []) s
+  text_of_stop k s bytes f at = record { requests = []; end = stopped f; cut = (fault f, at, (refl, refl)); marked = tt; printed = refl; leaves = refl }
+
+  none : (s : S) (bytes : List ℕ) → ConnectionText machine limits 0 s bytes [] [] s
+  none s bytes = record { requests = []; end = closed; cut = (refl, refl); marked = tt; printed = refl; leaves = refl }
+
+  pub in_stages : (k : ℕ) (s : S) (bytes : List ℕ) (marks : List Bool) (texts : List (List ℕ)) (t : S) → OneByOne machine limits k s bytes marks texts t → ConnectionText machine limits k s bytes marks texts t
+  in_stages zero s bytes marks texts t (a, b, c) = rw (a, b, c) (none s bytes)
+  in_stages (suc k) s bytes marks texts t (ends at (a, b, c)) = rw (a, b, c) (text_of_nothing k s bytes at)
+  in_stages (suc k) s bytes marks texts t (faults f at a b c) = rw (a, b, c) (text_of_stop k s bytes f at)
+  in_stages (suc k) s bytes marks texts t (answers true text close u later ma ta one em ex goes) =
+      let shut : close ≡ true = sym one.closed ∙ ap (λ (r : ReplyParts). r.close) one.answered.1 in
+      let done : Done u ma ta t = subst (λ b. GoesOn b (OneByOne machine limits k u later) u ma ta t) shut goes in
+      let said : text ≡ reply_text refused = one.says ∙ ap reply_text one.answered.1 in
+      let P : List Bool → List (List ℕ) → S → Type 0 = ConnectionText machine limits (suc k) s bytes in
+      subst (λ m. P m texts t) (sym (em ∙ ap (λ l. true ∷ l) done.0))
+      (subst (λ x. P (true ∷ []) x t) (sym (ex ∙ ap (λ l. text ∷ l) done.1 ∙ ap (λ x. x ∷ []) said))
+      (subst (λ w. P (true ∷ []) (reply_text refused ∷ []) w) (sym (done.2 ∙ one.answered.2)) (met k s bytes one.q one.n one.front one.answered.0)))
+  in_stages (suc k) s bytes marks texts t (answers false text close u later ma ta one em ex goes) =
+      let first : reply_of one.q (k == 0) (machine.step s one.q).0 ≡ one.reply = sym one.answered.0 in
+      let said : text ≡ reply_text (reply_of one.q (k == 0) (machine.step s one.q).0) = one.says ∙ ap reply_text one.answered.0 in
+      let P : List Bool → List (List ℕ) → Type 0 = λ m x. ConnectionText machine limits (suc k) s bytes m x t in
+      subst (λ m. P m texts) (sym em) (subst (λ x. P (false ∷ ma) x) (sym (ex ∙ ap (λ x. x ∷ ta) said))
+      (by (in_stages k u later ma ta t) close (closes one.q) refl (ap (λ (r : ReplyParts). r.close) first ∙ one.closed) goes))
+    where
+      by : (OneByOne machine limits k u later ma ta t → ConnectionText machine limits k u later ma ta t) → (close c : Bool) → closes one.q ≡ c → (c || (k == 0)) ≡ close → GoesOn close (OneByOne machine limits k u later) u ma ta t → ConnectionText machine limits (suc k) s bytes (false ∷ ma) (reply_text (reply_of one.q (k == 0) (machine.step s one.q).0) ∷ ta) t
+      by staged true c is shut (a, b, e) =
+          let it = alone k s bytes one.q one.n one.front (ap (λ x. x || (k == 0)) is ∙ shut) in
+          let P : List Bool → List (List ℕ) → S → Type 0 = λ m x w. ConnectionText machine limits (suc k) s bytes (false ∷ m) (reply_text (reply_of one.q (k == 0) (machine.step s one.q).0) ∷ x) w in
+          subst (λ m. P m ta t) (sym a) (subst (λ x. P [] x t) (sym b) (subst (λ w. P [] [] w) (sym (e ∙ one.answered.1)) it))
+      by staged false true is shut more = cc
+      by staged false false is shut more =
+          in_front k s bytes one.q one.n ma ta t one.front is
+          (subst (λ l. ConnectionText machine limits k (machine.step s one.q).1 l ma ta t) one.after
+          (subst (λ w. ConnectionText machine limits k w later ma ta t) one.answered.1 (staged more)))
+
+  -- ---- and back
+
+  no_marks : (marks : List Bool) → AreMarks machine [] marks → marks ≡ []
+  no_marks [] are = refl
+  no_marks (mark ∷ marks) are = absurd are
+
+  -- the bytes of a connection of which no request is cut
+  abbrev Ends : ℕ → S → List ℕ → List (List ℕ) → S → Type 0
+  Ends k s bytes texts t = OneByOne machine limits (suc k) s bytes [] texts t
+
+  at_end : (k : ℕ) (s : S) (bytes : List ℕ) (front : Front) (end : End) (texts : List (List ℕ)) (t : S) → IsFront limits bytes front → Follows (Cuts limits k) bytes front [] end → texts ≡ map reply_text (end_replies end) → t ≡ s → Ends k s bytes texts t
+  at_end k s bytes nothing end texts t at (none, over) a b =
+      ends at (refl, a ∙ ap (λ e. map reply_text (end_replies e)) over, b)
+  at_end k s bytes (fault f) end texts t at (none, over) a b = faults f at refl (a ∙ ap (λ e. map reply_text (end_replies e)) over) b
+  at_end k s bytes (whole q n) end texts t at (later, e, goes) a b = cc
+
+  -- the replies of requests and an end that are none
+  shut : (k : ℕ) (u : S) (qs : List Message) (end : End) (marks : List Bool) → qs ≡ [] → end ≡ closed → replies_of machine k u qs end marks ≡ ([], u)
+  shut k u qs end marks none over = ap (λ l. replies_of machine k u l end marks) none ∙ ap (λ e. replies_of machine k u [] e marks) over ∙ no_replies machine k u marks
+
+  -- after a request that isn't marked
+  goes_on : (k : ℕ) (u : S) (later : List ℕ) (marks : List Bool) (t : S) (qs : List Message) (end : End) (c : Bool) → Goes c (Cuts limits (looked_for k marks) later) qs end → AreMarks machine qs marks → t ≡ (replies_of machine k u qs end marks).1 → (Cuts limits (looked_for k marks) later qs end → OneByOne machine limits k u later marks (map reply_text (replies_of machine k u qs end marks).0) t) → GoesOn (c || (k == 0)) (OneByOne machine limits k u later) u marks (map reply_text (replies_of machine k u qs end marks).0) t
+  goes_on k u later marks t qs end true (none, over) are b more =
+      let said = shut k u qs end marks none over in
+      (no_marks marks (subst (λ l. AreMarks machine l marks) none are), ap (λ r. map reply_text r.0) said, b ∙ ap (λ r. r.1) said)
+  goes_on zero u later marks t qs end false (none, over) are b more = (no_marks marks (subst (λ l. AreMarks machine l marks) none are), refl, b)
+  goes_on (suc k) u later marks t qs end false cut are b more =
+      subst (λ x. GoesOn x (OneByOne machine limits (suc k) u later) u marks (map reply_text (replies_of machine (suc k) u qs end marks).0) t) (sym (ne_eqb (suc k) 0 (omega arith))) (more cut)
+
+  pub one_by_one : (k : ℕ) (s : S) (bytes : List ℕ) (marks : List Bool) (texts : List (List ℕ)) (t : S) → ConnectionText machine limits k s bytes marks texts t → OneByOne machine limits k s bytes marks texts t
+  one_by_one k s bytes marks texts t x = go k s bytes marks texts t x.requests x.end x.cut x.marked x.printed x.leaves
+    where
+      go : (k : ℕ) (s : S) (bytes : List ℕ) (marks : List Bool) (texts : List (List ℕ)) (t : S) (qs : List Message) (end : End) → Cuts limits (looked_for k marks) bytes qs end → AreMarks machine qs marks → texts ≡ map reply_text (replies_of machine k s qs end marks).0 → t ≡ (replies_of machine k s qs end marks).1 → OneByOne machine limits k s bytes marks texts t
+      go zero s bytes marks texts t qs end cut are a b = (no_marks marks (subst (λ l. AreMarks machine l marks) cut.0 are), a, b)
+      go (suc k) s bytes [] texts t [] end (front, at, follows) are a b = at_end k s bytes front end texts t at follows a b
+      go (suc k) s bytes [] texts t (q ∷ qs) end cut are a b = absurd are
+      go (suc k) s bytes (mark ∷ marks) texts t [] end cut are a b = absurd are
+      go (suc k) s bytes (true ∷ marks) texts t (q ∷ qs) end (nothing, at, follows) are a b = cc
+      go (suc k) s bytes (true ∷ marks) texts t (q ∷ qs) end (fault f, at, follows) are a b = cc
+      go (suc k) s bytes (true ∷ marks) texts t (q ∷ qs) end (whole p n, at, (later, e, goes)) are a b =
+          let same : q ≡ p = cc in
+          let tail : qs ≡ later = cc in
+          let rest : qs ≡ [] = tail ∙ (none_goes limits (closes p) (drop n bytes) later end goes).0 in
+          let none : marks ≡ [] = no_marks marks (subst (λ l. AreMarks machine l marks) rest are.1) in
+          answers true (reply_text refused) true s (drop n bytes) [] []
+          (record { q = p; n = n; front = at; fewer = refl; reply = refused; answered = (subst (λ x. machine.takes_memory x ≡ true) same (are.0 refl), refl, refl); says = refl; closed = refl; after = refl })
+          (ap (λ l. true ∷ l) none) a (refl, refl, b)
+      go (suc k) s bytes (false ∷ marks) texts t (q ∷ qs) end (nothing, at, follows) are a b = cc
+      go (suc k) s bytes (false ∷ marks) texts t (q ∷ qs) end (fault f, at, follows) are a b = cc
+      go (suc k) s bytes (false ∷ marks) texts t (q ∷ qs) end (whole p n, at, (later, e, goes)) are a b =
+          let same : q ≡ p = cc in
+          let rest : later ≡ qs = cc in
+          let u : S = (machine.step s q).1 in
+          let reply : ReplyParts = reply_of q (k == 0) (machine.step s q).0 in
+          let ta : List (List ℕ) = map reply_text (replies_of machine k u qs end marks).0 in
+          let open_cut : Goes (closes q) (Cuts limits (looked_for k marks) (drop n bytes)) qs end =
+          subst (λ l. Goes (closes q) (Cuts limits (looked_for k marks) (drop n bytes)) l end) rest
+          (subst (λ x. Goes (closes x) (Cuts limits (looked_for k marks) (drop n bytes)) later end) (sym same) goes) in
+          answers false (reply_text reply) reply.close u (drop n bytes) marks ta
+          (record { q = q; n = n; front = subst (λ x. IsFront limits bytes (whole x n)) (sym same) at; fewer = refl; reply = reply; answered = (refl, refl); says = refl; closed = refl; after = refl })
+          refl a (goes_on k u (drop n bytes) marks t qs end (closes q) open_cut are.1 b (λ cut. go k u (drop n bytes) marks ta t qs end cut are.1 refl b))
+
+  -- a request whose reply leaves the connection open leaves it open too
+  stays_open : {k : ℕ} {s u : S} {bytes later text : List ℕ} {j : ℕ} → (one : OneReply machine limits k s bytes false text false j u later) → closes one.q ≡ false
+  stays_open {j = j} one = by (closes one.q) (sym (ap (λ (r : ReplyParts). r.close) one.answered.0) ∙ one.closed)
+    where
+      by : (c : Bool) → (c || (j == 0)) ≡ false → c ≡ false
+      by true e = cc
+      by false e = refl
+
+  -- ---- the first texts
+
+  -- one text behind others
+  pub first_texts : (k : ℕ) (s : S) (bytes : List ℕ) (xs : List (List ℕ)) (left j : ℕ) (u : S) (rest text : List ℕ) (t : S) → AfterRequests machine limits k s bytes xs left u rest → left ≡ suc j → FirstText machine limits left u rest text t → FirstTexts machine limits k s bytes (xs ++ text ∷ []) t
+  first_texts k s bytes [] left j u rest text t (a, b, c) e first =
+      subst (λ x. FirstTexts machine limits x s bytes (text ∷ []) t) (sym e ∙ a)
+      (subst (λ w. FirstTexts machine limits (suc j) w bytes (text ∷ []) t) b
+      (subst (λ l. FirstTexts machine limits (suc j) u l (text ∷ []) t) c
+      (here (subst (λ x. FirstText machine limits x u rest text t) e first))))
+    where
+      here : FirstText machine limits (suc j) u rest text t → FirstTexts machine limits (suc j) u rest (text ∷ []) t
+      here (of_fault f at says stays) = record { most = 1; fewer = omega arith; marks = []; requests = []; end = stopped f; cut = (fault f, at, (refl, refl)); marked = tt; printed = ap (λ x. x ∷ []) says; leaves = stays }
+      here (of_request true close i later one) = record {
+        most = 1;
+        fewer = omega arith;
+        marks = true ∷ [];
+        requests = one.q ∷ [];
+        end = closed;
+        cut = (whole one.q one.n, one.front, ([], refl, goes_none limits (closes one.q) (drop one.n rest)));
+        marked = ((λ e. one.answered.0), tt);
+        printed = ap (λ x. x ∷ []) (one.says ∙ ap reply_text one.answered.1);
+        leaves = one.answered.2;
+      }
+      here (of_request false close i later one) =
+          let last : j ≡ i = cc in
+          let none = no_replies machine j (machine.step u one.q).1 [] in
+          record {
+            most = 1;
+            fewer = omega arith;
+            marks = false ∷ [];
+            requests = one.q ∷ [];
+            end = closed;
+            cut = (whole one.q one.n, one.front, ([], refl, goes_none limits (closes one.q) (drop one.n rest)));
+            marked = ((λ e. cc), tt);
+            printed = ap (λ x. x ∷ []) (one.says ∙ ap reply_text (one.answered.0 ∙ ap (λ x. reply_of one.q (x == 0) (machine.step u one.q).0) (sym last)))
+                ∙ ap (λ r. reply_text (reply_of one.q (j == 0) (machine.step u one.q).0) ∷ map reply_text r.0) (sym none);
+            leaves = one.answered.1 ∙ ap (λ r. r.1) (sym none);
+          }
+  first_texts k s bytes (x ∷ xs) left j u rest text t (i, v, later, one, reached) e first =
+      subst (λ m. FirstTexts machine limits m s bytes (x ∷ (xs ++ text ∷ [])) t) (sym one.fewer) (before (first_texts i v later xs left j u rest text t reached e first))
+    where
+      before : FirstTexts machine limits i v later (xs ++ text ∷ []) t → FirstTexts machine limits (suc i) s bytes (x ∷ (xs ++ text ∷ [])) t
+      before more =
+          let stays = stays_open one in
+          let cut : Cuts limits (looked_for more.most more.marks) (drop one.n bytes) more.requests more.end = subst (λ l. Cuts limits (looked_for more.most more.marks) l more.requests more.end) one.after more.cut in
+          record {
+            most = suc more.most;
+            fewer = let below = more.fewer in omega arith;
+            marks = false ∷ more.marks;
+            requests = one.q ∷ more.requests;
+            end = more.end;
+            cut = (whole one.q one.n, one.front, (more.requests, refl, subst (λ c. Goes c (Cuts limits (looked_for more.most more.marks) (drop one.n bytes)) more.requests more.end) (sym stays) cut));
+            marked = ((λ e. cc), more.marked);
+            printed = ap (λ l. x ∷ l) more.printed ∙ ap (λ l. l ∷ map reply_text (replies_of machine i v more.requests more.end more.marks).0) (one.says ∙ ap reply_text one.answered.0)
+                ∙ ap (λ w. reply_text (reply_of one.q (i == 0) (machine.step s one.q).0) ∷ map reply_text (replies_of machine i w more.requests more.end more.marks).0) one.answered.1;
+            leaves = more.leaves ∙ ap (λ w. (replies_of machine i w more.requests more.end more.marks).1) one.answered.1;
+          }
+
+  -- ---- the requests that were passed
+
+  abbrev pub Passed : ℕ → S → List ℕ → List (List ℕ) → ℕ → S → List ℕ → Type 0
+  Passed k s bytes xs left u rest =
+      (requests : List Message) × Past limits requests bytes rest × (left + length requests ≡ k) × (xs ≡ map reply_text (replies_unmarked machine k s requests).0) × (u ≡ (replies_unmarked machine k s requests).1)
+
+  no_requests : (k : ℕ) (s : S) → replies_unmarked machine k s [] ≡ ([], s)
+  no_requests zero s = refl
+  no_requests (suc k) s = refl
+
+  pub passed : (k : ℕ) (s : S) (bytes : List ℕ) (xs : List (List ℕ)) (left : ℕ) (u : S) (rest : List ℕ) → AfterRequests machine limits k s bytes xs left u rest → Passed k s bytes xs left u rest
+  passed k s bytes [] left u rest (a, b, c) = ([], c, omega (arith, a), ap (λ r. map reply_text r.0) (sym (no_requests k s)), b ∙ ap (λ r. r.1) (sym (no_requests k s)))
+  passed k s bytes (x ∷ xs) left u rest (i, v, later, one, reached) =
+      subst (λ m. Passed m s bytes (x ∷ xs) left u rest) (sym one.fewer) (before (passed i v later xs left u rest reached))
+    where
+      before : Passed i v later xs left u rest → Passed (suc i) s bytes (x ∷ xs) left u rest
+      before (requests, past, fewer, says, stays) = (
+        one.q ∷ requests,
+        (one.n, one.front, stays_open one, subst (λ l. Past limits requests l rest) one.after past),
+        omega (arith, fewer),
+        ap (λ l. x ∷ l) says ∙ ap (λ l. l ∷ map reply_text (replies_unmarked machine i v requests).0) (one.says ∙ ap reply_text one.answered.0)
+            ∙ ap (λ w. reply_text (reply_of one.q (i == 0) (machine.step s one.q).0) ∷ map reply_text (replies_unmarked machine i w requests).0) one.answered.1,
+        stays ∙ ap (λ w. (replies_unmarked machine i w requests).1) one.answered.1,
+      )
+
+  -- ---- one request
+
+  pub text_of_request : (s : S) (bytes : List ℕ) (q : Message) (n : ℕ) (mark : Bool) (reply : ReplyParts) (t : S) → IsFront limits bytes (whole q n) → Answered machine q true mark s reply t → ConnectionText machine limits 1 s bytes (mark ∷ []) (reply_text reply ∷ []) t
+  text_of_request s bytes q n true reply t front (takes, is, same) = rw (is, same) (met 0 s bytes q n front takes)
+  text_of_request s bytes q n false reply t front (is, same) = rw (is, same) (alone 0 s bytes q n front (closes_or (closes q)))
+    where
+      closes_or : (c : Bool) → (c || true) ≡ true
+      closes_or true = refl
+      closes_or false = refl
