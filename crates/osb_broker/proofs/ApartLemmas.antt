@@ -1,9 +1,6 @@
 -- The connections of one instance, and those of others.
-use Rattle.std.proofs.Common.{◌≡◌, ℕ, Bool, true, false, cond, List, [], ◌∷◌, Option, None, Some, Result, Ok, Err, refl, sym, ap, subst, ◌∙◌, ◌⊎◌, inl, inr}
-use Rattle.std.specs.Prelude.{bytes_eq, unwrap_or}
-use Rattle.std.specs.Cmp.{eq_by_cmp_equiv}
-use Rattle.std.specs.Cmp.Lexicographic.{nat_list_cmp_total}
-use Rattle.std.specs.FinMap.{get, insert, get-insert}
+use Rattle.std.proofs.Common.{◌≡◌, ℕ, Bool, true, false, List, [], ◌∷◌, Option, None, Some, Result, Ok, Err, refl, sym, ap, subst, ◌∙◌, ◌⊎◌, inl, inr}
+use Rattle.std.specs.Prelude.{bytes_eq}
 use Rattle.std.proofs.lemmas.Slice.Eq.{bytes_eq-Decides}
 use Rattle.osb_frames.specs.declared.limits.Limits.{Limits}
 use Rattle.osb_frames.specs.Cuts.{Message, nothing, fault, whole, IsFront}
@@ -15,12 +12,11 @@ use Rattle.osb_asks.specs.declared.ask_fault.AskFault.{AskFault}
 use Rattle.osb_asks.specs.Asks.{ask_of}
 use Rattle.osb_orders.specs.declared.order.Change.{Change}
 use Rattle.osb_orders.specs.declared.order.Change.TheVariants.{Nothing, Append, Finish}
-use Rattle.osb_orders.specs.Life.{Life}
 use Rattle.osb_orders.specs.Lives.{Lives, life_of}
 use Rattle.osb_orders.specs.Named.{instance_in}
 use Rattle.osb_orders.specs.Changed.{changed, lives_changed, after_change}
 use Rattle.osb_machine.specs.Machine.{answer_to, after_step}
-use Rattle.osb_laws.proofs.MapLemmas.{answers_apart, others_stay, unnamed_stay}
+use Rattle.osb_laws.proofs.MapLemmas.{answers_apart, others_stay, unnamed_stay, got}
 use Rattle.osb_broker.specs.Machine.{Answered, reply_of}
 use Rattle.osb_broker.specs.Steps.{answer_alone, step_of, step_for, lives_after}
 use Rattle.osb_broker.specs.Connection.{ConnectionText, Run}
@@ -31,9 +27,6 @@ use Rattle.osb_broker.proofs.RequestLemmas.{Kind, silent, broken, asks, Seen, vi
 use Rattle.osb_broker.proofs.RepeatLemmas.{once}
 
 -- ---- the life that an ask names, after its step
-
-got : (lives : Lives) (id : List ℕ) (life : Life) → life_of (insert lives id life) id ≡ life
-got lives id life = ap (λ (found : Option Life). unwrap_or found []) (get-insert nat_list_cmp_total lives id life id ∙ ap (λ b. cond b (Some life) (get lives id)) ((eq_by_cmp_equiv nat_list_cmp_total).refl id))
 
 changed_at : (lives : Lives) (c : Change) (id : List ℕ) → life_of (lives_changed c id lives) id ≡ changed c (life_of lives id)
 changed_at lives Nothing id = refl

@@ -6,7 +6,7 @@ mod CallLemmas
 mod HoldLemmas
 mod ReadLemmas
 mod RunsLemmas
-mod WholeLemmas
+pub mod WholeLemmas
 mod FixedLemmas
 mod TextLemmas
 mod StepLemmas

@@ -93,7 +93,7 @@ going_on machine limits k s bytes old left now u rest q n j t new close at answe
 
 -- ---- one connection more
 
-taken_next : {X : Type 0} (xs : List X) (i : ℕ) (x : X) → i < length xs → x ≡ get_or xs i x → take (i + 1) xs ≡ take i xs ++ x ∷ []
+pub taken_next : {X : Type 0} (xs : List X) (i : ℕ) (x : X) → i < length xs → x ≡ get_or xs i x → take (i + 1) xs ≡ take i xs ++ x ∷ []
 taken_next xs i x low at = ap (λ n. take n xs) (add-one i) ∙ take-suc xs i x low ∙ ap (λ y. take i xs ++ y ∷ []) (sym at)
 
 pub run_on : {S X : Type 0} (machine : Machine S) (limits : Limits) (k : ℕ) (s : S) (items : X → List ℕ) (connections : List X) (i : ℕ) (connection : X) (old new : List X) (output : X) (u t : S) → i < length connections → connection ≡ get_or connections i connection → new ≡ old ++ output ∷ []

@@ -186,7 +186,7 @@ lives_step rules lives a sound h words id = stepped_change lives (answer_to rule
 
 -- Asked again
 
-got : (lives : Lives) (id : List ℕ) (life : Life) → life_of (insert lives id life) id ≡ life
+pub got : (lives : Lives) (id : List ℕ) (life : Life) → life_of (insert lives id life) id ≡ life
 got lives id life = ap (λ (found : Option Life). unwrap_or found []) (get-insert nat_list_cmp_total lives id life id ∙ ap (λ b. cond b (Some life) (get lives id)) ((eq_by_cmp_equiv nat_list_cmp_total).refl id))
 
 nothing_changes : (life : Life) (c : Change) → c ≡ Nothing → [] ≡ changed c []

@@ -7,7 +7,6 @@ use Rattle.sqlite.specs.State.{State, HasCleanDisk, Survives}
 use Rattle.osb_frames.specs.declared.limits.Limits.{Limits}
 use Rattle.osb_frames.specs.declared.step.StopKind.{StopKind}
 use Rattle.osb_frames.specs.Cuts.{Message, fault, whole, IsFront, empty}
-use Rattle.osb_frames.specs.Steps.{FaultStays}
 use Rattle.osb_replies.specs.declared.write.WriteFault.{WriteFault}
 use Rattle.osb_replies.specs.Text.{ReplyParts, reply_text}
 use Rattle.osb_replies.specs.Parts.{refused}
@@ -25,11 +24,6 @@ use Rattle.osb_broker.specs.Refusals.{NeverFails}
 use Rattle.osb_broker.specs.Steps.{machine, lives_after}
 use Rattle.osb_broker.proofs.OneByOneLemmas.{text_of_nothing, text_of_stop, text_of_request}
 use Rattle.osb_restart.specs.Inside.{Attempted}
-
--- a fault that is reported stands there
-pub told_here : (limits : Limits) (bytes : List ℕ) (over : Bool) (f : StopKind) → FaultStays limits bytes over f → IsFront limits bytes (fault f)
-told_here limits bytes over f (inl each) = subst (λ l. IsFront limits l (fault f)) (append-nil bytes) (each [])
-told_here limits bytes over f (inr here) = here.0
 
 -- a text that was written whole
 pub wrote_text : (base : List ℕ) (before : ℕ) (now : List ℕ) (after : ℕ) (result : Result (Unit {0}) WriteFault) (text : List ℕ) → WritesText base before now after result text → OnOk result (now ≡ base ++ text)

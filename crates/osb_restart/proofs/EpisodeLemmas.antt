@@ -1,16 +1,13 @@
 -- What is reached by connections, stops and starts.
-use Rattle.std.proofs.Common.{◌≡◌, ℕ, ◌⊎◌, inl, inr, IsTrue, List, [], ◌∷◌, ◌++◌, ◌+◌, ◌<◌, add-one, length, get_or, map, flat_map, take, refl, sym, ap, subst, subst₂, ◌∙◌, Option, None, Some, IfSome, arith}
-use Rattle.std.specs.List.{concat}
+use Rattle.std.proofs.Common.{◌≡◌, ℕ, inl, inr, IsTrue, List, [], ◌∷◌, ◌++◌, ◌+◌, ◌<◌, length, get_or, map, flat_map, take, refl, sym, ap, subst, subst₂, ◌∙◌, Option, None, Some, IfSome, arith}
 use Rattle.std.proofs.lemmas.List.{append-nil, append_assoc, map-append}
 use Rattle.std.proofs.lemmas.List.Concat.{flat_map-cons}
 use Rattle.std.proofs.lemmas.Grind.{flat_map-append}
-use Rattle.std.proofs.Math.Seq.{take-suc}
 use Rattle.std.proofs.Math.Logic.{∥∥₁_map, ∥∥₁_elim, ∥∥₁_prop}
 use Rattle.sqlite.specs.Tree.{Trees}
 use Rattle.sqlite.specs.State.{State, HasCleanDisk, Survives}
 use Rattle.osb_frames.specs.declared.limits.Limits.{Limits}
 use Rattle.osb_replies.specs.Parts.{refused}
-use Rattle.osb_replies.specs.Text.{reply_text}
 use Rattle.osb_catalog.specs.Rules.{Rules}
 use Rattle.osb_orders.specs.Lives.{Lives}
 use Rattle.osb_records.specs.CrashLeaves.{KeepsLives}
@@ -23,9 +20,7 @@ use Rattle.osb_restart.specs.Inside.{Attempted, HasHistory, Extends}
 use Rattle.osb_restart.specs.Restart.{LeavesFound, MayLeaveLives}
 use Rattle.osb_restart.proofs.FoundLemmas.{held_are_found}
 use Rattle.osb_restart.proofs.LivedLemmas.{none_lived, lived_then}
-
-taken_next : {X : Type 0} (xs : List X) (i : ℕ) (x : X) → i < length xs → x ≡ get_or xs i x → take (i + 1) xs ≡ take i xs ++ x ∷ []
-taken_next xs i x low at = ap (λ n. take n xs) (add-one i) ∙ take-suc xs i x low ∙ ap (λ y. take i xs ++ y ∷ []) (sym at)
+use Rattle.osb_broker.proofs.WholeLemmas.{taken_next}
 
 -- the connections of one episode more
 pub came_next : {X Y Z : Type 0} (outer : X → List Y) (inner : Y → Z) (xs : List X) (i : ℕ) (x : X) → i < length xs → x ≡ get_or xs i x → map inner (flat_map outer (take (i + 1) xs)) ≡ map inner (flat_map outer (take i xs)) ++ map inner (outer x)

@@ -1,11 +1,11 @@
 -- Which lives the next run finds.
-use Rattle.std.proofs.Common.{◌≡◌, ◌⊎◌, inl, inr, IsTrue, Result, Ok, Err, OnOk, is_ok, sym, ap, subst, ◌∙◌}
+use Rattle.std.proofs.Common.{◌≡◌, ◌⊎◌, inl, inr, IsTrue, Result, Ok, Err, OnOk, is_ok, sym, subst, ◌∙◌}
 use Rattle.std.proofs.lemmas.Bool.{false≢true}
 use Rattle.std.proofs.Math.Logic.{∥∥₁_elim, ∥∥₁_map}
 use Rattle.sqlite.specs.Tree.{Trees}
 use Rattle.sqlite.specs.State.{State, HasCleanDisk, IsLive, Opens, Survives}
 use Rattle.sqlite_catalog.proofs.ReadLemmas.{lists_once}
-use Rattle.osb_tables.specs.Tables.{no_schema, second_schema}
+use Rattle.osb_tables.specs.Tables.{second_schema}
 use Rattle.osb_tables.specs.declared.schema.Indexes.TheVariants.{Both}
 use Rattle.osb_tables.proofs.SchemaLemmas.{versions_apart, second_is_something}
 use Rattle.osb_orders.specs.Lives.{Lives}

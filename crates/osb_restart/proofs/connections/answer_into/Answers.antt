@@ -6,7 +6,8 @@ use Rattle.osb_replies.specs.Text.{reply_text}
 use Rattle.osb_broker.specs.BrokerState.{lives_of, rules_in, store_of}
 use Rattle.osb_broker.specs.Machine.{fault_reply}
 use Rattle.osb_restart.specs.Inside.{Attempted}
-use Rattle.osb_restart.proofs.AttemptLemmas.{fault_came, nothing_came, request_came, told_here, wrote_text}
+use Rattle.osb_broker.proofs.WholeLemmas.{told_here}
+use Rattle.osb_restart.proofs.AttemptLemmas.{fault_came, nothing_came, request_came, wrote_text}
 use Rattle.osb_restart.proofs.connections.answer_into.Goals as goal
 
 pub returns-in-Whole-clause-attempted : goal.returns-in-Whole-clause-attempted

@@ -1,4 +1,3 @@
-use Rattle.std.proofs.Common.{[], map, vec_items}
 use Rattle.sqlite.specs.Files.{file_state}
 use Rattle.osb_catalog.specs.Rules.{rules_of}
 use Rattle.osb_statements.specs.Steps.{stored}
