@@ -78,56 +78,65 @@ fn has_failed(call: io::Result<usize>) -> bool {
     }
 }
 
+/// Whether the next read gives these bytes.
+fn gives<S: Source>(source: &mut S, bytes: &[u8]) -> bool {
+    let mut buf = [0; 8];
+    matches!(source.read(&mut buf), Ok(count) if buf.get(..count) == Some(bytes))
+}
+
 #[test]
 fn gives_what_the_reader_gives(rt: HostRuntime) {
     let mut source = in_pieces(b"catalog", 3, 0);
-    let mut buf = [0; 8];
-    for (want, count) in [
-        (b"cat".as_slice(), 3),
-        (b"alo", 3),
-        (b"g", 1),
-        (b"", 0),
-        (b"", 0),
-    ] {
-        assert!(rt; matches!(source.read(&mut buf), Ok(n) if n == count));
-        assert_eq!(rt; &buf[..count], want);
+    for bytes in [b"cat".as_slice(), b"alo", b"g", b"", b""] {
+        assert!(rt; gives(&mut source, bytes));
+    }
+}
+
+/// Checks that of three reads the one with the number `bad` fails.
+fn fails_to_read_at(rt: &impl Abort, bad: u64) {
+    let mut source = in_pieces(b"catalog", 2, bad);
+    let mut buf = [0; 2];
+    for call in 1..4 {
+        assert!(rt;
+            has_failed(source.read(&mut buf)) == (call == bad),
+            "call {call} of bad {bad}"
+        );
     }
 }
 
 #[test]
 fn hands_a_failed_read_on(rt: HostRuntime) {
     for bad in 1..4 {
-        let mut source = in_pieces(b"catalog", 2, bad);
-        let mut buf = [0; 2];
-        for call in 1..4 {
-            assert_eq!(rt;
-                has_failed(source.read(&mut buf)),
-                call == bad,
-                "call {call} of bad {bad}"
-            );
-        }
+        fails_to_read_at(&rt, bad);
     }
 }
 
 #[test]
 fn takes_what_the_writer_takes(rt: HostRuntime) -> Result<(), Fail> {
     for (most, want) in [(0, 0), (1, 1), (6, 6), (7, 7), (8, 7)] {
-        assert_eq!(rt; in_pieces(b"", most, 0).write(b"catalog")?, want);
+        assert!(rt;
+            in_pieces(b"", most, 0).write(b"catalog")? == want,
+            "{most}"
+        );
     }
     Ok(())
+}
+
+/// Checks that of three writes the one with the number `bad` fails.
+fn fails_to_write_at(rt: &impl Abort, bad: u64) {
+    let mut sink = in_pieces(b"", 2, bad);
+    for call in 1..4 {
+        assert!(rt;
+            has_failed(sink.write(b"catalog")) == (call == bad),
+            "call {call} of bad {bad}"
+        );
+    }
 }
 
 #[test]
 fn hands_a_failed_write_on(rt: HostRuntime) {
     for bad in 1..4 {
-        let mut sink = in_pieces(b"", 2, bad);
-        for call in 1..4 {
-            assert_eq!(rt;
-                has_failed(sink.write(b"catalog")),
-                call == bad,
-                "call {call} of bad {bad}"
-            );
-        }
+        fails_to_write_at(&rt, bad);
     }
 }
 
@@ -145,9 +154,10 @@ fn passes_bytes_on(rt: HostRuntime) -> Result<(), Fail> {
     let mut sink = Counted::new(Vec::new(rt.alloc()));
     let passed = pass_on_thrice(&mut source, &mut sink);
     let taken = sink.into_inner();
-    assert_eq!(rt; passed?, [4, 3, 0]);
-    assert_eq!(rt; taken.as_slice(), b"catalog".as_slice());
-    assert!(rt; source.into_inner().is_empty());
+    let is_whole = taken.as_slice() == b"catalog".as_slice();
+    drop(taken);
+    assert!(rt; passed? == [4, 3, 0]);
+    assert!(rt; is_whole && source.into_inner().is_empty());
     Ok(())
 }
 
@@ -180,7 +190,7 @@ fn sends_each(rt: &impl Abort, cases: &[Sending]) {
 #[test]
 fn sends_all(rt: HostRuntime) {
     sends_each(&rt, &SENDINGS);
-    assert_eq!(rt; sent(b"", 0, 1), Ok(()));
+    assert!(rt; sent(b"", 0, 1) == Ok(()));
 }
 
 /// What has room is written whole.
@@ -196,8 +206,8 @@ fn write_short<W: Sink>(sink: &mut W, bytes: &[u8]) -> usize
 fn what_has_room_is_written_whole(rt: HostRuntime) -> Result<(), Fail> {
     let mut kept = InMemory::new(Vec::new(rt.alloc()));
     kept.reserve(7)?;
-    assert_eq!(rt; write_short(&mut kept, b"catalog"), 7);
-    assert_eq!(rt; kept.into_bytes().as_slice(), b"catalog".as_slice());
+    let written = write_short(&mut kept, b"catalog");
+    assert!(rt; written == 7 && kept.into_bytes().as_slice() == b"catalog".as_slice());
     Ok(())
 }
 

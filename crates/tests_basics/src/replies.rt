@@ -3,7 +3,7 @@ ghost use Rattle.osb_replies.specs.Parts.{parts, refused};
 
 use osb_frames::Counted;
 use osb_replies::{Body, FixedError, REFUSED, Reply, Status, WriteFault, write_reply};
-use std::alloc::Global;
+use std::alloc::{AllocError, Global};
 use std::io::{self, Write};
 use std::process::Abort;
 use std::test::Fail;
@@ -80,14 +80,21 @@ fn write_on(
     (result, sink.into_inner())
 }
 
+/// Whether the reply is written as `text`, so many bytes at a time.
+fn is_written_as(alloc: Global, reply: &Reply<'_>, most: usize, text: &[u8]) -> bool {
+    let (result, paper) = write_on(alloc, reply, most, Wrong::Never, 0);
+    result == Ok(()) && paper.bytes.as_slice() == text
+}
+
 /// Checks that the reply is written as `text`, whole and in pieces, and that its length is told.
 fn check(rt: &impl Abort, alloc: Global, reply: &Reply<'_>, text: &[u8]) {
     for most in [usize::MAX, 1, 7] {
-        let (result, paper) = write_on(alloc, reply, most, Wrong::Never, 0);
-        assert_eq!(rt; result, Ok(()));
-        assert_eq!(rt; paper.bytes.as_slice(), text);
+        assert!(rt;
+            is_written_as(alloc, reply, most, text),
+            "{most} bytes at a time"
+        );
     }
-    assert_eq!(rt; reply.length(), text.len());
+    assert!(rt; reply.length() == text.len());
 }
 
 #[test]
@@ -150,26 +157,37 @@ fn echoes(rt: HostRuntime) {
     );
 }
 
+/// A status, and how it is written.
+type StatusCase = (Status, u16, &'static str);
+
+const STATUSES: [StatusCase; 13] = [
+    (Status::Ok, 200, "OK"),
+    (Status::Created, 201, "Created"),
+    (Status::Accepted, 202, "Accepted"),
+    (Status::BadRequest, 400, "Bad Request"),
+    (Status::Unauthorized, 401, "Unauthorized"),
+    (Status::NotFound, 404, "Not Found"),
+    (Status::Conflict, 409, "Conflict"),
+    (Status::Gone, 410, "Gone"),
+    (Status::LengthRequired, 411, "Length Required"),
+    (Status::PreconditionFailed, 412, "Precondition Failed"),
+    (Status::PayloadTooLarge, 413, "Payload Too Large"),
+    (Status::UnprocessableEntity, 422, "Unprocessable Entity"),
+    (Status::InternalServerError, 500, "Internal Server Error"),
+];
+
+fn check_statuses(rt: &impl Abort, cases: &[StatusCase]) {
+    for (status, code, phrase) in cases {
+        assert!(rt;
+            status.code().as_u16() == *code && status.phrase() == *phrase,
+            "{code} {phrase}"
+        );
+    }
+}
+
 #[test]
 fn statuses(rt: HostRuntime) {
-    for (status, code, phrase) in [
-        (Status::Ok, 200, "OK"),
-        (Status::Created, 201, "Created"),
-        (Status::Accepted, 202, "Accepted"),
-        (Status::BadRequest, 400, "Bad Request"),
-        (Status::Unauthorized, 401, "Unauthorized"),
-        (Status::NotFound, 404, "Not Found"),
-        (Status::Conflict, 409, "Conflict"),
-        (Status::Gone, 410, "Gone"),
-        (Status::LengthRequired, 411, "Length Required"),
-        (Status::PreconditionFailed, 412, "Precondition Failed"),
-        (Status::PayloadTooLarge, 413, "Payload Too Large"),
-        (Status::UnprocessableEntity, 422, "Unprocessable Entity"),
-        (Status::InternalServerError, 500, "Internal Server Error"),
-    ] {
-        assert_eq!(rt; status.code().as_u16(), code);
-        assert_eq!(rt; status.phrase(), phrase);
-    }
+    check_statuses(&rt, &STATUSES);
 }
 
 /// An error, and the code and the body of its reply.
@@ -177,8 +195,10 @@ type ErrorCase = (FixedError, u16, &'static str);
 
 fn check_errors(rt: &impl Abort, cases: &[ErrorCase]) {
     for (error, code, body) in cases {
-        assert_eq!(rt; error.status().code().as_u16(), *code);
-        assert_eq!(rt; error.body(), body.as_bytes());
+        assert!(rt;
+            error.status().code().as_u16() == *code && error.body() == body.as_bytes(),
+            "{code} {body}"
+        );
     }
 }
 
@@ -303,40 +323,65 @@ fn errors_of_instances(rt: HostRuntime) {
 const ASYNC_REQUIRED: &[u8] =
     b"HTTP/1.1 422 Unprocessable Entity\r\nContent-Type: application/json\r\nContent-Length: 81\r\nX-Broker-API-Request-Identity: r1\r\nConnection: close\r\n\r\n{\"description\":\"The plan needs asynchronous operations.\",\"error\":\"AsyncRequired\"}";
 
-/// A writer that takes seven bytes at a time, and goes wrong at any of its writes.
-#[test]
-fn broken_writers(rt: HostRuntime) {
+/// Whether it is told what a writer took that takes seven bytes at a time, and goes wrong at that write.
+fn tells_what_was_written(alloc: Global, reply: &Reply<'_>, wrong: Wrong, bad: usize) -> bool {
+    let (result, paper) = write_on(alloc, reply, 7, wrong, bad);
+    let written = bad.saturating_sub(1).saturating_mul(7);
+    result == Err(WriteFault { written })
+        && Some(paper.bytes.as_slice()) == ASYNC_REQUIRED.get(..written)
+        && paper.writes == bad
+}
+
+/// The writer goes wrong at any of its writes.
+fn breaks_anywhere(rt: &impl Abort, alloc: Global, wrong: Wrong) {
     let reply = FixedError::AsyncRequired.reply(Some(b"r1"), true);
-    for wrong in [Wrong::Fails, Wrong::TakesNothing] {
-        for bad in 1..ASYNC_REQUIRED.len().div_ceil(7) + 1 {
-            let (result, paper) = write_on(rt.alloc(), &reply, 7, wrong, bad);
-            let written = (bad - 1).saturating_mul(7);
-            assert_eq!(rt; result, Err(WriteFault { written }), "write {bad}");
-            assert_eq!(rt; Some(paper.bytes.as_slice()), ASYNC_REQUIRED.get(..written));
-            assert_eq!(rt; paper.writes, bad);
-        }
+    for bad in 1..=ASYNC_REQUIRED.len().div_ceil(7) {
+        assert!(rt;
+            tells_what_was_written(alloc, &reply, wrong, bad),
+            "write {bad}"
+        );
     }
 }
+
+#[test]
+fn broken_writers(rt: HostRuntime) {
+    breaks_anywhere(&rt, rt.alloc(), Wrong::Fails);
+    breaks_anywhere(&rt, rt.alloc(), Wrong::TakesNothing);
+}
+
+/// Whether the reply has that length, and is written whole in so many writes.
+fn takes_writes(alloc: Global, reply: &Reply<'_>, length: usize, writes: usize) -> bool {
+    let (result, paper) = write_on(alloc, reply, usize::MAX, Wrong::Never, 0);
+    result == Ok(()) && paper.bytes.len() == length && paper.writes == writes
+}
+
+/// A reply with a body of so many bytes.
+fn with_body(alloc: Global, size: usize) -> Result<Reply<'static>, AllocError> {
+    Ok(Reply {
+        status: Status::Ok,
+        body: Body::Built(Vec::from_elem(alloc, b'x', size)?),
+        echo: None,
+        close: false,
+    })
+}
+
+/// The size of a body, the length of its reply, and how many writes that takes.
+const WRITES: [(usize, usize, usize); 4] = [
+    (2, 72, 1),
+    (952, 1024, 1),
+    (953, 1025, 2),
+    (65536, 65610, 2),
+];
 
 /// A reply of up to 1,024 bytes is one write, and a longer one two.
 #[test]
 fn few_writes(rt: HostRuntime) -> Result<(), Fail> {
-    for (size, length, writes) in [
-        (2, 72, 1),
-        (952, 1024, 1),
-        (953, 1025, 2),
-        (65536, 65610, 2),
-    ] {
-        let reply = Reply {
-            status: Status::Ok,
-            body: Body::Built(Vec::from_elem(rt.alloc(), b'x', size)?),
-            echo: None,
-            close: false,
-        };
-        let (result, paper) = write_on(rt.alloc(), &reply, usize::MAX, Wrong::Never, 0);
-        assert_eq!(rt; result, Ok(()));
-        assert_eq!(rt; paper.bytes.len(), length);
-        assert_eq!(rt; paper.writes, writes, "at {length} bytes");
+    let alloc = rt.alloc();
+    for (size, length, writes) in &WRITES {
+        assert!(rt;
+            takes_writes(alloc, &with_body(alloc, *size)?, *length, *writes),
+            "at {length} bytes"
+        );
     }
     Ok(())
 }
@@ -347,19 +392,19 @@ fn long_identity(rt: HostRuntime) -> Result<(), Fail> {
     let identity = Vec::from_elem(rt.alloc(), b'i', 8000)?;
     let mut reply = plain(Status::Ok, b"{}");
     reply.echo = Some(identity.as_slice());
-    let (result, paper) = write_on(rt.alloc(), &reply, usize::MAX, Wrong::Never, 0);
-    assert_eq!(rt; result, Ok(()));
-    assert_eq!(rt; paper.bytes.len(), 8105);
-    assert_eq!(rt; reply.length(), 8105);
-    assert_eq!(rt; paper.writes, 3);
+    assert!(rt; takes_writes(rt.alloc(), &reply, 8105, 3) && reply.length() == 8105);
     Ok(())
+}
+
+/// The body of a text that was built.
+fn built(alloc: Global) -> Result<Body<'static>, AllocError> {
+    let text = format!(in alloc; "{{\"operation\":\"create-{}\"}}", 1)?;
+    Ok(text.into())
 }
 
 #[test]
 fn bodies(rt: HostRuntime) -> Result<(), Fail> {
-    let text = format!(in rt.alloc(); "{{\"operation\":\"create-{}\"}}", 1)?;
-    let body: Body<'_> = text.into();
-    assert_eq!(rt; body.bytes(), b"{\"operation\":\"create-1\"}".as_slice());
-    assert_eq!(rt; Body::EMPTY_OBJECT.bytes(), b"{}".as_slice());
+    assert!(rt; built(rt.alloc())?.bytes() == b"{\"operation\":\"create-1\"}".as_slice());
+    assert!(rt; Body::EMPTY_OBJECT.bytes() == b"{}".as_slice());
     Ok(())
 }

@@ -3,6 +3,7 @@
 
 use osb_frames::{InMemory, Limits, Request, Sink, Step, StopKind, next, next_at_once};
 use std::alloc::{AllocError, Global};
+use std::process::Abort;
 use std::test::Fail;
 
 /// What the first request of the bytes is, where they come in pieces of that size.
@@ -78,9 +79,7 @@ fn a_request_has_its_parts(rt: HostRuntime) {
     let Step::Whole(request, used) = next(buf, false, &Limits::STANDARD) else {
         panic!(rt; "no request");
     };
-    assert_eq!(rt; used, 67);
-    assert!(rt; has_its_parts(&request));
-    assert!(rt; has_its_fields(&request));
+    assert!(rt; used == 67 && has_its_parts(&request) && has_its_fields(&request));
 }
 
 #[test]
@@ -89,18 +88,29 @@ fn the_first_of_repeated_fields_counts(rt: HostRuntime) {
     let Step::Whole(request, _) = next(buf, true, &Limits::STANDARD) else {
         panic!(rt; "no request");
     };
-    assert_eq!(rt; request.field(b"X-a"), Some(b"1".as_slice()));
+    assert!(rt; request.field(b"X-a") == Some(b"1".as_slice()));
+}
+
+/// Whether these bytes may become a request.
+fn wants_more(bytes: &[u8]) -> bool {
+    matches!(next(bytes, false, &Limits::STANDARD), Step::More)
+}
+
+/// Whether no bytes can mend that there is no head.
+fn has_no_head_at_once(bytes: &[u8]) -> bool {
+    matches!(
+        next(bytes, false, &Limits::STANDARD),
+        Step::Stop(StopKind::NoHead)
+    )
 }
 
 #[test]
 fn nothing_and_too_little(rt: HostRuntime) {
-    let limits = &Limits::STANDARD;
-    assert!(rt; matches!(next(b"", true, limits), Step::Ended));
-    assert!(rt; matches!(next(b"", false, limits), Step::More));
-    assert!(rt; matches!(next(b"GET / HT", false, limits), Step::More));
-    assert!(rt; matches!(next(b"\r\n", false, limits), Step::More));
-    let body_missing = b"PUT / HTTP/1.1\r\nHost: b\r\nContent-Length: 2\r\n\r\n1";
-    assert!(rt; matches!(next(body_missing, false, limits), Step::More));
+    assert!(rt; matches!(next(b"", true, &Limits::STANDARD), Step::Ended));
+    assert!(rt; wants_more(b""));
+    assert!(rt; wants_more(b"GET / HT"));
+    assert!(rt; wants_more(b"\r\n"));
+    assert!(rt; wants_more(b"PUT / HTTP/1.1\r\nHost: b\r\nContent-Length: 2\r\n\r\n1"));
 }
 
 #[test]
@@ -111,24 +121,35 @@ fn no_head(rt: HostRuntime) {
     assert!(rt; stops_with(b"GET / HTTP/1.2\r\nHost: b\r\n\r\n", StopKind::NoHead));
     assert!(rt; stops_with(b"GET / HTTP/1.1\r\nHost : b\r\n\r\n", StopKind::NoHead));
     // What no bytes can mend is told before the input ends.
-    assert!(rt;
-        matches!(
-            next(b"\x01", false, &Limits::STANDARD),
-            Step::Stop(StopKind::NoHead)
-        )
-    );
+    assert!(rt; has_no_head_at_once(b"\x01"));
+}
+
+/// Whether a text of that size is a request.
+fn fits(text: &str, size: usize) -> bool {
+    text.len() == size && reads(text.as_bytes(), size)
+}
+
+/// Whether a text has that size, and no head.
+fn is_too_large(text: &str, size: usize) -> bool {
+    text.len() == size && stops_with(text.as_bytes(), StopKind::NoHead)
 }
 
 #[test]
 fn heads_at_their_limit(rt: HostRuntime) -> Result<(), Fail> {
     let alloc = rt.alloc();
     let front = "GET /v2/catalog HTTP/1.1\r\nHost: b\r\nX-Pad: ";
-    let fits = repeated(alloc, front, "a", 8192 - 46, "\r\n\r\n")?;
-    assert_eq!(rt; fits.len(), 8192);
-    assert!(rt; reads(fits.as_bytes(), 8192));
-    let large = repeated(alloc, front, "a", 8193 - 46, "\r\n\r\n")?;
-    assert_eq!(rt; large.len(), 8193);
-    assert!(rt; stops_with(large.as_bytes(), StopKind::NoHead));
+    assert!(rt;
+        fits(
+            repeated(alloc, front, "a", 8192 - 46, "\r\n\r\n")?.as_str(),
+            8192
+        )
+    );
+    assert!(rt;
+        is_too_large(
+            repeated(alloc, front, "a", 8193 - 46, "\r\n\r\n")?.as_str(),
+            8193
+        )
+    );
     Ok(())
 }
 
@@ -136,56 +157,71 @@ fn heads_at_their_limit(rt: HostRuntime) -> Result<(), Fail> {
 fn empty_lines_before_a_head_count(rt: HostRuntime) -> Result<(), Fail> {
     let alloc = rt.alloc();
     let request = "GET / HTTP/1.1\r\nHost: b\r\n\r\n";
-    let fits = repeated(alloc, "\n", "\r\n", 4082, request)?;
-    assert_eq!(rt; fits.len(), 8192);
-    assert!(rt; reads(fits.as_bytes(), 8192));
-    let large = repeated(alloc, "\r\n", "\r\n", 4082, request)?;
-    assert_eq!(rt; large.len(), 8193);
-    assert!(rt; stops_with(large.as_bytes(), StopKind::NoHead));
-    Ok(())
-}
-
-#[test]
-fn field_lines_at_their_limit(rt: HostRuntime) -> Result<(), Fail> {
-    let alloc = rt.alloc();
-    let front = "GET / HTTP/1.1\r\nHost: b\r\n";
-    let fits = repeated(alloc, front, "X: a\r\n", 127, "\r\n")?;
-    assert!(rt; reads(fits.as_bytes(), fits.len()));
-    let many = repeated(alloc, front, "X: a\r\n", 128, "\r\n")?;
-    assert!(rt; stops_with(many.as_bytes(), StopKind::NoHead));
-    // Too many lines are told at the limit of a head or at the end, and not before.
-    assert!(rt; matches!(next(many.as_bytes(), false, &Limits::STANDARD), Step::More));
-    let full = repeated(alloc, front, "X: a\r\n", 1400, "")?;
+    assert!(rt; fits(repeated(alloc, "\n", "\r\n", 4082, request)?.as_str(), 8192));
     assert!(rt;
-        matches!(
-            next(full.as_bytes(), false, &Limits::STANDARD),
-            Step::Stop(StopKind::NoHead)
+        is_too_large(
+            repeated(alloc, "\r\n", "\r\n", 4082, request)?.as_str(),
+            8193
         )
     );
     Ok(())
 }
 
-/// Whether more is asked for of these bytes, by one that waits for a whole head and by one that doesn't.
-fn waits(bytes: &[u8]) -> (bool, bool) {
-    let limits = &Limits::STANDARD;
-    (
-        matches!(next(bytes, false, limits), Step::More),
-        matches!(next_at_once(bytes, false, limits), Step::More),
+/// A head of so many field lines besides its first, and what follows them.
+fn with_lines(alloc: Global, lines: usize, end: &str) -> Result<String, AllocError> {
+    repeated(
+        alloc,
+        "GET / HTTP/1.1\r\nHost: b\r\n",
+        "X: a\r\n",
+        lines,
+        end,
     )
+}
+
+fn is_one_request(text: &str) -> bool {
+    reads(text.as_bytes(), text.len())
+}
+
+/// Too many lines are told at the limit of a head or at the end, and not before.
+fn has_too_many_lines_at_its_end(bytes: &[u8]) -> bool {
+    stops_with(bytes, StopKind::NoHead) && wants_more(bytes)
+}
+
+#[test]
+fn field_lines_at_their_limit(rt: HostRuntime) -> Result<(), Fail> {
+    let alloc = rt.alloc();
+    assert!(rt; is_one_request(with_lines(alloc, 127, "\r\n")?.as_str()));
+    assert!(rt; has_too_many_lines_at_its_end(with_lines(alloc, 128, "\r\n")?.as_bytes()));
+    assert!(rt; has_no_head_at_once(with_lines(alloc, 1400, "")?.as_bytes()));
+    Ok(())
+}
+
+/// Whether these bytes may become a request for one that doesn't wait for a whole head.
+fn wants_more_at_once(bytes: &[u8]) -> bool {
+    matches!(next_at_once(bytes, false, &Limits::STANDARD), Step::More)
+}
+
+fn wants_more_either_way(bytes: &[u8]) -> bool {
+    wants_more(bytes) && wants_more_at_once(bytes)
+}
+
+/// Whether only one that waits for a whole head asks for more.
+fn wants_a_whole_head(bytes: &[u8]) -> bool {
+    wants_more(bytes) && !wants_more_at_once(bytes)
+}
+
+fn wants_no_more(bytes: &[u8]) -> bool {
+    !wants_more(bytes) && !wants_more_at_once(bytes)
 }
 
 /// One line too many ends the hope of a head, as soon as it is there.
 #[test]
 fn too_many_lines_at_once(rt: HostRuntime) -> Result<(), Fail> {
-    let alloc = rt.alloc();
-    let front = "GET / HTTP/1.1\r\nHost: b\r\n";
-    let most = repeated(alloc, front, "X: a\r\n", 127, "")?;
-    assert_eq!(rt; waits(most.as_bytes()), (true, true));
-    let more = repeated(alloc, front, "X: a\r\n", 128, "")?;
-    assert_eq!(rt; waits(more.as_bytes()), (true, false));
-    assert_eq!(rt; waits(b""), (true, true));
-    assert_eq!(rt; waits(b"GET / HT"), (true, true));
-    assert_eq!(rt; waits(b"\x01"), (false, false));
+    assert!(rt; wants_more_either_way(with_lines(rt.alloc(), 127, "")?.as_bytes()));
+    assert!(rt; wants_a_whole_head(with_lines(rt.alloc(), 128, "")?.as_bytes()));
+    assert!(rt;
+        wants_more_either_way(b"") && wants_more_either_way(b"GET / HT") && wants_no_more(b"\x01")
+    );
     Ok(())
 }
 
@@ -245,19 +281,21 @@ fn stops_at_once(alloc: Global, lines: &str, kind: StopKind) -> Result<bool, All
     })
 }
 
+const FAULTS_OF_A_HEAD: [(&str, StopKind); 4] = [
+    ("Content-Length: 1\r\n", StopKind::Host),
+    (
+        "Host: b\r\nTransfer-Encoding: x\r\nContent-Length: 1\r\n",
+        StopKind::Coding,
+    ),
+    ("Host: b\r\nContent-Length: x\r\n", StopKind::Length),
+    ("Host: b\r\nContent-Length: 262145\r\n", StopKind::TooLarge),
+];
+
 /// The faults of a head don't wait for a body.
 #[test]
 fn faults_of_a_head(rt: HostRuntime) -> Result<(), Fail> {
-    for (lines, kind) in [
-        ("Content-Length: 1\r\n", StopKind::Host),
-        (
-            "Host: b\r\nTransfer-Encoding: x\r\nContent-Length: 1\r\n",
-            StopKind::Coding,
-        ),
-        ("Host: b\r\nContent-Length: x\r\n", StopKind::Length),
-        ("Host: b\r\nContent-Length: 262145\r\n", StopKind::TooLarge),
-    ] {
-        assert!(rt; stops_at_once(rt.alloc(), lines, kind)?, "{lines}");
+    for (lines, kind) in &FAULTS_OF_A_HEAD {
+        assert!(rt; stops_at_once(rt.alloc(), *lines, *kind)?, "{lines}");
     }
     Ok(())
 }
@@ -269,30 +307,39 @@ fn length_is(alloc: Global, value: &str, kind: StopKind) -> Result<bool, AllocEr
     Ok(stops_with(text.as_bytes(), kind))
 }
 
+const UNUSABLE_LENGTHS: [&str; 10] = [
+    "",
+    "x",
+    "+1",
+    "-1",
+    "1 1",
+    "0x1",
+    "1,1",
+    "00000000000000000001",
+    "1\r\nContent-Length: 1",
+    "1\r\ncontent-length: 262145",
+];
+
+const LARGE_LENGTHS: [&str; 2] = ["262145", "9999999999999999999"];
+
+const LENGTHS_OF_MORE: [&str; 4] = ["2", "0000000000000000002", "65537", "262144"];
+
+fn lengths_are(
+    rt: &(impl Abort + AllocGlobal),
+    values: &[&str],
+    kind: StopKind,
+) -> Result<(), Fail> {
+    for value in values {
+        assert!(rt; length_is(rt.alloc(), *value, kind)?, "{value}");
+    }
+    Ok(())
+}
+
 #[test]
 fn lengths(rt: HostRuntime) -> Result<(), Fail> {
-    let alloc = rt.alloc();
-    for bad in [
-        "",
-        "x",
-        "+1",
-        "-1",
-        "1 1",
-        "0x1",
-        "1,1",
-        "00000000000000000001",
-    ] {
-        assert!(rt; length_is(alloc, bad, StopKind::Length)?, "{bad}");
-    }
-    for twice in ["1\r\nContent-Length: 1", "1\r\ncontent-length: 262145"] {
-        assert!(rt; length_is(alloc, twice, StopKind::Length)?, "{twice}");
-    }
-    for large in ["262145", "9999999999999999999"] {
-        assert!(rt; length_is(alloc, large, StopKind::TooLarge)?, "{large}");
-    }
-    for cut in ["2", "0000000000000000002", "65537", "262144"] {
-        assert!(rt; length_is(alloc, cut, StopKind::Cut)?, "{cut}");
-    }
+    lengths_are(&rt, &UNUSABLE_LENGTHS, StopKind::Length)?;
+    lengths_are(&rt, &LARGE_LENGTHS, StopKind::TooLarge)?;
+    lengths_are(&rt, &LENGTHS_OF_MORE, StopKind::Cut)?;
     // No byte of a body, and none of the bytes that follow.
     assert!(rt; reads(b"PUT / HTTP/1.0\r\nContent-Length: 0\r\n\r\n", 37));
     Ok(())
@@ -308,24 +355,21 @@ fn sizes(bytes: &[u8]) -> Option<(usize, usize)> {
 
 /// Whether the bytes want more, and are cut where nothing follows.
 fn is_cut(bytes: &[u8]) -> bool {
-    matches!(next(bytes, false, &Limits::STANDARD), Step::More)
+    wants_more(bytes)
         && matches!(
             next(bytes, true, &Limits::STANDARD),
             Step::Stop(StopKind::Cut)
         )
 }
 
+/// The head of a request whose body is as large as may be.
+const LARGEST: &str = "PUT / HTTP/1.1\r\nHost: b\r\nContent-Length: 262144\r\n\r\n";
+
 #[test]
 fn bodies_at_their_limit(rt: HostRuntime) -> Result<(), Fail> {
-    let alloc = rt.alloc();
-    let front = "PUT / HTTP/1.1\r\nHost: b\r\nContent-Length: 262144\r\n\r\n";
-    let fits = repeated(alloc, front, "b", 262_144, "PUT")?;
-    assert_eq!(rt;
-        sizes(fits.as_bytes()),
-        Some((front.len() + 262_144, 262_144))
-    );
-    let cut = repeated(alloc, front, "b", 262_143, "")?;
-    assert!(rt; is_cut(cut.as_bytes()));
+    let whole = sizes(repeated(rt.alloc(), LARGEST, "b", 262_144, "PUT")?.as_bytes());
+    assert!(rt; whole == Some((LARGEST.len() + 262_144, 262_144)));
+    assert!(rt; is_cut(repeated(rt.alloc(), LARGEST, "b", 262_143, "")?.as_bytes()));
     Ok(())
 }
 
@@ -346,35 +390,14 @@ fn smaller_limits_hold(rt: HostRuntime) {
 
 #[test]
 fn closing(rt: HostRuntime) {
-    assert_eq!(rt; closes(b"GET / HTTP/1.1\r\nHost: b\r\n\r\n"), Some(false));
-    assert_eq!(rt;
-        closes(b"GET / HTTP/1.0\r\nConnection: keep-alive\r\n\r\n"),
-        Some(true)
-    );
+    assert!(rt; closes(b"GET / HTTP/1.1\r\nHost: b\r\n\r\n") == Some(false));
+    assert!(rt; closes(b"GET / HTTP/1.0\r\nConnection: keep-alive\r\n\r\n") == Some(true));
     let second = b"GET / HTTP/1.1\r\nHost: b\r\nConnection: a\r\nConnection: close\r\n\r\n";
-    assert_eq!(rt; closes(second), Some(true));
+    assert!(rt; closes(second) == Some(true));
     let case = b"GET / HTTP/1.1\r\nHost: b\r\ncONNECTION: close\r\n\r\n";
-    assert_eq!(rt; closes(case), Some(true));
+    assert!(rt; closes(case) == Some(true));
     let other = b"GET / HTTP/1.1\r\nHost: b\r\nConnections: close\r\n\r\n";
-    assert_eq!(rt; closes(other), Some(false));
-}
-
-#[test]
-fn closing_lines(rt: HostRuntime) -> Result<(), Fail> {
-    for line in [
-        "close",
-        "Close",
-        "CLOSE",
-        "a, close",
-        "close,b",
-        "a ,\t cLose ,b",
-    ] {
-        assert!(rt; closes_by(rt.alloc(), line)?, "{line}");
-    }
-    for line in ["", "closed", "clos", "a close", "keep-alive", "\"close\""] {
-        assert!(rt; !closes_by(rt.alloc(), line)?, "{line}");
-    }
-    Ok(())
+    assert!(rt; closes(other) == Some(false));
 }
 
 /// Whether a request with that Connection line closes.
@@ -383,14 +406,45 @@ fn closes_by(alloc: Global, value: &str) -> Result<bool, AllocError> {
     Ok(closes(text.as_bytes()) == Some(true))
 }
 
+const CLOSING: [&str; 6] = [
+    "close",
+    "Close",
+    "CLOSE",
+    "a, close",
+    "close,b",
+    "a ,\t cLose ,b",
+];
+
+const NOT_CLOSING: [&str; 6] = ["", "closed", "clos", "a close", "keep-alive", "\"close\""];
+
+fn close_by(rt: &(impl Abort + AllocGlobal), lines: &[&str], close: bool) -> Result<(), Fail> {
+    for line in lines {
+        assert!(rt; closes_by(rt.alloc(), *line)? == close, "{line}");
+    }
+    Ok(())
+}
+
+#[test]
+fn closing_lines(rt: HostRuntime) -> Result<(), Fail> {
+    close_by(&rt, &CLOSING, true)?;
+    close_by(&rt, &NOT_CLOSING, false)
+}
+
 #[test]
 fn keeps_what_it_takes(rt: HostRuntime) -> Result<(), Fail> {
-    let alloc = rt.alloc();
-    let mut bytes = Vec::new(alloc);
+    let mut bytes = Vec::new(rt.alloc());
     bytes.extend_from_slice(b"cat")?;
     let mut kept = InMemory::new(bytes);
-    kept.reserve(4)?;
-    assert!(rt; matches!(kept.write(b"alog"), Ok(4)));
-    assert_eq!(rt; kept.into_bytes().as_slice(), b"catalog".as_slice());
+    let took = takes_with_room(&mut kept, b"alog");
+    let bytes = kept.into_bytes();
+    let is_whole = bytes.as_slice() == b"catalog".as_slice();
+    drop(bytes);
+    assert!(rt; took? && is_whole);
     Ok(())
+}
+
+/// Whether all of the bytes are taken, once there is room for them.
+fn takes_with_room(kept: &mut InMemory, bytes: &[u8]) -> Result<bool, AllocError> {
+    kept.reserve(bytes.len())?;
+    Ok(matches!(kept.write(bytes), Ok(count) if count == bytes.len()))
 }

@@ -108,25 +108,35 @@ fn tells_the_first_fault(rt: HostRuntime) {
     assert!(rt; is_fault(rt.alloc(), b"{\"x\":\"\xff\"}", TextFault::NotJson));
 }
 
-#[test]
-fn tells_object_texts(rt: HostRuntime) -> Result<(), Fail> {
-    let alloc = rt.alloc();
-    for text in ["{}", "{\"\":{},\"a\":[1,\"A\"],\"b\":-1}"] {
-        assert!(rt; is_object_text(alloc, text)?, "at {text}");
-    }
-    for text in [
-        "",
-        "[]",
-        "{}\n",
-        "{\"a\": 1}",
-        "{\"b\":2,\"a\":1}",
-        "{\"a\":1,\"a\":1}",
-        "{\"a\":1.5}",
-        "{\"a\":\"\\u0041\"}",
-    ] {
-        assert!(rt; !is_object_text(alloc, text)?, "at {text}");
+/// Texts of objects as they are kept.
+const KEPT_AS_THEY_ARE: [&str; 2] = ["{}", "{\"\":{},\"a\":[1,\"A\"],\"b\":-1}"];
+
+const KEPT_OTHERWISE: [&str; 8] = [
+    "",
+    "[]",
+    "{}\n",
+    "{\"a\": 1}",
+    "{\"b\":2,\"a\":1}",
+    "{\"a\":1,\"a\":1}",
+    "{\"a\":1.5}",
+    "{\"a\":\"\\u0041\"}",
+];
+
+fn are_object_texts(
+    rt: &(impl Abort + AllocGlobal),
+    texts: &[&str],
+    are: bool,
+) -> Result<(), Fail> {
+    for text in texts {
+        assert!(rt; is_object_text(rt.alloc(), *text)? == are, "at {text}");
     }
     Ok(())
+}
+
+#[test]
+fn tells_object_texts(rt: HostRuntime) -> Result<(), Fail> {
+    are_object_texts(&rt, &KEPT_AS_THEY_ARE, true)?;
+    are_object_texts(&rt, &KEPT_OTHERWISE, false)
 }
 
 fn nested(alloc: Global, arrays: usize) -> Result<String, TextFault> {
@@ -141,22 +151,40 @@ fn nested(alloc: Global, arrays: usize) -> Result<String, TextFault> {
     Ok(text)
 }
 
+/// Whether that depth is read, and written as it came.
+fn nests(alloc: Global, arrays: usize) -> Result<bool, TextFault> {
+    let text = nested(alloc, arrays)?;
+    let compact = compacted(alloc, text.as_str())?;
+    Ok(compact.as_str() == text.as_str())
+}
+
+fn is_too_deep(alloc: Global, arrays: usize) -> Result<bool, TextFault> {
+    let text = nested(alloc, arrays)?;
+    Ok(is_fault(alloc, text.as_bytes(), TextFault::NotJson))
+}
+
 #[test]
 fn nests_127_deep(rt: HostRuntime) -> Result<(), Fail> {
-    let alloc = rt.alloc();
-    let deepest = nested(alloc, 126)?;
-    assert_eq!(rt;
-        compacted(alloc, deepest.as_str())?.as_str(),
-        deepest.as_str()
-    );
-    let deeper = nested(alloc, 127)?;
-    let found = read_object(alloc, deeper.as_bytes()).err();
-    assert_eq!(rt; found, Some(TextFault::NotJson));
+    assert!(rt; nests(rt.alloc(), 126)?);
+    assert!(rt; is_too_deep(rt.alloc(), 127)?);
     Ok(())
 }
 
 const EACH_KIND: &str =
     "{\"null\":null,\"flag\":true,\"whole\":18446744073709551615,\"negative\":-1,\"text\":\"é\",\"list\":[1,{\"k\":false},{}],\"object\":{\"k\":null,\"inner\":{\"n\":5}}}";
+
+/// Whether this holds of an object with a member of each kind.
+fn holds_of_each_kind<Holds: Fn(&Object) -> bool>(
+    alloc: Global,
+    holds: Holds,
+) -> Result<bool, TextFault>
+    requires { Holds.IsAlwaysCallable holds }
+{
+    let object = read_object(alloc, EACH_KIND.as_bytes())?;
+    let held = holds(&object);
+    drop(object);
+    Ok(held)
+}
 
 fn has_each_kind(object: &Object) -> bool {
     object.text("text") == Ok(Some("é"))
@@ -168,22 +196,31 @@ fn has_each_kind(object: &Object) -> bool {
 
 #[test]
 fn looks_up_each_kind(rt: HostRuntime) -> Result<(), Fail> {
-    let object = read_object(rt.alloc(), EACH_KIND.as_bytes())?;
-    assert!(rt; has_each_kind(&object));
+    assert!(rt; holds_of_each_kind(rt.alloc(), has_each_kind)?);
     Ok(())
 }
 
-/// The compact text of the object of that name.
-fn inner_text(alloc: Global, object: &Object, name: &str) -> Result<String, Fail> {
-    let inner = object.object(name)?.ok_or("an object")?;
-    Ok(inner.compact(alloc)?)
+/// Whether that is the compact text of the object, where there is one.
+fn is_compact(alloc: Global, object: Option<ObjectRef<'_>>, compact: &str) -> bool {
+    match object {
+        Some(object) => object
+            .compact(alloc)
+            .is_ok_and(|text| text.as_str() == compact),
+        None => false,
+    }
+}
+
+fn compacts_an_inner_object(alloc: Global, object: &Object) -> bool {
+    match object.object("object") {
+        Ok(inner) => is_compact(alloc, inner, "{\"inner\":{\"n\":5},\"k\":null}"),
+        Err(_) => false,
+    }
 }
 
 #[test]
 fn compacts_inner_objects(rt: HostRuntime) -> Result<(), Fail> {
-    let object = read_object(rt.alloc(), EACH_KIND.as_bytes())?;
-    let text = inner_text(rt.alloc(), &object, "object")?;
-    assert_eq!(rt; text.as_str(), "{\"inner\":{\"n\":5},\"k\":null}");
+    let alloc = rt.alloc();
+    assert!(rt; holds_of_each_kind(alloc, |object| compacts_an_inner_object(alloc, object))?);
     Ok(())
 }
 
@@ -196,129 +233,187 @@ fn is_absent(object: &Object, name: &str) -> bool {
         && matches!(object.object(name), Ok(None))
 }
 
+fn are_absent(rt: &impl Abort, object: &Object, names: &[&str]) {
+    for name in names {
+        assert!(rt; is_absent(object, *name), "at {name}");
+    }
+}
+
 #[test]
 fn null_and_absent_members_are_none(rt: HostRuntime) -> Result<(), Fail> {
     let object = read_object(rt.alloc(), EACH_KIND.as_bytes())?;
-    for name in ["null", "absent", "", "Text"] {
-        assert!(rt; is_absent(&object, name), "at {name}");
-    }
+    are_absent(&rt, &object, &["null", "absent", "", "Text"]);
+    drop(object);
     Ok(())
+}
+
+/// Whether the look-up of a member of some kind under that name answers that the kind is wrong,
+/// where the name isn't the kind's.
+fn is_refused(name: &str, kind: &str, fault: Option<TextFault>) -> bool {
+    name == kind || fault == Some(TextFault::WrongKind)
 }
 
 /// Whether each look-up for another kind than that of its name answers that the kind is wrong.
 fn is_of_its_kind_alone(object: &Object, name: &str) -> bool {
-    let wrong = Some(TextFault::WrongKind);
-    (name == "text" || object.text(name).err() == wrong)
-        && (name == "flag" || object.flag(name).err() == wrong)
-        && (name == "whole" || object.whole(name).err() == wrong)
-        && (name == "list" || object.list(name).err() == wrong)
-        && (name == "object" || object.object(name).err() == wrong)
+    is_refused(name, "text", object.text(name).err())
+        && is_refused(name, "flag", object.flag(name).err())
+        && is_refused(name, "whole", object.whole(name).err())
+        && is_refused(name, "list", object.list(name).err())
+        && is_refused(name, "object", object.object(name).err())
+}
+
+fn are_of_their_kinds_alone(rt: &impl Abort, object: &Object, names: &[&str]) {
+    for name in names {
+        assert!(rt; is_of_its_kind_alone(object, *name), "at {name}");
+    }
 }
 
 #[test]
 fn tells_wrong_kinds(rt: HostRuntime) -> Result<(), Fail> {
     let object = read_object(rt.alloc(), EACH_KIND.as_bytes())?;
-    for name in ["flag", "whole", "negative", "text", "list", "object"] {
-        assert!(rt; is_of_its_kind_alone(&object, name), "at {name}");
-    }
+    are_of_their_kinds_alone(
+        &rt,
+        &object,
+        &["flag", "whole", "negative", "text", "list", "object"],
+    );
+    drop(object);
     Ok(())
 }
 
-fn is_each_kind(borrowed: &ObjectRef<'_>) -> bool {
+/// Whether a borrowed object has these of its members.
+fn has_its_members(borrowed: &ObjectRef<'_>) -> bool {
     borrowed.text("text") == Ok(Some("é"))
-        && borrowed.text("flag") == Err(TextFault::WrongKind)
         && borrowed.flag("flag") == Ok(Some(true))
         && borrowed.flag("null") == Ok(None)
-        && borrowed.whole("negative") == Err(TextFault::WrongKind)
         && borrowed.whole("whole") == Ok(Some(18446744073709551615))
+        && member(borrowed.value(), "text").is_some()
+}
+
+fn tells_other_kinds(borrowed: &ObjectRef<'_>) -> bool {
+    borrowed.text("flag") == Err(TextFault::WrongKind)
+        && borrowed.whole("negative") == Err(TextFault::WrongKind)
         && borrowed.list("object").is_err()
         && borrowed.object("list").is_err()
-        && member(borrowed.value(), "text").is_some()
 }
 
 #[test]
 fn looks_into_borrowed_objects(rt: HostRuntime) -> Result<(), Fail> {
-    let object = read_object(rt.alloc(), EACH_KIND.as_bytes())?;
-    assert!(rt; is_each_kind(&object.as_object_ref()));
+    assert!(rt;
+        holds_of_each_kind(
+            rt.alloc(),
+            |object| has_its_members(&object.as_object_ref())
+        )?
+    );
+    assert!(rt;
+        holds_of_each_kind(
+            rt.alloc(),
+            |object| tells_other_kinds(&object.as_object_ref())
+        )?
+    );
     Ok(())
 }
 
-/// How many items the list of that name has.
-fn items_of(object: &ObjectRef<'_>, name: &str) -> Result<usize, Fail> {
-    let list = object.list(name)?.ok_or("a list")?;
-    Ok(list.len())
+fn has_three_items(object: &Object) -> bool {
+    match object.as_object_ref().list("list") {
+        Ok(Some(list)) => list.len() == 3,
+        _ => false,
+    }
 }
 
 #[test]
 fn looks_into_lists(rt: HostRuntime) -> Result<(), Fail> {
-    let object = read_object(rt.alloc(), EACH_KIND.as_bytes())?;
-    let items = items_of(&object.as_object_ref(), "list")?;
-    assert_eq!(rt; items, 3);
+    assert!(rt; holds_of_each_kind(rt.alloc(), has_three_items)?);
     Ok(())
 }
 
 /// The object of that name in another.
-fn inner<'a>(object: &ObjectRef<'a>, name: &str) -> Result<ObjectRef<'a>, Fail> {
-    Ok(object.object(name)?.ok_or("an object")?)
+fn inner<'a>(object: &ObjectRef<'a>, name: &str) -> Option<ObjectRef<'a>> {
+    object.object(name).ok()?
 }
 
 /// The number in an object of an object of this one.
-fn innermost_number(object: &ObjectRef<'_>) -> Result<Option<u64>, Fail> {
+fn innermost_number(object: &ObjectRef<'_>) -> Option<u64> {
     let outer = inner(object, "object")?;
     let innermost = inner(&outer, "inner")?;
-    Ok(innermost.whole("n")?)
+    innermost.whole("n").ok()?
+}
+
+fn has_inner_objects(object: &Object) -> bool {
+    innermost_number(&object.as_object_ref()) == Some(5)
+        && member(object.value(), "object").is_some()
 }
 
 #[test]
 fn looks_into_inner_objects(rt: HostRuntime) -> Result<(), Fail> {
-    let object = read_object(rt.alloc(), EACH_KIND.as_bytes())?;
-    let number = innermost_number(&object.as_object_ref())?;
-    assert_eq!(rt; number, Some(5));
-    assert!(rt; member(object.value(), "object").is_some());
+    assert!(rt; holds_of_each_kind(rt.alloc(), has_inner_objects)?);
     Ok(())
 }
 
 /// Whether an object and what is borrowed of it have one compact text.
-fn is_compacted_alike(alloc: Global, object: &Object) -> Result<bool, TextFault> {
-    let compact = object.compact(alloc)?;
-    let borrowed = object.as_object_ref().compact(alloc)?;
-    Ok(borrowed.as_str() == compact.as_str())
+fn is_compacted_alike(alloc: Global, object: &Object) -> bool {
+    match object.compact(alloc) {
+        Ok(compact) => is_compact(alloc, Some(object.as_object_ref()), compact.as_str()),
+        Err(_) => false,
+    }
 }
 
 #[test]
 fn compacts_borrowed_objects(rt: HostRuntime) -> Result<(), Fail> {
-    let object = read_object(rt.alloc(), EACH_KIND.as_bytes())?;
-    assert!(rt; is_compacted_alike(rt.alloc(), &object)?);
+    let alloc = rt.alloc();
+    assert!(rt; holds_of_each_kind(alloc, |object| is_compacted_alike(alloc, object))?);
     Ok(())
+}
+
+fn is_false(object: Option<ObjectRef<'_>>, name: &str) -> bool {
+    match object {
+        Some(object) => object.flag(name) == Ok(Some(false)),
+        None => false,
+    }
+}
+
+/// Whether the list holds no object, an object with a flag, and an empty one.
+fn has_its_items(alloc: Global, object: &Object) -> bool {
+    match object.list("list") {
+        Ok(Some([number, first, last])) => {
+            ObjectRef::of(number).is_none()
+                && is_false(ObjectRef::of(first), "k")
+                && is_compact(alloc, ObjectRef::of(last), "{}")
+        }
+        _ => false,
+    }
 }
 
 #[test]
 fn reads_items(rt: HostRuntime) -> Result<(), Fail> {
     let alloc = rt.alloc();
-    let object = read_object(alloc, EACH_KIND.as_bytes())?;
-    let list = object.list("list")?.ok_or("a list")?;
-    let [number, first, last] = list else {
-        return Err("three items".into());
-    };
-    assert!(rt; ObjectRef::of(number).is_none());
-    let first = ObjectRef::of(first).ok_or("an object")?;
-    assert_eq!(rt; first.flag("k"), Ok(Some(false)));
-    let last = ObjectRef::of(last).ok_or("an object")?;
-    assert_eq!(rt; last.compact(alloc)?.as_str(), "{}");
+    assert!(rt; holds_of_each_kind(alloc, |object| has_its_items(alloc, object))?);
     Ok(())
+}
+
+/// Whether the value of the list is told whole, and has items but no members.
+fn reads_a_list(alloc: Global, object: &Object) -> bool {
+    match member(object.value(), "list") {
+        Some(list) => {
+            compact_text(alloc, list).is_ok_and(|text| text.as_str() == "[1,{\"k\":false},{}]")
+                && items(list).is_some_and(|items| items.len() == 3)
+                && member(list, "k").is_none()
+        }
+        None => false,
+    }
+}
+
+/// Whether the value of an object has no items, and no members that are null or absent.
+fn reads_an_object(object: &Object) -> bool {
+    items(object.value()).is_none()
+        && member(object.value(), "null").is_none()
+        && member(object.value(), "absent").is_none()
 }
 
 #[test]
 fn reads_values(rt: HostRuntime) -> Result<(), Fail> {
     let alloc = rt.alloc();
-    let object = read_object(alloc, EACH_KIND.as_bytes())?;
-    let list = member(object.value(), "list").ok_or("a list")?;
-    assert_eq!(rt; compact_text(alloc, list)?.as_str(), "[1,{\"k\":false},{}]");
-    assert_eq!(rt; items(list).ok_or("items")?.len(), 3);
-    assert!(rt; items(object.value()).is_none());
-    assert!(rt; member(object.value(), "null").is_none());
-    assert!(rt; member(object.value(), "absent").is_none());
-    assert!(rt; member(list, "k").is_none());
+    assert!(rt; holds_of_each_kind(alloc, |object| reads_a_list(alloc, object))?);
+    assert!(rt; holds_of_each_kind(alloc, reads_an_object)?);
     Ok(())
 }
 
@@ -331,65 +426,90 @@ fn two_pieces(alloc: Global) -> Result<Text, AllocError> {
 }
 
 fn is_the_same(text: &Text, other: &Text) -> bool {
-    text == other && text.as_str() == "éa" && text.len() == 3
+    text == other && text.as_str() == "éa" && text.len() == 3 && !other.is_empty()
+}
+
+/// Whether a text is equal to a copy of it.
+fn is_copied(text: &Text) -> Result<bool, AllocError> {
+    let copy = text.clone()?;
+    Ok(is_the_same(text, &copy))
 }
 
 #[test]
 fn keeps_texts(rt: HostRuntime) -> Result<(), Fail> {
-    let text = two_pieces(rt.alloc())?;
-    let copy = text.clone()?;
-    assert!(rt; is_the_same(&text, &copy));
-    assert_eq!(rt; String::from(text).as_str(), "éa");
-    assert!(rt; Text::new(rt.alloc()).is_empty() && !copy.is_empty());
+    assert!(rt; is_copied(&two_pieces(rt.alloc())?)?);
+    assert!(rt; String::from(two_pieces(rt.alloc())?).as_str() == "éa");
+    assert!(rt; Text::new(rt.alloc()).is_empty());
     Ok(())
 }
 
-/// Whether the text stands in that order to another.
-fn stands(alloc: Global, text: &Text, other: &str, order: Ordering) -> Result<bool, AllocError> {
-    let other = Text::from_str(alloc, other)?;
+/// Two texts, and how the first stands to the second.
+const ORDERED: [(&str, &str, Ordering); 5] = [
+    ("", "a", Ordering::Less),
+    ("a", "a", Ordering::Equal),
+    ("aa", "b", Ordering::Less),
+    ("a", "B", Ordering::Greater),
+    ("z", "é", Ordering::Less),
+];
+
+fn is_ordered(text: &Text, other: &Text, order: Ordering) -> bool {
     let is_equal = order == Ordering::Equal;
-    Ok(
-        text.cmp(&other) == order
-            && text.partial_cmp(&other) == Some(order)
-            && (*text == other) == is_equal,
-    )
+    text.cmp(other) == order
+        && text.partial_cmp(other) == Some(order)
+        && (text == other) == is_equal
+}
+
+fn stands(alloc: Global, text: &str, other: &str, order: Ordering) -> Result<bool, AllocError> {
+    let text = Text::from_str(alloc, text)?;
+    let other = Text::from_str(alloc, other)?;
+    Ok(is_ordered(&text, &other, order))
 }
 
 #[test]
 fn orders_texts(rt: HostRuntime) -> Result<(), Fail> {
-    for (a, b, order) in [
-        ("", "a", Ordering::Less),
-        ("a", "a", Ordering::Equal),
-        ("aa", "b", Ordering::Less),
-        ("a", "B", Ordering::Greater),
-        ("z", "é", Ordering::Less),
-    ] {
-        let text = Text::from_str(rt.alloc(), a)?;
-        assert!(rt; stands(rt.alloc(), &text, b, order)?, "at {a}, {b}");
+    for (a, b, order) in &ORDERED {
+        assert!(rt; stands(rt.alloc(), *a, *b, *order)?, "at {a}, {b}");
     }
     Ok(())
 }
 
+const IDS: [&str; 6] = ["a", " ", "a/b", "~", "\u{a0}", "é😀"];
+
+const WITH_CONTROLS: [&str; 6] = ["\0", "a\u{1f}", "\u{7f}b", "\u{80}", "c\u{9f}", "\n"];
+
+fn are_ids(rt: &impl Abort, texts: &[&str]) {
+    for text in texts {
+        assert!(rt; is_id(*text), "at {text}");
+    }
+}
+
+fn have_controls(rt: &impl Abort, texts: &[&str]) {
+    for text in texts {
+        assert!(rt; !is_id(*text) && !has_no_controls(*text), "at {text}");
+    }
+}
+
+/// So many letters of two bytes each, and what follows them.
+fn long_text(alloc: Global, letters: usize, end: &str) -> Result<String, AllocError> {
+    let mut text = String::new(alloc);
+    for _ in 0..letters {
+        text.push_str("é")?;
+    }
+    text.push_str(end)?;
+    Ok(text)
+}
+
+fn is_too_long(text: &str) -> bool {
+    !is_id(text) && has_no_controls(text)
+}
+
 #[test]
 fn tells_ids(rt: HostRuntime) -> Result<(), Fail> {
-    let alloc = rt.alloc();
-    for text in ["a", " ", "a/b", "~", "\u{a0}", "é😀"] {
-        assert!(rt; is_id(text), "at {text}");
-    }
-    assert!(rt; !is_id(""));
-    for text in ["\0", "a\u{1f}", "\u{7f}b", "\u{80}", "c\u{9f}", "\n"] {
-        assert!(rt; !is_id(text));
-        assert!(rt; !has_no_controls(text));
-    }
-    assert!(rt; has_no_controls(""));
-    let mut long = String::new(alloc);
-    for _ in 0..128 {
-        long.push_str("é")?;
-    }
-    assert!(rt; is_id(long.as_str()));
-    long.push_str("a")?;
-    assert!(rt; !is_id(long.as_str()));
-    assert!(rt; has_no_controls(long.as_str()));
+    are_ids(&rt, &IDS);
+    have_controls(&rt, &WITH_CONTROLS);
+    assert!(rt; !is_id("") && has_no_controls(""));
+    assert!(rt; is_id(long_text(rt.alloc(), 128, "")?.as_str()));
+    assert!(rt; is_too_long(long_text(rt.alloc(), 128, "a")?.as_str()));
     Ok(())
 }
 

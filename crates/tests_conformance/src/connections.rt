@@ -159,8 +159,9 @@ fn willing(alloc: Global) -> Writer {
 
 fn is_no_request(alloc: Global, settings: &Settings, bytes: &[u8]) -> Result<bool, Fail> {
     let mut broker = new_broker(alloc, settings, 1)?;
-    let output = output_of(alloc, &mut broker, bytes, 100_000)?;
-    Ok(output.as_slice() == NO_HEAD)
+    let output = output_of(alloc, &mut broker, bytes, 100_000);
+    drop(broker);
+    Ok(output?.as_slice() == NO_HEAD)
 }
 
 /// Whether no beginning of a request is one, however long it is.
@@ -176,7 +177,9 @@ fn are_no_requests(alloc: Global, settings: &Settings) -> Result<bool, Fail> {
 #[test]
 fn no_beginning_of_a_request_is_one(rt: HostRuntime) -> Result<(), Fail> {
     let settings = built_in(rt.alloc())?;
-    assert!(rt; are_no_requests(rt.alloc(), &settings)?);
+    let are_none = are_no_requests(rt.alloc(), &settings);
+    drop(settings);
+    assert!(rt; are_none?);
     Ok(())
 }
 
@@ -211,7 +214,9 @@ fn answers_before_a_failure(
         reads_before_failure: bytes.len(),
         failures: 0,
     };
-    ends(alloc, &mut broker, (reader, willing(alloc)), Ok(()), text)
+    let answers = ends(alloc, &mut broker, (reader, willing(alloc)), Ok(()), text);
+    drop(broker);
+    answers
 }
 
 /// The same of a request, and of a byte with which no head begins.
@@ -225,12 +230,27 @@ fn answers_once_it_can(alloc: Global, settings: &Settings) -> Result<bool, Fail>
 #[test]
 fn nothing_is_read_once_the_answer_stands(rt: HostRuntime) -> Result<(), Fail> {
     let settings = built_in(rt.alloc())?;
-    assert!(rt; answers_once_it_can(rt.alloc(), &settings)?);
+    let answers = answers_once_it_can(rt.alloc(), &settings);
+    drop(settings);
+    assert!(rt; answers?);
     Ok(())
 }
 
 /// How many bytes a read gives, or a write takes, before one that fails.
 const PIECE: usize = 7;
+
+/// Whether a broker answers this text before its reader fails, and has the instance then or not.
+fn leaves_an_instance(
+    alloc: Global,
+    broker: &mut Broker<'_, MemStore>,
+    reader: Reader<'_>,
+    text: &[u8],
+    has_one: bool,
+) -> Result<bool, Fail> {
+    let fault = Err(ServeFault::Read);
+    let is_cut = ends(alloc, broker, (reader, willing(alloc)), fault, text)?;
+    Ok(is_cut && is_known(alloc, broker)? == has_one)
+}
 
 /// Whether a broker that reads so often answers the requests that it has read whole, and keeps what
 /// its replies say.
@@ -253,9 +273,9 @@ fn leaves_whole_replies(
     } else {
         b"".as_slice()
     };
-    let fault = Err(ServeFault::Read);
-    let is_cut = ends(alloc, &mut broker, (reader, willing(alloc)), fault, text)?;
-    Ok(is_cut && is_known(alloc, &mut broker)? == first_is_whole)
+    let leaves = leaves_an_instance(alloc, &mut broker, reader, text, first_is_whole);
+    drop(broker);
+    leaves
 }
 
 /// The same for each number of reads that doesn't get both requests.
@@ -273,8 +293,21 @@ fn each_leaves_whole_replies(alloc: Global, settings: &Settings) -> Result<bool,
 #[test]
 fn a_read_that_fails_leaves_whole_replies(rt: HostRuntime) -> Result<(), Fail> {
     let settings = built_in(rt.alloc())?;
-    assert!(rt; each_leaves_whole_replies(rt.alloc(), &settings)?);
+    let leaves = each_leaves_whole_replies(rt.alloc(), &settings);
+    drop(settings);
+    assert!(rt; leaves?);
     Ok(())
+}
+
+/// Whether a broker has written this text once its writer fails, and has the first request's instance.
+fn leaves_the_first(
+    alloc: Global,
+    broker: &mut Broker<'_, MemStore>,
+    connection: (Reader<'_>, Writer),
+    text: &[u8],
+) -> Result<bool, Fail> {
+    let is_cut = ends(alloc, broker, connection, Err(ServeFault::Write), text)?;
+    Ok(is_cut && is_known(alloc, broker)?)
 }
 
 /// Whether a broker whose writes end after so many has written the beginning of this text, and
@@ -293,9 +326,9 @@ fn leaves_a_prefix(
         reads_before_failure: usize::MAX,
         failures: 0,
     };
-    let fault = Err(ServeFault::Write);
-    let is_cut = ends(alloc, &mut broker, (reader, writer), fault, text)?;
-    Ok(is_cut && is_known(alloc, &mut broker)?)
+    let leaves = leaves_the_first(alloc, &mut broker, (reader, writer), text);
+    drop(broker);
+    leaves
 }
 
 /// The same for both requests, and a writer that ends so.
@@ -336,7 +369,9 @@ fn each_is_cut(alloc: Global, settings: &Settings) -> Result<bool, Fail> {
 #[test]
 fn a_write_that_fails_leaves_a_prefix(rt: HostRuntime) -> Result<(), Fail> {
     let settings = built_in(rt.alloc())?;
-    assert!(rt; each_is_cut(rt.alloc(), &settings)?);
+    let is_cut = each_is_cut(rt.alloc(), &settings);
+    drop(settings);
+    assert!(rt; is_cut?);
     Ok(())
 }
 
@@ -350,16 +385,23 @@ fn goes_out_in_one_write(alloc: Global, settings: &Settings) -> Result<bool, Fai
         failures: 0,
     };
     let writer = Writer {
+        taken: Vec::new(alloc),
+        piece: usize::MAX,
         writes_before_last: 1,
-        ..willing(alloc)
+        last: Last::Fails,
+        failures: 0,
     };
-    ends(alloc, &mut broker, (reader, writer), Ok(()), CATALOG_TEXT)
+    let goes_out = ends(alloc, &mut broker, (reader, writer), Ok(()), CATALOG_TEXT);
+    drop(broker);
+    goes_out
 }
 
 #[test]
 fn a_reply_goes_out_in_one_write(rt: HostRuntime) -> Result<(), Fail> {
     let settings = built_in(rt.alloc())?;
-    assert!(rt; goes_out_in_one_write(rt.alloc(), &settings)?);
+    let goes_out = goes_out_in_one_write(rt.alloc(), &settings);
+    drop(settings);
+    assert!(rt; goes_out?);
     Ok(())
 }
 
@@ -407,13 +449,16 @@ fn keeps_to_its_limits(alloc: Global, settings: &Settings) -> Result<bool, Fail>
         fields: 2,
         body: 3,
     };
-    let text = output_within(alloc, &mut broker, &limits, AT_A_LIMIT_AND_OVER_ONE)?;
-    Ok(is_not_found_and_too_large(text.as_slice()))
+    let text = output_within(alloc, &mut broker, &limits, AT_A_LIMIT_AND_OVER_ONE);
+    drop(broker);
+    Ok(is_not_found_and_too_large(text?.as_slice()))
 }
 
 #[test]
 fn smaller_buffers_keep_to_their_limits(rt: HostRuntime) -> Result<(), Fail> {
     let settings = built_in(rt.alloc())?;
-    assert!(rt; keeps_to_its_limits(rt.alloc(), &settings)?);
+    let keeps = keeps_to_its_limits(rt.alloc(), &settings);
+    drop(settings);
+    assert!(rt; keeps?);
     Ok(())
 }

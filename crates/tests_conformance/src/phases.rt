@@ -14,7 +14,7 @@ use osb_catalog::Settings;
 use osb_records::open_memory;
 use std::alloc::Global;
 use std::test::Fail;
-use tests_support::catalogs::built_in;
+use tests_support::catalogs::{built_in, settings_with};
 use tests_support::exchange::Exchange;
 use tests_support::serving::after_all;
 
@@ -122,6 +122,14 @@ fn in_phases(alloc: Global, settings: &Settings, phases: &[Phase]) -> Result<(),
     in_phases_over(alloc, over, phases)
 }
 
+/// The same over the built-in settings with one text in the place of another.
+fn in_phases_with(alloc: Global, from: &str, to: &str, phases: &[Phase]) -> Result<(), Fail> {
+    let settings = settings_with(alloc, from, to)?;
+    let went = in_phases(alloc, &settings, phases);
+    drop(settings);
+    went
+}
+
 /// The same of one phase, over the built-in settings.
 fn each_in(
     alloc: Global,
@@ -130,5 +138,7 @@ fn each_in(
     changes: &'static [Change],
 ) -> Result<(), Fail> {
     let settings = built_in(alloc)?;
-    in_phases(alloc, &settings, &[(before, asks, changes)])
+    let went = in_phases(alloc, &settings, &[(before, asks, changes)]);
+    drop(settings);
+    went
 }

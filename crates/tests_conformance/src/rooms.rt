@@ -51,18 +51,27 @@ const CONNECTIONS: &[&[u8]] = &[PUT_I, b"", PUT_I, b"\r\n"];
 const TEXTS: &[&[u8]] = &[CREATED_LAST, b"", KNOWN_LAST, NO_HEAD];
 
 /// Whether what these connections leave is there for one that comes after.
-fn leaves_what_was_made(alloc: Global, settings: &Settings) -> Result<bool, Fail> {
-    let mut broker = new_broker(alloc, settings, 1)?;
+fn leaves_what_was_made(alloc: Global, broker: &mut Broker<'_, MemStore>) -> Result<bool, Fail> {
     Ok(
-        writes(alloc, &mut broker, CONNECTIONS, TEXTS)?
-            && writes(alloc, &mut broker, &[PUT_I], &[KNOWN_LAST])?,
+        writes(alloc, broker, CONNECTIONS, TEXTS)?
+            && writes(alloc, broker, &[PUT_I], &[KNOWN_LAST])?,
     )
+}
+
+/// The same of a new broker.
+fn new_one_leaves_what_was_made(alloc: Global, settings: &Settings) -> Result<bool, Fail> {
+    let mut broker = new_broker(alloc, settings, 1)?;
+    let leaves = leaves_what_was_made(alloc, &mut broker);
+    drop(broker);
+    leaves
 }
 
 #[test]
 fn one_connection_after_another(rt: HostRuntime) -> Result<(), Fail> {
     let settings = built_in(rt.alloc())?;
-    assert!(rt; leaves_what_was_made(rt.alloc(), &settings)?);
+    let leaves = new_one_leaves_what_was_made(rt.alloc(), &settings);
+    drop(settings);
+    assert!(rt; leaves?);
     Ok(())
 }
 
@@ -144,12 +153,16 @@ fn new_one_waits_for_room(alloc: Global, settings: &Settings) -> Result<bool, Fa
         inner: InMemory::new(Vec::new(alloc)),
         full: true,
     };
-    waits_for_room(&mut broker, &mut room)
+    let waits = waits_for_room(&mut broker, &mut room);
+    drop(broker);
+    waits
 }
 
 #[test]
 fn without_room_nothing_is_changed(rt: HostRuntime) -> Result<(), Fail> {
     let settings = built_in(rt.alloc())?;
-    assert!(rt; new_one_waits_for_room(rt.alloc(), &settings)?);
+    let waits = new_one_waits_for_room(rt.alloc(), &settings);
+    drop(settings);
+    assert!(rt; waits?);
     Ok(())
 }

@@ -139,7 +139,9 @@ fn stands_for(
     orders: &[&str],
 ) -> Result<(), Fail> {
     let mut records = standing_after(alloc, settings, about.ask, exchanges, standings)?;
-    has_orders(alloc, &mut records, about.instance, orders)
+    let has_orders = has_orders(alloc, &mut records, about.instance, orders);
+    drop(records);
+    has_orders
 }
 
 const I: About = About {
@@ -167,7 +169,9 @@ fn stands_of(
     orders: &[&str],
 ) -> Result<(), Fail> {
     let settings = built_in(alloc)?;
-    stands_for(alloc, &settings, about, exchanges, standings, orders)
+    let stands = stands_for(alloc, &settings, about, exchanges, standings, orders);
+    drop(settings);
+    stands
 }
 
 /// The same of `i`.

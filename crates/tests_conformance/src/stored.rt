@@ -1,5 +1,7 @@
 //! What the tables hold: the rows after a conversation, and what no row may be.
 
+use osb_catalog::Settings;
+use osb_records::open_memory;
 use sqlite::{Connection, Constraint, Error, ErrorCode, MemStore, Row};
 use std::alloc::Global;
 use std::test::Fail;
@@ -7,7 +9,7 @@ use tests_support::asks::{ASYNC, CREATE_1, SUCCEEDED, TO_ASYNC, UPDATE_TO_1};
 use tests_support::catalogs::built_in;
 use tests_support::exchange::Exchange;
 use tests_support::replies::*;
-use tests_support::serving::{goes_on, new_broker};
+use tests_support::serving::after_all;
 
 const FAILED: &str = r#"{"state":"failed","description":"no disk"}"#;
 
@@ -23,7 +25,7 @@ const SYNC_WITH_CONTEXT: &str =
     r#"{"service_id":"svc","plan_id":"p-sync","organization_guid":"o","space_guid":"s","context":{"p":1}}"#;
 
 /// Orders of each kind and in each state leave instances and bindings in each phase.
-const EACH_PHASE: [Exchange; 23] = [
+static EACH_PHASE: [Exchange; 23] = [
     (
         "PUT /v2/service_instances/a?accepts_incomplete=true",
         ASYNC,
@@ -128,7 +130,7 @@ const EACH_PHASE: [Exchange; 23] = [
 /// cells.
 type Table = (&'static str, &'static str, &'static [&'static str]);
 
-const TABLES: [Table; 5] = [
+static TABLES: [Table; 5] = [
     ("SELECT version FROM format", "n", &["2"]),
     (
         "SELECT instance_id, seq, kind, binding_id, service_id, plan_id, place, spot, params, maint, state, note, credentials FROM orders ORDER BY instance_id, seq",
@@ -204,12 +206,18 @@ const TABLES: [Table; 5] = [
     ),
 ];
 
+/// The database after the conversation over these settings.
+fn database_over(alloc: Global, settings: &Settings) -> Result<Connection<MemStore>, Fail> {
+    let records = after_all(alloc, settings, open_memory(alloc)?, &EACH_PHASE)?;
+    Ok(records.into_connection())
+}
+
 /// The database after the conversation.
 fn database(alloc: Global) -> Result<Connection<MemStore>, Fail> {
     let settings = built_in(alloc)?;
-    let mut broker = new_broker(alloc, &settings, 1)?;
-    goes_on(alloc, &mut broker, &EACH_PHASE)?;
-    Ok(broker.into_records().into_connection())
+    let database = database_over(alloc, &settings);
+    drop(settings);
+    database
 }
 
 /// All rows of a query.
@@ -242,21 +250,34 @@ fn line_of(alloc: Global, row: &Row, kinds: &str) -> Result<String, Error> {
     Ok(line)
 }
 
-/// Fails where a query has other rows.
-fn has_rows(alloc: Global, conn: &mut Connection<MemStore>, table: &Table) -> Result<(), Fail> {
-    let (query, kinds, lines) = *table;
-    let rows = rows_of(conn, query)?;
+/// Fails where this isn't that row.
+fn is_row(alloc: Global, row: &Row, kinds: &str, line: &str) -> Result<(), Fail> {
+    let found = line_of(alloc, row, kinds)?;
+    if found.as_str() == line {
+        return Ok(());
+    }
+    let told = format!(in alloc; "{found}, not {line}")?;
+    Err(Fail::from(told))
+}
+
+/// Fails where these are other rows.
+fn are_rows(alloc: Global, rows: &[Row], kinds: &str, lines: &[&str]) -> Result<(), Fail> {
     if rows.len() != lines.len() {
         return Err("another number of rows")?;
     }
     for (row, line) in rows.iter().zip(lines) {
-        let found = line_of(alloc, row, kinds)?;
-        if found.as_str() != *line {
-            let told = format!(in alloc; "{found}, not {line}")?;
-            return Err(Fail::from(told));
-        }
+        is_row(alloc, row, kinds, line)?;
     }
     Ok(())
+}
+
+/// Fails where a query has other rows.
+fn has_rows(alloc: Global, conn: &mut Connection<MemStore>, table: &Table) -> Result<(), Fail> {
+    let (query, kinds, lines) = *table;
+    let rows = rows_of(conn, query)?;
+    let same = are_rows(alloc, rows.as_slice(), kinds, lines);
+    drop(rows);
+    same
 }
 
 /// Fails where a query of the tables has other rows.
@@ -270,10 +291,12 @@ fn has_all_rows(alloc: Global, conn: &mut Connection<MemStore>) -> Result<(), Fa
 #[test]
 fn each_phase(rt: HostRuntime) -> Result<(), Fail> {
     let mut conn = database(rt.alloc())?;
-    has_all_rows(rt.alloc(), &mut conn)
+    let has_all_rows = has_all_rows(rt.alloc(), &mut conn);
+    drop(conn);
+    has_all_rows
 }
 
-const COLUMNS: [(&str, &str); 36] = [
+static COLUMNS: [(&str, &str); 36] = [
     ("format", "version"),
     ("orders", "instance_id"),
     ("orders", "seq"),
@@ -313,7 +336,7 @@ const COLUMNS: [(&str, &str); 36] = [
 ];
 
 /// Statements that break a key or put a text where a number belongs, and what refuses them.
-const REFUSED: [(&str, Constraint); 11] = [
+static REFUSED: [(&str, Constraint); 11] = [
     (
         "INSERT INTO orders SELECT * FROM orders WHERE instance_id = 'a'",
         Constraint::Unique,
@@ -354,19 +377,29 @@ fn is_refused(
     }
 }
 
+/// Fails where this column may be empty.
+fn refuses_null(
+    alloc: Global,
+    conn: &mut Connection<MemStore>,
+    table: &str,
+    column: &str,
+) -> Result<(), Fail> {
+    let statement = format!(in alloc; "UPDATE {table} SET {column} = NULL")?;
+    is_refused(conn, statement.as_str(), Constraint::NotNull)
+}
+
 /// Fails where a column may be empty.
 fn refuses_nulls(alloc: Global, conn: &mut Connection<MemStore>) -> Result<(), Fail> {
-    for (table, column) in COLUMNS {
-        let statement = format!(in alloc; "UPDATE {table} SET {column} = NULL")?;
-        is_refused(conn, statement.as_str(), Constraint::NotNull)?;
+    for (table, column) in &COLUMNS {
+        refuses_null(alloc, conn, *table, *column)?;
     }
     Ok(())
 }
 
 /// Fails where one of the statements is carried out.
 fn refuses_each(conn: &mut Connection<MemStore>) -> Result<(), Fail> {
-    for (statement, broken) in REFUSED {
-        is_refused(conn, statement, broken)?;
+    for (statement, broken) in &REFUSED {
+        is_refused(conn, *statement, *broken)?;
     }
     Ok(())
 }
@@ -381,5 +414,7 @@ fn keeps_to_its_rows(alloc: Global, conn: &mut Connection<MemStore>) -> Result<(
 #[test]
 fn no_other_rows(rt: HostRuntime) -> Result<(), Fail> {
     let mut conn = database(rt.alloc())?;
-    keeps_to_its_rows(rt.alloc(), &mut conn)
+    let keeps = keeps_to_its_rows(rt.alloc(), &mut conn);
+    drop(conn);
+    keeps
 }

@@ -260,7 +260,9 @@ fn told_by(alloc: Global, request: &Request<'_>, settings: &Settings) -> Reading
 
 fn told_of_request(alloc: Global, request: &Request<'_>) -> Result<Reading, Fail> {
     let settings = settings(alloc)?;
-    Ok(told_by(alloc, request, &settings))
+    let told = told_by(alloc, request, &settings);
+    drop(settings);
+    Ok(told)
 }
 
 /// What is told of the request with those field lines.

@@ -40,7 +40,7 @@ const WITH_BINDING: InstanceCase = ("a", Some(Ready), false, 2, "p");
 
 const BOUND: BindingCase = ("a", "x", Bound);
 
-const ACCEPTED: [Case; 8] = [
+static ACCEPTED: [Case; 8] = [
     (&[], &[], &[]),
     (&[CREATED], &[READY], &[]),
     (
@@ -84,7 +84,7 @@ const ACCEPTED: [Case; 8] = [
     ),
 ];
 
-const REFUSED: [Case; 17] = [
+static REFUSED: [Case; 17] = [
     // the orders: a number is missing, one runs in the middle, a Create comes twice, a key comes
     // twice, they are out of order, and an id is empty
     (&[("a", 2, Create, Succeeded, "")], &[WITH_BINDING], &[]),
@@ -133,16 +133,31 @@ const REFUSED: [Case; 17] = [
     (&[CREATED], &[READY], &[("b", "x", Bound)]),
 ];
 
-fn attributes(alloc: Global, plan: &str, context: &str) -> Result<Attributes, AllocError> {
-    Ok(Attributes {
-        service: Text::from_str(alloc, "s")?,
-        plan: Text::from_str(alloc, plan)?,
-        place: Text::from_str(alloc, "{}")?,
-        spot: Text::from_str(alloc, "{}")?,
-        parameters: Text::from_str(alloc, "{}")?,
+fn no_attributes(alloc: Global) -> Attributes {
+    Attributes {
+        service: Text::new(alloc),
+        plan: Text::new(alloc),
+        place: Text::new(alloc),
+        spot: Text::new(alloc),
+        parameters: Text::new(alloc),
         maintenance: Text::new(alloc),
-        context: Text::from_str(alloc, context)?,
-    })
+        context: Text::new(alloc),
+    }
+}
+
+fn fill(attributes: &mut Attributes, plan: &str, context: &str) -> Result<(), AllocError> {
+    attributes.service.push_str("s")?;
+    attributes.plan.push_str(plan)?;
+    attributes.place.push_str("{}")?;
+    attributes.spot.push_str("{}")?;
+    attributes.parameters.push_str("{}")?;
+    attributes.context.push_str(context)
+}
+
+fn attributes(alloc: Global, plan: &str, context: &str) -> Result<Attributes, AllocError> {
+    let mut attributes = no_attributes(alloc);
+    fill(&mut attributes, plan, context)?;
+    Ok(attributes)
 }
 
 fn outcome(alloc: Global, state: OrderState) -> Result<Outcome, AllocError> {
@@ -212,18 +227,36 @@ fn instances(
     Ok(instances)
 }
 
+/// A row of a binding without texts.
+fn no_binding(alloc: Global, phase: BindingPhase) -> BindingEntry {
+    BindingEntry {
+        instance: Text::new(alloc),
+        binding: Text::new(alloc),
+        phase,
+        service: Text::new(alloc),
+        plan: Text::new(alloc),
+        app_guid: Text::new(alloc),
+        bind_resource: Text::new(alloc),
+        parameters: Text::new(alloc),
+        credentials: Text::new(alloc),
+    }
+}
+
+fn fill_binding(entry: &mut BindingEntry, case: &BindingCase) -> Result<(), AllocError> {
+    entry.instance.push_str(case.0)?;
+    entry.binding.push_str(case.1)?;
+    entry.service.push_str("s")?;
+    entry.plan.push_str("p")?;
+    entry.app_guid.push_str("{}")?;
+    entry.bind_resource.push_str("{}")?;
+    entry.parameters.push_str("{}")?;
+    entry.credentials.push_str("{}")
+}
+
 fn binding(alloc: Global, case: &BindingCase) -> Result<BindingEntry, AllocError> {
-    Ok(BindingEntry {
-        instance: Text::from_str(alloc, case.0)?,
-        binding: Text::from_str(alloc, case.1)?,
-        phase: case.2,
-        service: Text::from_str(alloc, "s")?,
-        plan: Text::from_str(alloc, "p")?,
-        app_guid: Text::from_str(alloc, "{}")?,
-        bind_resource: Text::from_str(alloc, "{}")?,
-        parameters: Text::from_str(alloc, "{}")?,
-        credentials: Text::from_str(alloc, "{}")?,
-    })
+    let mut entry = no_binding(alloc, case.2);
+    fill_binding(&mut entry, case)?;
+    Ok(entry)
 }
 
 fn bindings(alloc: Global, cases: &[BindingCase]) -> Result<Vec<BindingEntry>, AllocError> {
@@ -234,16 +267,31 @@ fn bindings(alloc: Global, cases: &[BindingCase]) -> Result<Vec<BindingEntry>, A
     Ok(bindings)
 }
 
+/// Whether the orders and these rows are those of lives.
+fn are_of_lives(
+    alloc: Global,
+    orders: &[(Text, Order)],
+    instances: &[(Text, InstanceRow)],
+    cases: &[BindingCase],
+) -> Result<bool, AllocError> {
+    let bindings = bindings(alloc, cases)?;
+    are_rows_of_lives(alloc, orders, instances, bindings.as_slice())
+}
+
+/// Whether the orders are those of lives with these rows.
+fn have_rows(
+    alloc: Global,
+    orders: &[(Text, Order)],
+    cases: &[InstanceCase],
+    bindings: &[BindingCase],
+) -> Result<bool, AllocError> {
+    let instances = instances(alloc, cases)?;
+    are_of_lives(alloc, orders, instances.as_slice(), bindings)
+}
+
 fn audited(alloc: Global, case: &Case) -> Result<bool, AllocError> {
     let orders = orders(alloc, case.0)?;
-    let instances = instances(alloc, case.1)?;
-    let bindings = bindings(alloc, case.2)?;
-    are_rows_of_lives(
-        alloc,
-        orders.as_slice(),
-        instances.as_slice(),
-        bindings.as_slice(),
-    )
+    have_rows(alloc, orders.as_slice(), case.1, case.2)
 }
 
 /// How many of the cases are accepted.
@@ -259,51 +307,69 @@ fn accepted(alloc: Global, cases: &[Case]) -> Result<usize, AllocError> {
 
 #[test]
 fn rows_of_lives(rt: HostRuntime) -> Result<(), Fail> {
-    assert_eq!(rt; accepted(rt.alloc(), &ACCEPTED)?, 8);
+    assert!(rt; accepted(rt.alloc(), &ACCEPTED)? == 8);
     Ok(())
 }
 
 #[test]
 fn one_thing_turned(rt: HostRuntime) -> Result<(), Fail> {
-    assert_eq!(rt; accepted(rt.alloc(), &REFUSED)?, 0);
+    assert!(rt; accepted(rt.alloc(), &REFUSED)? == 0);
     Ok(())
+}
+
+/// The creation of an instance, with a context.
+fn created(alloc: Global, context: &str) -> Result<Vec<(Text, Order)>, AllocError> {
+    let mut orders = Vec::new(alloc);
+    orders.push(order(alloc, &CREATED, "p", context)?)?;
+    Ok(orders)
+}
+
+/// The row of that instance, with a context.
+fn ready(alloc: Global, context: &str) -> Result<Vec<(Text, InstanceRow)>, AllocError> {
+    let mut instances = Vec::new(alloc);
+    instances.push(instance(alloc, &READY, context)?)?;
+    Ok(instances)
 }
 
 /// Whether a creation with one context and the row of its instance with another are those of a life.
 fn with_contexts(alloc: Global, of_order: &str, of_row: &str) -> Result<bool, AllocError> {
-    let mut orders = Vec::new(alloc);
-    orders.push(order(alloc, &CREATED, "p", of_order)?)?;
-    let mut instances = Vec::new(alloc);
-    instances.push(instance(alloc, &READY, of_row)?)?;
+    let orders = created(alloc, of_order)?;
+    let instances = ready(alloc, of_row)?;
     are_rows_of_lives(alloc, orders.as_slice(), instances.as_slice(), &[])
 }
 
+/// The contexts of an order and of a row, and whether they may be those of a life.
+static CONTEXTS: [(&str, &str, bool); 6] = [
+    (r#"{"a":1}"#, r#"{"a":1}"#, true),
+    (r#"{"a":1}"#, "{}", false),
+    ("{}", r#"{"a":1}"#, false),
+    ("{ }", "{ }", false),
+    ("[]", "[]", false),
+    ("", "", false),
+];
+
 #[test]
 fn contexts_are_compact_and_alike(rt: HostRuntime) -> Result<(), Fail> {
-    let alloc = rt.alloc();
-    let some = "{\"a\":1}";
-    assert!(rt; with_contexts(alloc, some, some)?);
-    assert!(rt; !with_contexts(alloc, some, "{}")?);
-    assert!(rt; !with_contexts(alloc, "{}", some)?);
-    assert!(rt; !with_contexts(alloc, "{ }", "{ }")?);
-    assert!(rt; !with_contexts(alloc, "[]", "[]")?);
-    assert!(rt; !with_contexts(alloc, "", "")?);
+    for (of_order, of_row, may_be) in &CONTEXTS {
+        assert!(rt;
+            with_contexts(rt.alloc(), *of_order, *of_row)? == *may_be,
+            "{of_order} {of_row}"
+        );
+    }
     Ok(())
+}
+
+/// An instance's creation, and its binding with a context.
+fn created_and_bound(alloc: Global, context: &str) -> Result<Vec<(Text, Order)>, AllocError> {
+    let mut orders = created(alloc, "{}")?;
+    orders.push(order(alloc, &BINDS, "p", context)?)?;
+    Ok(orders)
 }
 
 /// Whether a binding whose order has this context is one of a life. Its row has none.
 fn binds_with_context(alloc: Global, context: &str) -> Result<bool, AllocError> {
-    let mut orders = Vec::new(alloc);
-    orders.push(order(alloc, &CREATED, "p", "{}")?)?;
-    orders.push(order(alloc, &BINDS, "p", context)?)?;
-    let instances = instances(alloc, &[WITH_BINDING])?;
-    let bindings = bindings(alloc, &[BOUND])?;
-    are_rows_of_lives(
-        alloc,
-        orders.as_slice(),
-        instances.as_slice(),
-        bindings.as_slice(),
-    )
+    let orders = created_and_bound(alloc, context)?;
+    have_rows(alloc, orders.as_slice(), &[WITH_BINDING], &[BOUND])
 }
 
 #[test]
@@ -313,27 +379,44 @@ fn a_binding_may_have_any_context(rt: HostRuntime) -> Result<(), Fail> {
     Ok(())
 }
 
-/// The plans of two instances, of an absent one and of an Update that runs.
-fn plans(alloc: Global) -> Result<String, AllocError> {
-    let rows = [
-        ("a", Some(Ready), false, 1, "q"),
-        ("b", Some(Updating), true, 2, "q"),
-        ("c", None, false, 2, "r"),
-    ];
-    let instances = instances(alloc, &rows)?;
+/// An instance that runs an Update.
+fn updated(alloc: Global) -> Result<Vec<(Text, Order)>, AllocError> {
     let mut running = Vec::new(alloc);
     running.push(order(alloc, &("b", 2, Update, Running, ""), "p", "{}")?)?;
+    Ok(running)
+}
+
+/// Two instances and an absent one.
+static IN_USE: [InstanceCase; 3] = [
+    ("a", Some(Ready), false, 1, "q"),
+    ("b", Some(Updating), true, 2, "q"),
+    ("c", None, false, 2, "r"),
+];
+
+/// The plans of these rows and of these orders.
+fn told_plans(
+    alloc: Global,
+    instances: &[(Text, InstanceRow)],
+    running: &[(Text, Order)],
+) -> Result<String, AllocError> {
     let mut told = String::new(alloc);
-    for (service, plan) in &plans_in_use(alloc, instances.as_slice(), running.as_slice())? {
+    for (service, plan) in &plans_in_use(alloc, instances, running)? {
         told.push_str(service.as_str())?;
         told.push_str(plan.as_str())?;
     }
     Ok(told)
 }
 
+/// The plans of two instances, of an absent one and of an Update that runs.
+fn plans(alloc: Global) -> Result<String, AllocError> {
+    let running = updated(alloc)?;
+    let instances = instances(alloc, &IN_USE)?;
+    told_plans(alloc, instances.as_slice(), running.as_slice())
+}
+
 #[test]
 fn each_plan_once(rt: HostRuntime) -> Result<(), Fail> {
-    assert_eq!(rt; plans(rt.alloc())?.as_str(), "spsq");
+    assert!(rt; plans(rt.alloc())?.as_str() == "spsq");
     Ok(())
 }
 
@@ -362,6 +445,6 @@ fn what_is_absent_is_not_counted(rt: HostRuntime) -> Result<(), Fail> {
         bindings: 3,
         running: 2,
     };
-    assert_eq!(rt; counts(rt.alloc())?, some);
+    assert!(rt; counts(rt.alloc())? == some);
     Ok(())
 }

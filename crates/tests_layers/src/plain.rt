@@ -16,6 +16,7 @@ fn outcome(alloc: Global, state: OrderState) -> Result<Outcome, AllocError> {
 
 fn attributes(alloc: Global) -> Result<Attributes, AllocError> {
     let parameters = Text::from_str(alloc, "{}")?;
+    let context = Text::from_str(alloc, "{}")?;
     Ok(Attributes {
         service: Text::new(alloc),
         plan: Text::new(alloc),
@@ -23,14 +24,14 @@ fn attributes(alloc: Global) -> Result<Attributes, AllocError> {
         spot: Text::new(alloc),
         parameters,
         maintenance: Text::new(alloc),
-        context: Text::from_str(alloc, "{}")?,
+        context,
     })
 }
 
 /// A creation that runs.
 fn creation(alloc: Global) -> Result<Order, AllocError> {
-    let attributes = attributes(alloc)?;
     let outcome = outcome(alloc, OrderState::Running)?;
+    let attributes = attributes(alloc)?;
     Ok(Order {
         number: 1,
         kind: OrderKind::Create,
@@ -68,20 +69,33 @@ fn running_after(alloc: Global, lives: &PlainLives, after: &str) -> Result<usize
     Ok(running.len())
 }
 
+fn has_begun(alloc: Global, lives: &PlainLives) -> Result<bool, AllocError> {
+    Ok(
+        orders_of(alloc, lives, "i")? == 1
+            && orders_of(alloc, lives, "j")? == 0
+            && running_after(alloc, lives, "h")? == 1
+            && running_after(alloc, lives, "i")? == 0,
+    )
+}
+
 #[test]
 fn an_order_begins(rt: HostRuntime) -> Result<(), Fail> {
     let lives = begun(rt.alloc())?;
-    assert_eq!(rt; orders_of(rt.alloc(), &lives, "i")?, 1);
-    assert_eq!(rt; orders_of(rt.alloc(), &lives, "j")?, 0);
-    assert_eq!(rt; running_after(rt.alloc(), &lives, "h")?, 1);
-    assert_eq!(rt; running_after(rt.alloc(), &lives, "i")?, 0);
+    let has_begun = has_begun(rt.alloc(), &lives);
+    drop(lives);
+    assert!(rt; has_begun?);
     Ok(())
+}
+
+fn has_ended(alloc: Global, lives: &PlainLives) -> Result<bool, AllocError> {
+    Ok(orders_of(alloc, lives, "i")? == 1 && running_after(alloc, lives, "")? == 0)
 }
 
 #[test]
 fn an_order_ends(rt: HostRuntime) -> Result<(), Fail> {
     let lives = ended(rt.alloc())?;
-    assert_eq!(rt; orders_of(rt.alloc(), &lives, "i")?, 1);
-    assert_eq!(rt; running_after(rt.alloc(), &lives, "")?, 0);
+    let has_ended = has_ended(rt.alloc(), &lives);
+    drop(lives);
+    assert!(rt; has_ended?);
     Ok(())
 }

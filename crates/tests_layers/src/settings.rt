@@ -19,9 +19,9 @@ pub(crate) fn changed(alloc: Global, file: &str, from: &str, to: &str) -> Result
 
 /// The text of the file's fault, empty where it has none.
 fn fault_of(alloc: Global, file: &[u8]) -> Result<String, Fail> {
-    match Settings::read(alloc, file) {
-        Ok(_) => Ok(String::new(alloc)),
-        Err(fault) => Ok(fault.to_string(alloc)?),
+    match Settings::read(alloc, file).err() {
+        None => Ok(String::new(alloc)),
+        Some(fault) => Ok(fault.to_string(alloc)?),
     }
 }
 

@@ -18,7 +18,7 @@ use std::test::Fail;
 /// Kind and state of an order, and what is told of the rows.
 type Case = (OrderKind, OrderState, &'static str);
 
-const INSTANCES: [Case; 11] = [
+static INSTANCES: [Case; 11] = [
     (Create, Running, "creating q busy"),
     (Create, Succeeded, "ready q"),
     (Create, Failed, "failed q"),
@@ -32,7 +32,7 @@ const INSTANCES: [Case; 11] = [
     (Unbind, Failed, "ready p"),
 ];
 
-const BINDINGS: [Case; 10] = [
+static BINDINGS: [Case; 10] = [
     (Create, Succeeded, "keep"),
     (Update, Succeeded, "keep"),
     (Delete, Running, "keep"),
@@ -47,6 +47,7 @@ const BINDINGS: [Case; 10] = [
 
 fn attributes(alloc: Global, parameters: &str) -> Result<Attributes, AllocError> {
     let parameters = Text::from_str(alloc, parameters)?;
+    let context = Text::from_str(alloc, "{}")?;
     Ok(Attributes {
         service: Text::new(alloc),
         plan: Text::new(alloc),
@@ -54,7 +55,7 @@ fn attributes(alloc: Global, parameters: &str) -> Result<Attributes, AllocError>
         spot: Text::new(alloc),
         parameters,
         maintenance: Text::new(alloc),
-        context: Text::from_str(alloc, "{}")?,
+        context,
     })
 }
 
@@ -131,13 +132,20 @@ fn tell_edit(told: &mut String, edit: &BindingEdit) {
     }
 }
 
-/// Whether the row of an instance whose birth failed tells this after the order.
-fn is_row(alloc: Global, order: &Order, old: &InstanceRow, want: &str) -> bool {
+/// What is told of the row of an instance whose birth failed, after the order.
+fn told_of_row(alloc: Global, order: &Order, old: &InstanceRow) -> String {
     let mut told = String::new(alloc);
     if let Ok(row) = instance_row_after(true, order, Some(old)) {
         tell_row(&mut told, &row);
+        drop(row);
     }
-    told.as_str() == want && is_failed_deletion(order) == (want == "failed p")
+    told
+}
+
+/// Whether that row tells this.
+fn is_row(alloc: Global, order: &Order, old: &InstanceRow, want: &str) -> bool {
+    told_of_row(alloc, order, old).as_str() == want
+        && is_failed_deletion(order) == (want == "failed p")
 }
 
 fn are_rows(alloc: Global, order: &mut Order, old: &InstanceRow) -> bool {
@@ -154,6 +162,7 @@ fn is_edit(alloc: Global, order: &Order, old: &BindingNow, want: &str) -> bool {
     let mut told = String::new(alloc);
     if let Ok(edit) = binding_edit(alloc, order, Some(old)) {
         tell_edit(&mut told, &edit);
+        drop(edit);
     }
     told.as_str() == want
 }
@@ -192,7 +201,9 @@ fn bound(alloc: Global) -> Result<BindingNow, AllocError> {
 /// Whether the rows that follow this one are those expected.
 fn are_rows_after(alloc: Global, old: &InstanceRow) -> Result<bool, AllocError> {
     let mut order = order(alloc)?;
-    Ok(are_rows(alloc, &mut order, old))
+    let same = are_rows(alloc, &mut order, old);
+    drop(order);
+    Ok(same)
 }
 
 #[test]
@@ -207,7 +218,9 @@ fn instance_rows(rt: HostRuntime) -> Result<(), Fail> {
 /// Whether the edits that follow this row are those expected.
 fn are_edits_after(alloc: Global, old: &BindingNow) -> Result<bool, AllocError> {
     let mut order = order(alloc)?;
-    Ok(are_edits(alloc, &mut order, old))
+    let same = are_edits(alloc, &mut order, old);
+    drop(order);
+    Ok(same)
 }
 
 #[test]
@@ -225,7 +238,9 @@ fn written(rt: HostRuntime) -> Result<(), Fail> {
     let order = order(alloc)?;
     let last = order_written(None, Change::Append(order));
     let ended = order_written(last, Change::Finish(2, outcome(alloc, Failed)));
-    assert!(rt; ended.is_some_and(|order| order.is_now(Failed)));
+    let has_failed = ended.as_ref().is_some_and(|order| order.is_now(Failed));
+    drop(ended);
+    assert!(rt; has_failed);
     Ok(())
 }
 

@@ -23,7 +23,7 @@ pub(crate) const STANDING: &str =
     "INSERT INTO contexts (instance_id, seq, context) VALUES ('i', 0, '{}')";
 
 /// All rows of an instance that is ready.
-pub(crate) const WHOLE: [&str; 4] = [ORDER, READY, OF_ORDER, STANDING];
+pub(crate) static WHOLE: [&str; 4] = [ORDER, READY, OF_ORDER, STANDING];
 
 /// How many orders the instance `i` has.
 pub(crate) fn count_orders<S: Alter>(
@@ -37,14 +37,17 @@ pub(crate) fn count_orders<S: Alter>(
 /// How many it has in a new database.
 fn orders_at_first(alloc: Global) -> Result<usize, StoreFault> {
     let mut records = open_memory(alloc)?;
-    count_orders(alloc, &mut records)
+    let count = count_orders(alloc, &mut records);
+    drop(records);
+    count
 }
 
 /// How many orders run in a new database.
 fn running_at_first(alloc: Global) -> Result<usize, StoreFault> {
     let mut records = open_memory(alloc)?;
-    let running = records.running(alloc, "", 100)?;
-    Ok(running.len())
+    let running = records.running(alloc, "", 100);
+    drop(records);
+    Ok(running?.len())
 }
 
 /// Runs these statements.
@@ -82,27 +85,29 @@ fn plans_in(alloc: Global, records: &mut Records<MemStore>) -> Result<usize, Sto
 
 /// How many plans are in use after these statements, where the database is taken over again.
 fn plans_after(alloc: Global, statements: &[&str]) -> Result<usize, StoreFault> {
-    let conn = changed(alloc, statements)?;
-    let mut records = adopted(alloc, conn)?;
-    plans_in(alloc, &mut records)
+    let mut records = adopted(alloc, changed(alloc, statements)?)?;
+    let plans = plans_in(alloc, &mut records);
+    drop(records);
+    plans
 }
 
 /// What there is after these statements, where the database is taken over again.
 fn counts_after(alloc: Global, statements: &[&str]) -> Result<Counts, StoreFault> {
-    let conn = changed(alloc, statements)?;
-    let mut records = adopted(alloc, conn)?;
-    records.counts(alloc)
+    let mut records = adopted(alloc, changed(alloc, statements)?)?;
+    let counts = records.counts(alloc);
+    drop(records);
+    counts
 }
 
 #[test]
 fn a_new_database_has_no_orders(rt: HostRuntime) -> Result<(), Fail> {
-    assert_eq!(rt; orders_at_first(rt.alloc())?, 0);
-    assert_eq!(rt; running_at_first(rt.alloc())?, 0);
+    assert!(rt; orders_at_first(rt.alloc())? == 0);
+    assert!(rt; running_at_first(rt.alloc())? == 0);
     Ok(())
 }
 
 /// The instance and its order, and a context other than `{}`.
-const WITH_CONTEXT: [&str; 5] = [
+static WITH_CONTEXT: [&str; 5] = [
     ORDER,
     READY,
     OF_ORDER,
@@ -120,33 +125,37 @@ pub(crate) const OF_DELETION: &str = "INSERT INTO contexts VALUES ('i', 2, '{}')
 
 const NO_STANDING: &str = "INSERT INTO contexts VALUES ('i', 0, '')";
 
+/// All rows of an instance that was deleted.
+static GONE: [&str; 6] = [ORDER, DELETION, ABSENT, OF_ORDER, OF_DELETION, NO_STANDING];
+
+const NOTHING: Counts = Counts {
+    instances: 0,
+    bindings: 0,
+    running: 0,
+};
+
+const ONE: Counts = Counts {
+    instances: 1,
+    bindings: 0,
+    running: 0,
+};
+
 #[test]
 fn what_is_there_is_counted(rt: HostRuntime) -> Result<(), Fail> {
     let alloc = rt.alloc();
-    let nothing = Counts {
-        instances: 0,
-        bindings: 0,
-        running: 0,
-    };
-    let one = Counts {
-        instances: 1,
-        ..nothing
-    };
-    let gone = [ORDER, DELETION, ABSENT, OF_ORDER, OF_DELETION, NO_STANDING];
-    assert_eq!(rt; counts_after(alloc, &[])?, nothing);
-    assert_eq!(rt; counts_after(alloc, &WHOLE)?, one);
-    assert_eq!(rt; counts_after(alloc, &gone)?, nothing);
+    assert!(rt; counts_after(alloc, &[])? == NOTHING);
+    assert!(rt; counts_after(alloc, &WHOLE)? == ONE);
+    assert!(rt; counts_after(alloc, &GONE)? == NOTHING);
     Ok(())
 }
 
 #[test]
 fn a_database_of_this_broker_is_taken_over(rt: HostRuntime) -> Result<(), Fail> {
     let alloc = rt.alloc();
-    let gone = [ORDER, DELETION, ABSENT, OF_ORDER, OF_DELETION, NO_STANDING];
-    assert_eq!(rt; plans_after(alloc, &[])?, 0);
-    assert_eq!(rt; plans_after(alloc, &WHOLE)?, 1);
-    assert_eq!(rt; plans_after(alloc, &WITH_CONTEXT)?, 1);
-    assert_eq!(rt; plans_after(alloc, &gone)?, 0);
+    assert!(rt; plans_after(alloc, &[])? == 0);
+    assert!(rt; plans_after(alloc, &WHOLE)? == 1);
+    assert!(rt; plans_after(alloc, &WITH_CONTEXT)? == 1);
+    assert!(rt; plans_after(alloc, &GONE)? == 0);
     Ok(())
 }
 
@@ -154,21 +163,20 @@ pub(crate) const NO_SUBJECTS: &str = "DROP INDEX subject_orders";
 
 pub(crate) const NO_LISTING: &str = "DROP INDEX busy_instances";
 
+static WITHOUT_ONE: [&str; 5] = [NO_SUBJECTS, ORDER, READY, OF_ORDER, STANDING];
+
+static WITHOUT_BOTH: [&str; 6] = [NO_SUBJECTS, NO_LISTING, ORDER, READY, OF_ORDER, STANDING];
+
 #[test]
 fn indexes_that_are_lacking_are_made(rt: HostRuntime) -> Result<(), Fail> {
-    let one = [NO_SUBJECTS, ORDER, READY, OF_ORDER, STANDING];
-    let both = [NO_SUBJECTS, NO_LISTING, ORDER, READY, OF_ORDER, STANDING];
-    assert_eq!(rt; plans_after(rt.alloc(), &one)?, 1);
-    assert_eq!(rt; plans_after(rt.alloc(), &both)?, 1);
-    assert_eq!(rt;
-        plans_after(rt.alloc(), &[NO_LISTING]),
-        Err(StoreFault::NotOurs)
-    );
+    assert!(rt; plans_after(rt.alloc(), &WITHOUT_ONE)? == 1);
+    assert!(rt; plans_after(rt.alloc(), &WITHOUT_BOTH)? == 1);
+    assert!(rt; plans_after(rt.alloc(), &[NO_LISTING]) == Err(StoreFault::NotOurs));
     Ok(())
 }
 
 /// What makes a database of version 2 one of version 1 without an index.
-const TO_FIRST: [&str; 4] = [
+static TO_FIRST: [&str; 4] = [
     NO_SUBJECTS,
     NO_LISTING,
     "DROP TABLE contexts",
@@ -192,20 +200,24 @@ pub(crate) fn first(
 
 /// How many plans are in use in it, where it is taken over.
 fn plans_of_first(alloc: Global, statements: &[&str]) -> Result<usize, StoreFault> {
-    let conn = first(alloc, statements)?;
-    let mut records = adopted(alloc, conn)?;
-    plans_in(alloc, &mut records)
+    let mut records = adopted(alloc, first(alloc, statements)?)?;
+    let plans = plans_in(alloc, &mut records);
+    drop(records);
+    plans
 }
+
+static FIRST_WITHOUT_INDEXES: [&str; 2] = [ORDER, READY];
+
+static FIRST_WITH_ONE: [&str; 3] = [LISTING, ORDER, READY];
+
+static FIRST_WITH_BOTH: [&str; 4] = [LISTING, SUBJECTS, ORDER, READY];
 
 #[test]
 fn version_1_is_taken_over(rt: HostRuntime) -> Result<(), Fail> {
     let alloc = rt.alloc();
-    assert_eq!(rt; plans_of_first(alloc, &[ORDER, READY])?, 1);
-    assert_eq!(rt; plans_of_first(alloc, &[LISTING, ORDER, READY])?, 1);
-    assert_eq!(rt;
-        plans_of_first(alloc, &[LISTING, SUBJECTS, ORDER, READY])?,
-        1
-    );
-    assert_eq!(rt; plans_of_first(alloc, &[LISTING, SUBJECTS])?, 0);
+    assert!(rt; plans_of_first(alloc, &FIRST_WITHOUT_INDEXES)? == 1);
+    assert!(rt; plans_of_first(alloc, &FIRST_WITH_ONE)? == 1);
+    assert!(rt; plans_of_first(alloc, &FIRST_WITH_BOTH)? == 1);
+    assert!(rt; plans_of_first(alloc, &[LISTING, SUBJECTS])? == 0);
     Ok(())
 }

@@ -19,7 +19,7 @@ use sqlite::{Alter, Connection, Error, MemStore, Transaction};
 use std::alloc::{AllocError, Global};
 use std::test::Fail;
 
-const TABLES: [&str; 4] = [
+static TABLES: [&str; 4] = [
     "CREATE TABLE format (version INTEGER NOT NULL) STRICT",
     "CREATE TABLE orders (instance_id TEXT NOT NULL, seq INTEGER NOT NULL, kind INTEGER NOT NULL, binding_id TEXT NOT NULL, service_id TEXT NOT NULL, plan_id TEXT NOT NULL, place TEXT NOT NULL, spot TEXT NOT NULL, params TEXT NOT NULL, maint TEXT NOT NULL, state INTEGER NOT NULL, note TEXT NOT NULL, credentials TEXT NOT NULL, PRIMARY KEY (instance_id, seq)) STRICT",
     "CREATE TABLE instances (instance_id TEXT NOT NULL, phase INTEGER NOT NULL, busy INTEGER NOT NULL, last_seq INTEGER NOT NULL, service_id TEXT NOT NULL, plan_id TEXT NOT NULL, organization TEXT NOT NULL, space TEXT NOT NULL, params TEXT NOT NULL, maint TEXT NOT NULL, PRIMARY KEY (instance_id)) STRICT",
@@ -33,19 +33,19 @@ const BUSY: &str = "CREATE INDEX busy_instances ON instances (busy, instance_id)
 
 const SUBJECT: &str = "CREATE INDEX subject_orders ON orders (instance_id, binding_id, kind, seq)";
 
-const ROWS: [&str; 4] = [
+static ROWS: [&str; 4] = [
     "INSERT INTO format (version) VALUES (1)",
     "INSERT INTO orders VALUES ('i', 1, 1, '', 's', 'p', 'o', 'q', '{}', '', 1, '', '{}')",
     "INSERT INTO instances VALUES ('i', 2, 0, 1, 's', 'p', 'o', 'q', '{}', '')",
     "INSERT INTO bindings VALUES ('i', 'b', 2, 's', 'p', 'a', '{}', '{}', '{}')",
 ];
 
-const VERSION: [(&str, i64); 2] = [
+static VERSION: [(&str, i64); 2] = [
     ("SELECT count(*) FROM format", 1),
     ("SELECT version FROM format", 2),
 ];
 
-const MIGRATED: [(&str, i64); 6] = [
+static MIGRATED: [(&str, i64); 6] = [
     ("SELECT count(*) FROM format", 1),
     ("SELECT version FROM format", 2),
     ("SELECT count(*) FROM orders WHERE plan_id = 'p'", 1),
@@ -72,12 +72,17 @@ fn are_answers<S: Alter>(conn: &mut Connection<S>, cases: &[(&str, i64)]) -> Res
     Ok(true)
 }
 
-/// A database of version 1 with these indexes and a few rows.
+/// Makes a database of version 1 with these indexes and a few rows.
+fn make_first<S: Alter>(conn: &mut Connection<S>, indexes: &[&str]) -> Result<(), Error> {
+    run(conn, &TABLES)?;
+    run(conn, indexes)?;
+    run(conn, &ROWS)
+}
+
+/// The same in memory.
 fn first(alloc: Global, indexes: &[&str]) -> Result<Connection<MemStore>, Error> {
     let mut conn = Connection::open_in_memory(alloc)?;
-    run(&mut conn, &TABLES)?;
-    run(&mut conn, indexes)?;
-    run(&mut conn, &ROWS)?;
+    make_first(&mut conn, indexes)?;
     Ok(conn)
 }
 
@@ -151,21 +156,25 @@ fn migrated(alloc: Global, indexes: &[&str], is_kept: bool) -> Result<Connection
 
 fn found_after(alloc: Global, indexes: &[&str], is_kept: bool) -> Result<FoundSchema, Error> {
     let conn = migrated(alloc, indexes, is_kept)?;
-    Ok(find(conn.schema()))
+    let found = find(conn.schema());
+    drop(conn);
+    Ok(found)
 }
 
 /// Whether the rows are there after the migration.
 fn has_rows(alloc: Global, indexes: &[&str]) -> Result<bool, Error> {
     let mut conn = migrated(alloc, indexes, true)?;
-    are_answers(&mut conn, &MIGRATED)
+    let has_rows = are_answers(&mut conn, &MIGRATED);
+    drop(conn);
+    has_rows
 }
 
 #[test]
 fn each_form_is_migrated(rt: HostRuntime) -> Result<(), Fail> {
     let second = FoundSchema::Second(Indexes::Both);
-    assert_eq!(rt; found_after(rt.alloc(), &[], true)?, second);
-    assert_eq!(rt; found_after(rt.alloc(), &[BUSY], true)?, second);
-    assert_eq!(rt; found_after(rt.alloc(), &[BUSY, SUBJECT], true)?, second);
+    assert!(rt; found_after(rt.alloc(), &[], true)? == second);
+    assert!(rt; found_after(rt.alloc(), &[BUSY], true)? == second);
+    assert!(rt; found_after(rt.alloc(), &[BUSY, SUBJECT], true)? == second);
     Ok(())
 }
 
@@ -182,9 +191,9 @@ fn a_rollback_leaves_version_1(rt: HostRuntime) -> Result<(), Fail> {
     let none = FoundSchema::First(Indexes::None);
     let listing = FoundSchema::First(Indexes::Listing);
     let both = FoundSchema::First(Indexes::Both);
-    assert_eq!(rt; found_after(rt.alloc(), &[], false)?, none);
-    assert_eq!(rt; found_after(rt.alloc(), &[BUSY], false)?, listing);
-    assert_eq!(rt; found_after(rt.alloc(), &[BUSY, SUBJECT], false)?, both);
+    assert!(rt; found_after(rt.alloc(), &[], false)? == none);
+    assert!(rt; found_after(rt.alloc(), &[BUSY], false)? == listing);
+    assert!(rt; found_after(rt.alloc(), &[BUSY, SUBJECT], false)? == both);
     Ok(())
 }
 
@@ -221,21 +230,31 @@ fn complete_in<S: Alter>(conn: &mut Connection<S>) -> Result<(), Error> {
     tx.commit()
 }
 
-/// What is found of a database of version 2 that had these indexes, once it is complete.
+/// What is found of an empty database that becomes one of version 2 with these indexes, once it is complete.
+fn completed_in<S: Alter>(
+    conn: &mut Connection<S>,
+    indexes: &[&str],
+) -> Result<FoundSchema, Error> {
+    run(conn, &TABLES)?;
+    run(conn, &[CONTEXTS])?;
+    run(conn, indexes)?;
+    complete_in(conn)?;
+    Ok(find(conn.schema()))
+}
+
+/// The same in memory.
 fn completed(alloc: Global, indexes: &[&str]) -> Result<FoundSchema, Error> {
     let mut conn = Connection::open_in_memory(alloc)?;
-    run(&mut conn, &TABLES)?;
-    run(&mut conn, &[CONTEXTS])?;
-    run(&mut conn, indexes)?;
-    complete_in(&mut conn)?;
-    Ok(find(conn.schema()))
+    let found = completed_in(&mut conn, indexes);
+    drop(conn);
+    found
 }
 
 #[test]
 fn lacking_indexes_are_made(rt: HostRuntime) -> Result<(), Fail> {
     let second = FoundSchema::Second(Indexes::Both);
-    assert_eq!(rt; completed(rt.alloc(), &[])?, second);
-    assert_eq!(rt; completed(rt.alloc(), &[BUSY])?, second);
+    assert!(rt; completed(rt.alloc(), &[])? == second);
+    assert!(rt; completed(rt.alloc(), &[BUSY])? == second);
     Ok(())
 }
 
@@ -289,20 +308,24 @@ fn contexts_of<S: Alter>(
 
 fn is_context(alloc: Global, number: u32, context: &str) -> Result<bool, Error> {
     let mut conn = first(alloc, &[BUSY, SUBJECT])?;
-    let found = context_of(&mut conn, "i", number)?;
-    Ok(found.as_str() == context)
+    let found = context_of(&mut conn, "i", number);
+    drop(conn);
+    Ok(found?.as_str() == context)
 }
 
 fn written(alloc: Global, context: &str) -> Result<usize, Error> {
     let mut conn = first(alloc, &[BUSY, SUBJECT])?;
-    written_by(&mut conn, context)
+    let written = written_by(&mut conn, context);
+    drop(conn);
+    written
 }
 
 fn reads_what_went_in(alloc: Global) -> Result<bool, Error> {
-    let mut conn = first(alloc, &[BUSY])?;
     let entries = three(alloc)?;
-    let found = contexts_of(&mut conn, alloc, &entries)?;
-    Ok(found == entries)
+    let mut conn = first(alloc, &[BUSY])?;
+    let found = contexts_of(&mut conn, alloc, &entries);
+    drop(conn);
+    Ok(found? == entries)
 }
 
 fn set_twice<S: Alter>(conn: &mut Connection<S>, alloc: Global) -> Result<(), Error> {
@@ -315,26 +338,30 @@ fn set_twice<S: Alter>(conn: &mut Connection<S>, alloc: Global) -> Result<(), Er
 }
 
 /// Whether the format has one version after that.
+fn has_one_version_in<S: Alter>(conn: &mut Connection<S>, alloc: Global) -> Result<bool, Error> {
+    set_twice(conn, alloc)?;
+    are_answers(conn, &VERSION)
+}
+
+/// The same of a new database of version 1.
 fn has_one_version(alloc: Global) -> Result<bool, Error> {
     let mut conn = first(alloc, &[])?;
-    set_twice(&mut conn, alloc)?;
-    are_answers(&mut conn, &VERSION)
+    let has_one = has_one_version_in(&mut conn, alloc);
+    drop(conn);
+    has_one
 }
 
 #[test]
 fn a_context_becomes_another(rt: HostRuntime) -> Result<(), Fail> {
     assert!(rt; is_context(rt.alloc(), 1, "{\"a\":1}")?);
-    assert_eq!(rt;
-        is_context(rt.alloc(), 0, "{}"),
-        Err(Error::QueryReturnedNoRows)
-    );
+    assert!(rt; is_context(rt.alloc(), 0, "{}") == Err(Error::QueryReturnedNoRows));
     Ok(())
 }
 
 #[test]
 fn a_context_that_is_there_is_not_written(rt: HostRuntime) -> Result<(), Fail> {
-    assert_eq!(rt; written(rt.alloc(), "{}")?, 1);
-    assert_eq!(rt; written(rt.alloc(), "{\"a\":1}")?, 0);
+    assert!(rt; written(rt.alloc(), "{}")? == 1);
+    assert!(rt; written(rt.alloc(), "{\"a\":1}")? == 0);
     Ok(())
 }
 

@@ -6,13 +6,13 @@ use std::test::Fail;
 use tests_support::exchange::Exchange;
 use tests_support::replies::*;
 
-const BIND_RUNS: [Exchange; 3] = [
+static BIND_RUNS: [Exchange; 3] = [
     (MAKE, LARGE, ACCEPTED, CREATE_1),
     (END_1, SUCCEEDED, OK, "{}"),
     (BIND_C, BINDING, ACCEPTED, BIND_2),
 ];
 
-const IN_BINDING: [Exchange; 28] = [
+static IN_BINDING: [Exchange; 28] = [
     (BIND_C, BINDING, ACCEPTED, BIND_2),
     (BIND_C, BINDING_WITH_CONTEXT, ACCEPTED, BIND_2),
     (BIND_C_NOW, BINDING, UNPROCESSABLE, ASYNC_REQUIRED),
@@ -48,7 +48,7 @@ const IN_BINDING: [Exchange; 28] = [
     (END_3, SUCCEEDED, NOT_FOUND, "{}"),
 ];
 
-const ENDED_IN_BINDING: [Change; 5] = [
+static ENDED_IN_BINDING: [Change; 5] = [
     (
         END_2,
         SUCCEEDED,
@@ -91,14 +91,14 @@ fn binding(rt: HostRuntime) -> Result<(), Fail> {
     each_in(rt.alloc(), &BIND_RUNS, &IN_BINDING, &ENDED_IN_BINDING)
 }
 
-const BOUND: [Exchange; 4] = [
+static BOUND: [Exchange; 4] = [
     (MAKE, LARGE, ACCEPTED, CREATE_1),
     (END_1, SUCCEEDED, OK, "{}"),
     (BIND_C, BINDING, ACCEPTED, BIND_2),
     (END_2, KEY, OK, "{}"),
 ];
 
-const IN_BOUND: [Exchange; 28] = [
+static IN_BOUND: [Exchange; 28] = [
     (BIND_C, BINDING, OK, KEY_SHOWN),
     (BIND_C_NOW, BINDING, OK, KEY_SHOWN),
     (BIND_C, BINDING_WITH_CONTEXT, OK, KEY_SHOWN),
@@ -134,7 +134,7 @@ const IN_BOUND: [Exchange; 28] = [
     (LIST, "", OK, NO_ORDERS),
 ];
 
-const OPENED_IN_BOUND: [Change; 3] = [
+static OPENED_IN_BOUND: [Change; 3] = [
     (
         BIND_D,
         BINDING,
@@ -164,7 +164,7 @@ fn bound(rt: HostRuntime) -> Result<(), Fail> {
 }
 
 /// An update runs beside the binding.
-const BOUND_AND_UPDATING: [Exchange; 5] = [
+static BOUND_AND_UPDATING: [Exchange; 5] = [
     (MAKE, LARGE, ACCEPTED, CREATE_1),
     (END_1, SUCCEEDED, OK, "{}"),
     (BIND_C, BINDING, ACCEPTED, BIND_2),
@@ -172,7 +172,7 @@ const BOUND_AND_UPDATING: [Exchange; 5] = [
     (UPDATE, ONE, ACCEPTED, UPDATE_3),
 ];
 
-const IN_BOUND_AND_UPDATING: [Exchange; 10] = [
+static IN_BOUND_AND_UPDATING: [Exchange; 10] = [
     (BIND_C, BINDING, OK, KEY_SHOWN),
     (BIND_C, OTHER_BINDING, CONFLICT, "{}"),
     (BIND_D, BINDING, UNPROCESSABLE, BUSY),
@@ -190,7 +190,7 @@ const IN_BOUND_AND_UPDATING: [Exchange; 10] = [
     (UPDATE, ONE, ACCEPTED, UPDATE_3),
 ];
 
-const ENDED_IN_BOUND_AND_UPDATING: [Change; 1] = [(
+static ENDED_IN_BOUND_AND_UPDATING: [Change; 1] = [(
     END_3,
     SUCCEEDED,
     OK,
@@ -208,14 +208,14 @@ fn bound_while_an_update_runs(rt: HostRuntime) -> Result<(), Fail> {
     )
 }
 
-const BIND_FAILED: [Exchange; 4] = [
+static BIND_FAILED: [Exchange; 4] = [
     (MAKE, LARGE, ACCEPTED, CREATE_1),
     (END_1, SUCCEEDED, OK, "{}"),
     (BIND_C, BINDING, ACCEPTED, BIND_2),
     (END_2, FAILED_TOLD, OK, "{}"),
 ];
 
-const IN_BIND_FAILED: [Exchange; 15] = [
+static IN_BIND_FAILED: [Exchange; 15] = [
     (BIND_C, BINDING, CONFLICT, "{}"),
     (BIND_C, OTHER_BINDING, CONFLICT, "{}"),
     (BIND_C_NOW, BINDING, CONFLICT, "{}"),
@@ -234,7 +234,7 @@ const IN_BIND_FAILED: [Exchange; 15] = [
     (LIST, "", OK, NO_ORDERS),
 ];
 
-const OPENED_IN_BIND_FAILED: [Change; 3] = [
+static OPENED_IN_BIND_FAILED: [Change; 3] = [
     (
         BIND_D,
         BINDING,
@@ -269,7 +269,7 @@ fn failed(rt: HostRuntime) -> Result<(), Fail> {
 }
 
 /// An update runs beside the binding that failed.
-const BIND_FAILED_AND_UPDATING: [Exchange; 5] = [
+static BIND_FAILED_AND_UPDATING: [Exchange; 5] = [
     (MAKE, LARGE, ACCEPTED, CREATE_1),
     (END_1, SUCCEEDED, OK, "{}"),
     (BIND_C, BINDING, ACCEPTED, BIND_2),
@@ -277,7 +277,7 @@ const BIND_FAILED_AND_UPDATING: [Exchange; 5] = [
     (UPDATE, ONE, ACCEPTED, UPDATE_3),
 ];
 
-const IN_BIND_FAILED_AND_UPDATING: [Exchange; 5] = [
+static IN_BIND_FAILED_AND_UPDATING: [Exchange; 5] = [
     (BIND_C, BINDING, CONFLICT, "{}"),
     (FETCH_C, "", NOT_FOUND, "{}"),
     (UNBIND_C, "", UNPROCESSABLE, BUSY),
@@ -295,7 +295,7 @@ fn failed_while_an_update_runs(rt: HostRuntime) -> Result<(), Fail> {
     )
 }
 
-const UNBINDING: [Exchange; 5] = [
+static UNBINDING: [Exchange; 5] = [
     (MAKE, LARGE, ACCEPTED, CREATE_1),
     (END_1, SUCCEEDED, OK, "{}"),
     (BIND_C, BINDING, ACCEPTED, BIND_2),
@@ -303,7 +303,7 @@ const UNBINDING: [Exchange; 5] = [
     (UNBIND_C, "", ACCEPTED, UNBIND_3),
 ];
 
-const IN_UNBINDING: [Exchange; 20] = [
+static IN_UNBINDING: [Exchange; 20] = [
     (BIND_C, BINDING, UNPROCESSABLE, BUSY),
     (BIND_C, OTHER_BINDING, UNPROCESSABLE, BUSY),
     (BIND_D, BINDING, UNPROCESSABLE, BUSY),
@@ -331,7 +331,7 @@ const IN_UNBINDING: [Exchange; 20] = [
     (END_1, SUCCEEDED, OK, "{}"),
 ];
 
-const ENDED_IN_UNBINDING: [Change; 3] = [
+static ENDED_IN_UNBINDING: [Change; 3] = [
     (
         END_3,
         SUCCEEDED,
@@ -360,7 +360,7 @@ fn unbinding(rt: HostRuntime) -> Result<(), Fail> {
     each_in(rt.alloc(), &UNBINDING, &IN_UNBINDING, &ENDED_IN_UNBINDING)
 }
 
-const UNBIND_FAILED: [Exchange; 6] = [
+static UNBIND_FAILED: [Exchange; 6] = [
     (MAKE, LARGE, ACCEPTED, CREATE_1),
     (END_1, SUCCEEDED, OK, "{}"),
     (BIND_C, BINDING, ACCEPTED, BIND_2),
@@ -369,7 +369,7 @@ const UNBIND_FAILED: [Exchange; 6] = [
     (END_3, FAILED, OK, "{}"),
 ];
 
-const AFTER_UNBIND_FAILED: [Exchange; 6] = [
+static AFTER_UNBIND_FAILED: [Exchange; 6] = [
     (BIND_C, BINDING, CONFLICT, "{}"),
     (FETCH_C, "", NOT_FOUND, "{}"),
     (ASK_C, "", OK, FAILED),
@@ -378,7 +378,7 @@ const AFTER_UNBIND_FAILED: [Exchange; 6] = [
     (END_3, FAILED, OK, "{}"),
 ];
 
-const OPENED_AFTER_UNBIND_FAILED: [Change; 2] = [
+static OPENED_AFTER_UNBIND_FAILED: [Change; 2] = [
     (
         UNBIND_C,
         "",
@@ -405,7 +405,7 @@ fn failed_after_a_failed_unbinding(rt: HostRuntime) -> Result<(), Fail> {
     )
 }
 
-const UNBOUND: [Exchange; 6] = [
+static UNBOUND: [Exchange; 6] = [
     (MAKE, LARGE, ACCEPTED, CREATE_1),
     (END_1, SUCCEEDED, OK, "{}"),
     (BIND_C, BINDING, ACCEPTED, BIND_2),
@@ -414,7 +414,7 @@ const UNBOUND: [Exchange; 6] = [
     (END_3, SUCCEEDED, OK, "{}"),
 ];
 
-const IN_UNBOUND: [Exchange; 10] = [
+static IN_UNBOUND: [Exchange; 10] = [
     (BIND_C, OTHER_PLAN, BAD, MISMATCH),
     (FETCH_C, "", NOT_FOUND, "{}"),
     (UNBIND_C, "", GONE, "{}"),
@@ -427,7 +427,7 @@ const IN_UNBOUND: [Exchange; 10] = [
     (LIST, "", OK, NO_ORDERS),
 ];
 
-const OPENED_IN_UNBOUND: [Change; 2] = [
+static OPENED_IN_UNBOUND: [Change; 2] = [
     (
         BIND_C,
         BINDING,

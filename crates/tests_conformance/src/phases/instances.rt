@@ -6,7 +6,7 @@ use std::test::Fail;
 use tests_support::exchange::Exchange;
 use tests_support::replies::*;
 
-const IN_ABSENT: [Exchange; 19] = [
+static IN_ABSENT: [Exchange; 19] = [
     (MAKE_NOW, LARGE, UNPROCESSABLE, ASYNC_REQUIRED),
     (MAKE, OLD_VERSION, UNPROCESSABLE, OTHER_VERSION),
     (MAKE, NO_VERSION, UNPROCESSABLE, OTHER_VERSION),
@@ -29,7 +29,7 @@ const IN_ABSENT: [Exchange; 19] = [
     (END_1, SUCCEEDED, NOT_FOUND, "{}"),
 ];
 
-const MADE_IN_ABSENT: [Change; 7] = [
+static MADE_IN_ABSENT: [Change; 7] = [
     (
         MAKE,
         LARGE,
@@ -86,9 +86,9 @@ fn absent(rt: HostRuntime) -> Result<(), Fail> {
     each_in(rt.alloc(), &[], &IN_ABSENT, &MADE_IN_ABSENT)
 }
 
-const CREATING: [Exchange; 1] = [(MAKE, LARGE, ACCEPTED, CREATE_1)];
+static CREATING: [Exchange; 1] = [(MAKE, LARGE, ACCEPTED, CREATE_1)];
 
-const IN_CREATING: [Exchange; 27] = [
+static IN_CREATING: [Exchange; 27] = [
     (MAKE, LARGE, ACCEPTED, CREATE_1),
     (MAKE, THIS_VERSION, ACCEPTED, CREATE_1),
     (MAKE, OTHER_CONTEXT, ACCEPTED, CREATE_1),
@@ -123,7 +123,7 @@ const IN_CREATING: [Exchange; 27] = [
     (END_2, SUCCEEDED, NOT_FOUND, "{}"),
 ];
 
-const ENDED_IN_CREATING: [Change; 5] = [
+static ENDED_IN_CREATING: [Change; 5] = [
     (
         END_1,
         SUCCEEDED,
@@ -167,12 +167,12 @@ fn creating(rt: HostRuntime) -> Result<(), Fail> {
     each_in(rt.alloc(), &CREATING, &IN_CREATING, &ENDED_IN_CREATING)
 }
 
-const READY: [Exchange; 2] = [
+static READY: [Exchange; 2] = [
     (MAKE, LARGE, ACCEPTED, CREATE_1),
     (END_1, SUCCEEDED, OK, "{}"),
 ];
 
-const IN_READY: [Exchange; 38] = [
+static IN_READY: [Exchange; 38] = [
     (MAKE, LARGE, OK, "{}"),
     (MAKE_NOW, LARGE, OK, "{}"),
     (MAKE, THIS_VERSION, OK, "{}"),
@@ -216,7 +216,7 @@ const IN_READY: [Exchange; 38] = [
     (END_2, SUCCEEDED, NOT_FOUND, "{}"),
 ];
 
-const OPENED_IN_READY: [Change; 10] = [
+static OPENED_IN_READY: [Change; 10] = [
     (
         UPDATE,
         ONE,
@@ -295,12 +295,12 @@ fn ready(rt: HostRuntime) -> Result<(), Fail> {
     each_in(rt.alloc(), &READY, &IN_READY, &OPENED_IN_READY)
 }
 
-const CREATION_FAILED: [Exchange; 2] = [
+static CREATION_FAILED: [Exchange; 2] = [
     (MAKE, LARGE, ACCEPTED, CREATE_1),
     (END_1, FAILED_TOLD, OK, "{}"),
 ];
 
-const IN_FAILED: [Exchange; 21] = [
+static IN_FAILED: [Exchange; 21] = [
     (MAKE, LARGE, CONFLICT, "{}"),
     (MAKE, OTHER_SPACE, CONFLICT, "{}"),
     (MAKE_NOW, SMALL, CONFLICT, "{}"),
@@ -324,7 +324,7 @@ const IN_FAILED: [Exchange; 21] = [
     (END_2, SUCCEEDED, NOT_FOUND, "{}"),
 ];
 
-const OPENED_IN_FAILED: [Change; 1] = [(
+static OPENED_IN_FAILED: [Change; 1] = [(
     REMOVE,
     "",
     ACCEPTED,
@@ -337,13 +337,13 @@ fn failed(rt: HostRuntime) -> Result<(), Fail> {
     each_in(rt.alloc(), &CREATION_FAILED, &IN_FAILED, &OPENED_IN_FAILED)
 }
 
-const UPDATING: [Exchange; 3] = [
+static UPDATING: [Exchange; 3] = [
     (MAKE, LARGE, ACCEPTED, CREATE_1),
     (END_1, SUCCEEDED, OK, "{}"),
     (UPDATE, ONE, ACCEPTED, UPDATE_2),
 ];
 
-const IN_UPDATING: [Exchange; 25] = [
+static IN_UPDATING: [Exchange; 25] = [
     (MAKE, LARGE, OK, "{}"),
     (MAKE, OTHER_SPACE, CONFLICT, "{}"),
     // What the update is to bring doesn't stand yet.
@@ -377,7 +377,7 @@ const IN_UPDATING: [Exchange; 25] = [
     (END_3, SUCCEEDED, NOT_FOUND, "{}"),
 ];
 
-const ENDED_IN_UPDATING: [Change; 3] = [
+static ENDED_IN_UPDATING: [Change; 3] = [
     (
         END_2,
         SUCCEEDED,
@@ -407,14 +407,14 @@ fn updating(rt: HostRuntime) -> Result<(), Fail> {
 }
 
 /// Ready again, as it was.
-const UPDATE_FAILED: [Exchange; 4] = [
+static UPDATE_FAILED: [Exchange; 4] = [
     (MAKE, LARGE, ACCEPTED, CREATE_1),
     (END_1, SUCCEEDED, OK, "{}"),
     (UPDATE, ONE, ACCEPTED, UPDATE_2),
     (END_2, FAILED_TOLD, OK, "{}"),
 ];
 
-const AFTER_UPDATE_FAILED: [Exchange; 5] = [
+static AFTER_UPDATE_FAILED: [Exchange; 5] = [
     (MAKE, LARGE, OK, "{}"),
     (MAKE, OTHER_PARAMETERS, CONFLICT, "{}"),
     (FETCH, "", OK, LARGE_SHOWN),
@@ -422,7 +422,7 @@ const AFTER_UPDATE_FAILED: [Exchange; 5] = [
     (ASK, "", OK, FAILED_SHOWN),
 ];
 
-const OPENED_AFTER_UPDATE_FAILED: [Change; 3] = [
+static OPENED_AFTER_UPDATE_FAILED: [Change; 3] = [
     (
         UPDATE,
         ONE,
@@ -457,13 +457,13 @@ fn ready_after_a_failed_update(rt: HostRuntime) -> Result<(), Fail> {
 }
 
 /// The update is to bring another plan, which has no version.
-const CHANGING_PLAN: [Exchange; 3] = [
+static CHANGING_PLAN: [Exchange; 3] = [
     (MAKE, LARGE, ACCEPTED, CREATE_1),
     (END_1, SUCCEEDED, OK, "{}"),
     (UPDATE, OTHER_PLAN, ACCEPTED, UPDATE_2),
 ];
 
-const IN_CHANGING_PLAN: [Exchange; 9] = [
+static IN_CHANGING_PLAN: [Exchange; 9] = [
     (UPDATE, OTHER_PLAN, ACCEPTED, UPDATE_2),
     (UPDATE, CHANGE_WITH_NO_VERSION, ACCEPTED, UPDATE_2),
     (UPDATE_NOW, OTHER_PLAN, UNPROCESSABLE, ASYNC_REQUIRED),
@@ -480,7 +480,7 @@ const IN_CHANGING_PLAN: [Exchange; 9] = [
     ),
 ];
 
-const ENDED_IN_CHANGING_PLAN: [Change; 2] = [
+static ENDED_IN_CHANGING_PLAN: [Change; 2] = [
     (
         END_2,
         SUCCEEDED,
@@ -508,14 +508,14 @@ fn changing_the_plan(rt: HostRuntime) -> Result<(), Fail> {
 }
 
 /// What is done at once from then on, by the plan that stands.
-const PLAN_CHANGED: [Exchange; 4] = [
+static PLAN_CHANGED: [Exchange; 4] = [
     (MAKE, LARGE, ACCEPTED, CREATE_1),
     (END_1, SUCCEEDED, OK, "{}"),
     (UPDATE, OTHER_PLAN, ACCEPTED, UPDATE_2),
     (END_2, SUCCEEDED, OK, "{}"),
 ];
 
-const IN_PLAN_CHANGED: [Exchange; 7] = [
+static IN_PLAN_CHANGED: [Exchange; 7] = [
     (MAKE_NOW, SMALL, OK, "{}"),
     (MAKE, LARGE, CONFLICT, "{}"),
     (
@@ -530,7 +530,7 @@ const IN_PLAN_CHANGED: [Exchange; 7] = [
     (BIND_C_NOW, BINDING, BAD, MISMATCH),
 ];
 
-const DONE_IN_PLAN_CHANGED: [Change; 4] = [
+static DONE_IN_PLAN_CHANGED: [Change; 4] = [
     (
         UPDATE_NOW,
         ONE,
@@ -572,13 +572,13 @@ fn ready_with_another_plan(rt: HostRuntime) -> Result<(), Fail> {
     )
 }
 
-const DELETING: [Exchange; 3] = [
+static DELETING: [Exchange; 3] = [
     (MAKE, LARGE, ACCEPTED, CREATE_1),
     (END_1, SUCCEEDED, OK, "{}"),
     (REMOVE, "", ACCEPTED, DELETE_2),
 ];
 
-const IN_DELETING: [Exchange; 23] = [
+static IN_DELETING: [Exchange; 23] = [
     (MAKE, LARGE, UNPROCESSABLE, BUSY),
     (MAKE, OTHER_SPACE, UNPROCESSABLE, BUSY),
     (MAKE, OLD_VERSION, UNPROCESSABLE, OTHER_VERSION),
@@ -609,7 +609,7 @@ const IN_DELETING: [Exchange; 23] = [
     (END_3, SUCCEEDED, NOT_FOUND, "{}"),
 ];
 
-const ENDED_IN_DELETING: [Change; 3] = [
+static ENDED_IN_DELETING: [Change; 3] = [
     (
         END_2,
         SUCCEEDED,
@@ -638,20 +638,20 @@ fn deleting(rt: HostRuntime) -> Result<(), Fail> {
     each_in(rt.alloc(), &DELETING, &IN_DELETING, &ENDED_IN_DELETING)
 }
 
-const DELETION_FAILED: [Exchange; 4] = [
+static DELETION_FAILED: [Exchange; 4] = [
     (MAKE, LARGE, ACCEPTED, CREATE_1),
     (END_1, SUCCEEDED, OK, "{}"),
     (REMOVE, "", ACCEPTED, DELETE_2),
     (END_2, FAILED, OK, "{}"),
 ];
 
-const AFTER_DELETION_FAILED: [Exchange; 3] = [
+static AFTER_DELETION_FAILED: [Exchange; 3] = [
     (MAKE, LARGE, OK, "{}"),
     (FETCH, "", OK, LARGE_SHOWN),
     (ASK, "", OK, FAILED),
 ];
 
-const OPENED_AFTER_DELETION_FAILED: [Change; 3] = [
+static OPENED_AFTER_DELETION_FAILED: [Change; 3] = [
     (
         UPDATE,
         ONE,
@@ -686,13 +686,13 @@ fn ready_after_a_failed_deletion(rt: HostRuntime) -> Result<(), Fail> {
 }
 
 /// It was never made, and is being deleted.
-const FAILED_DELETING: [Exchange; 3] = [
+static FAILED_DELETING: [Exchange; 3] = [
     (MAKE, LARGE, ACCEPTED, CREATE_1),
     (END_1, FAILED, OK, "{}"),
     (REMOVE, "", ACCEPTED, DELETE_2),
 ];
 
-const IN_FAILED_DELETING: [Exchange; 13] = [
+static IN_FAILED_DELETING: [Exchange; 13] = [
     (MAKE, LARGE, UNPROCESSABLE, BUSY),
     (MAKE, OTHER_SPACE, UNPROCESSABLE, BUSY),
     (MAKE, OLD_VERSION, UNPROCESSABLE, OTHER_VERSION),
@@ -708,7 +708,7 @@ const IN_FAILED_DELETING: [Exchange; 13] = [
     (UNBIND_C, "", GONE, "{}"),
 ];
 
-const ENDED_IN_FAILED_DELETING: [Change; 2] = [
+static ENDED_IN_FAILED_DELETING: [Change; 2] = [
     (
         END_2,
         SUCCEEDED,
@@ -736,14 +736,14 @@ fn deleting_after_a_failed_creation(rt: HostRuntime) -> Result<(), Fail> {
 }
 
 /// Neither was it made nor could it be deleted.
-const BOTH_FAILED: [Exchange; 4] = [
+static BOTH_FAILED: [Exchange; 4] = [
     (MAKE, LARGE, ACCEPTED, CREATE_1),
     (END_1, FAILED, OK, "{}"),
     (REMOVE, "", ACCEPTED, DELETE_2),
     (END_2, FAILED, OK, "{}"),
 ];
 
-const AFTER_BOTH_FAILED: [Exchange; 5] = [
+static AFTER_BOTH_FAILED: [Exchange; 5] = [
     (MAKE, LARGE, CONFLICT, "{}"),
     (FETCH, "", NOT_FOUND, "{}"),
     (UPDATE, ONE, NOT_FOUND, "{}"),
@@ -751,7 +751,7 @@ const AFTER_BOTH_FAILED: [Exchange; 5] = [
     (BIND_C, BINDING, NOT_FOUND, "{}"),
 ];
 
-const OPENED_AFTER_BOTH_FAILED: [Change; 1] = [(
+static OPENED_AFTER_BOTH_FAILED: [Change; 1] = [(
     REMOVE,
     "",
     ACCEPTED,
@@ -769,14 +769,14 @@ fn failed_after_a_failed_deletion(rt: HostRuntime) -> Result<(), Fail> {
     )
 }
 
-const DELETED: [Exchange; 4] = [
+static DELETED: [Exchange; 4] = [
     (MAKE, LARGE, ACCEPTED, CREATE_1),
     (END_1, SUCCEEDED, OK, "{}"),
     (REMOVE, "", ACCEPTED, DELETE_2),
     (END_2, SUCCEEDED, OK, "{}"),
 ];
 
-const IN_DELETED: [Exchange; 13] = [
+static IN_DELETED: [Exchange; 13] = [
     (FETCH, "", NOT_FOUND, "{}"),
     (UPDATE, ONE, NOT_FOUND, "{}"),
     (REMOVE, "", GONE, "{}"),
@@ -792,7 +792,7 @@ const IN_DELETED: [Exchange; 13] = [
     (END_2, FAILED, CONFLICT, "{}"),
 ];
 
-const MADE_IN_DELETED: [Change; 2] = [
+static MADE_IN_DELETED: [Change; 2] = [
     (
         MAKE,
         LARGE,

@@ -2,7 +2,7 @@
 //! allow less.
 
 use super::asks::*;
-use super::{Change, Over, Phase, in_phases, in_phases_over};
+use super::{Change, Over, Phase, in_phases, in_phases_over, in_phases_with};
 use osb_catalog::Settings;
 use osb_records::{Records, open_memory};
 use sqlite::MemStore;
@@ -55,7 +55,7 @@ const ENDED_IN_FULL: [Change; 1] = [(
     "create-1 succeeded svc p-async o s {} 1.2.0 {} - - {}",
 )];
 
-const FULL_OF_ONE: [Phase; 2] = [
+static FULL_OF_ONE: [Phase; 2] = [
     (&MADE, &IN_FULL, &[]),
     (&CREATING, &IN_CREATING_AND_FULL, &ENDED_IN_FULL),
 ];
@@ -63,7 +63,9 @@ const FULL_OF_ONE: [Phase; 2] = [
 #[test]
 fn a_life_of_one_order(rt: HostRuntime) -> Result<(), Fail> {
     let settings = with_limit(rt.alloc(), 1)?;
-    in_phases(rt.alloc(), &settings, &FULL_OF_ONE)
+    let went = in_phases(rt.alloc(), &settings, &FULL_OF_ONE);
+    drop(settings);
+    went
 }
 
 const BOUND: [Exchange; 4] = [
@@ -116,33 +118,41 @@ const IN_BINDING_AND_FULL: [Exchange; 5] = [
     (UNBIND_C, "", UNPROCESSABLE, BUSY),
 ];
 
-const FULL_OF_TWO: [Phase; 3] = [
+static FULL_OF_TWO: [Phase; 3] = [
     (&BOUND, &IN_BOUND_AND_FULL, &[]),
     (&DELETED, &IN_DELETED_AND_FULL, &[]),
     (&BINDING_RUNS, &IN_BINDING_AND_FULL, &[]),
 ];
 
+/// Fails where an ask goes otherwise in a life of two orders, which came about over other settings or
+/// over the same.
+fn in_full_of_two(alloc: Global, before: &Settings, now: &Settings) -> Result<(), Fail> {
+    in_phases_over(alloc, Over { before, now }, &FULL_OF_TWO)
+}
+
 #[test]
 fn a_life_of_two_orders(rt: HostRuntime) -> Result<(), Fail> {
     let settings = with_limit(rt.alloc(), 2)?;
-    in_phases(rt.alloc(), &settings, &FULL_OF_TWO)
+    let went = in_full_of_two(rt.alloc(), &settings, &settings);
+    drop(settings);
+    went
 }
 
 /// Fails where one of these asks goes otherwise, once the limit became one.
 fn in_phases_beyond(alloc: Global, before: &Settings) -> Result<(), Fail> {
     let fewer = with_limit(alloc, 1)?;
-    let over = Over {
-        before,
-        now: &fewer,
-    };
-    in_phases_over(alloc, over, &FULL_OF_TWO)
+    let went = in_full_of_two(alloc, before, &fewer);
+    drop(fewer);
+    went
 }
 
 /// Lives of two orders stood there before.
 #[test]
 fn a_life_beyond_its_limit(rt: HostRuntime) -> Result<(), Fail> {
     let settings = built_in(rt.alloc())?;
-    in_phases_beyond(rt.alloc(), &settings)
+    let went = in_phases_beyond(rt.alloc(), &settings);
+    drop(settings);
+    went
 }
 
 const OTHER_SERVICE: &str =
@@ -233,7 +243,7 @@ fn with_another_service(alloc: Global) -> Result<Settings, Fail> {
     settings_with(alloc, "\"services\":[", services.as_str())
 }
 
-const ASKED_FOR_ANOTHER: [Phase; 7] = [
+static ASKED_FOR_ANOTHER: [Phase; 7] = [
     (&MADE, &IN_READY, &REMOVED_AS_OTHER),
     (&BOUND, &IN_BOUND, &UNBOUND_AS_OTHER),
     (&UPDATING, &IN_UPDATING, &[]),
@@ -246,7 +256,9 @@ const ASKED_FOR_ANOTHER: [Phase; 7] = [
 #[test]
 fn another_service(rt: HostRuntime) -> Result<(), Fail> {
     let settings = with_another_service(rt.alloc())?;
-    in_phases(rt.alloc(), &settings, &ASKED_FOR_ANOTHER)
+    let went = in_phases(rt.alloc(), &settings, &ASKED_FOR_ANOTHER);
+    drop(settings);
+    went
 }
 
 const IN_FIXED: [Exchange; 4] = [
@@ -270,7 +282,7 @@ const IN_FIXED_AND_BUSY: [Exchange; 2] = [
     (UPDATE, CHANGE_WITH_VERSION, UNPROCESSABLE, OTHER_VERSION),
 ];
 
-const FIXED: [Phase; 3] = [
+static FIXED: [Phase; 3] = [
     (&MADE, &IN_FIXED, &UPDATED_IN_FIXED),
     (&UPDATING, &IN_FIXED_AND_BUSY, &[]),
     (&BINDING_RUNS, &IN_FIXED_AND_BUSY, &[]),
@@ -278,12 +290,12 @@ const FIXED: [Phase; 3] = [
 
 #[test]
 fn a_plan_that_stays(rt: HostRuntime) -> Result<(), Fail> {
-    let settings = settings_with(
+    in_phases_with(
         rt.alloc(),
         "\"id\":\"p-async\",",
         "\"id\":\"p-async\",\"plan_updateable\":false,",
-    )?;
-    in_phases(rt.alloc(), &settings, &FIXED)
+        &FIXED,
+    )
 }
 
 /// What the plan doesn't allow comes before the room for it.
@@ -294,14 +306,16 @@ const IN_FIXED_AND_FULL: [Exchange; 4] = [
     (BIND_C, OTHER_PLAN, BAD, MISMATCH),
 ];
 
+static FIXED_AND_FULL: [Phase; 1] = [(&MADE, &IN_FIXED_AND_FULL, &[])];
+
 #[test]
 fn a_plan_that_stays_and_is_full(rt: HostRuntime) -> Result<(), Fail> {
-    let settings = settings_with(
+    in_phases_with(
         rt.alloc(),
         "\"1.2.0\"}}]}]},",
         "\"1.2.0\"},\"plan_updateable\":false,\"bindable\":false}]}]},\"orders_per_instance\":1,",
-    )?;
-    in_phases(rt.alloc(), &settings, &[(&MADE, &IN_FIXED_AND_FULL, &[])])
+        &FIXED_AND_FULL,
+    )
 }
 
 /// Where contexts may be updated.
@@ -336,7 +350,7 @@ const IN_OPEN_AND_UPDATING: [Exchange; 3] = [
     (UPDATE, ONE, ACCEPTED, UPDATE_2),
 ];
 
-const OPEN_TO_CONTEXTS: [Phase; 2] = [
+static OPEN_TO_CONTEXTS: [Phase; 2] = [
     (&MADE, &IN_OPEN_TO_CONTEXTS, &UPDATED_CONTEXTS),
     (&UPDATING, &IN_OPEN_AND_UPDATING, &[]),
 ];
@@ -346,6 +360,8 @@ const IN_CLOSED_AND_UPDATING: [Exchange; 2] = [
     (UPDATE, ONE_WITH_CONTEXT, ACCEPTED, UPDATE_2),
     (UPDATE, CONTEXT, UNPROCESSABLE, BUSY),
 ];
+
+static CLOSED_TO_CONTEXTS: [Phase; 1] = [(&UPDATING, &IN_CLOSED_AND_UPDATING, &[])];
 
 /// The settings with another service that allows contexts to be updated.
 fn with_another_open(alloc: Global) -> Result<Settings, Fail> {
@@ -361,22 +377,20 @@ fn with_another_open(alloc: Global) -> Result<Settings, Fail> {
 
 #[test]
 fn contexts_of_a_service(rt: HostRuntime) -> Result<(), Fail> {
-    let settings = settings_with(
+    in_phases_with(
         rt.alloc(),
         "\"bindable\":true,",
         "\"bindable\":true,\"allow_context_updates\":true,",
-    )?;
-    in_phases(rt.alloc(), &settings, &OPEN_TO_CONTEXTS)
+        &OPEN_TO_CONTEXTS,
+    )
 }
 
 #[test]
 fn contexts_of_another_service(rt: HostRuntime) -> Result<(), Fail> {
     let settings = with_another_open(rt.alloc())?;
-    in_phases(
-        rt.alloc(),
-        &settings,
-        &[(&UPDATING, &IN_CLOSED_AND_UPDATING, &[])],
-    )
+    let went = in_phases(rt.alloc(), &settings, &CLOSED_TO_CONTEXTS);
+    drop(settings);
+    went
 }
 
 /// Objects with the same members in another order, and with spaces.
@@ -393,7 +407,7 @@ const BINDING_TO_BOTH_AGAIN: &str =
     r#"{"service_id":"svc","plan_id":"p-async","bind_resource":{"c":3,"d":4},"parameters":{"a":1,"b":2}}"#;
 
 /// Objects are compared as values, also of an update and of a binding.
-const COMPARED: [Exchange; 9] = [
+static COMPARED: [Exchange; 9] = [
     (MAKE, LARGE, ACCEPTED, CREATE_1),
     (END_1, SUCCEEDED, OK, "{}"),
     (UPDATE, UPDATE_TO_BOTH, ACCEPTED, UPDATE_2),
@@ -407,12 +421,12 @@ const COMPARED: [Exchange; 9] = [
 
 #[test]
 fn objects_are_compared_as_values(rt: HostRuntime) -> Result<(), Fail> {
-    let settings = settings_with(
+    goes_with(
         rt.alloc(),
         "\"bindable\":true,",
         "\"bindable\":true,\"allow_context_updates\":true,",
-    )?;
-    goes_over(rt.alloc(), &settings, &COMPARED)
+        &COMPARED,
+    )
 }
 
 const IN_UNBINDABLE: [Exchange; 4] = [
@@ -422,14 +436,16 @@ const IN_UNBINDABLE: [Exchange; 4] = [
     (UNBIND_C, "", GONE, "{}"),
 ];
 
+static UNBINDABLE: [Phase; 1] = [(&MADE, &IN_UNBINDABLE, &[])];
+
 #[test]
 fn a_plan_without_bindings(rt: HostRuntime) -> Result<(), Fail> {
-    let settings = settings_with(
+    in_phases_with(
         rt.alloc(),
         "\"id\":\"p-async\",",
         "\"id\":\"p-async\",\"bindable\":false,",
-    )?;
-    in_phases(rt.alloc(), &settings, &[(&MADE, &IN_UNBINDABLE, &[])])
+        &UNBINDABLE,
+    )
 }
 
 /// An instance whose plan does at once what is asked of it.
@@ -504,7 +520,7 @@ const UNBOUND_AT_ONCE: [Change; 1] = [(
 
 const OF_THE_PLAN: &str = r#"{"state":"succeeded","credentials":{"uri":"mem:1"}}"#;
 
-const AT_ONCE: [Phase; 2] = [
+static AT_ONCE: [Phase; 2] = [
     (&MADE_AT_ONCE, &IN_MADE_AT_ONCE, &DONE_AT_ONCE),
     (&BOUND_AT_ONCE, &IN_BOUND_AT_ONCE, &UNBOUND_AT_ONCE),
 ];
@@ -512,11 +528,13 @@ const AT_ONCE: [Phase; 2] = [
 #[test]
 fn at_once(rt: HostRuntime) -> Result<(), Fail> {
     let settings = built_in(rt.alloc())?;
-    in_phases(rt.alloc(), &settings, &AT_ONCE)
+    let went = in_phases(rt.alloc(), &settings, &AT_ONCE);
+    drop(settings);
+    went
 }
 
 /// Only what is done to the instance itself takes its time.
-const BINDINGS_AT_ONCE: [Exchange; 6] = [
+static BINDINGS_AT_ONCE: [Exchange; 6] = [
     (MAKE, LARGE, ACCEPTED, CREATE_1),
     (END_1, SUCCEEDED, OK, "{}"),
     (BIND_C_NOW, BINDING, CREATED, r#"{"credentials":{}}"#),
@@ -526,7 +544,7 @@ const BINDINGS_AT_ONCE: [Exchange; 6] = [
 ];
 
 /// Only what is done to its bindings does.
-const INSTANCES_AT_ONCE: [Exchange; 8] = [
+static INSTANCES_AT_ONCE: [Exchange; 8] = [
     (MAKE_NOW, LARGE, CREATED, "{}"),
     (BIND_C_NOW, BINDING, UNPROCESSABLE, ASYNC_REQUIRED),
     (BIND_C, BINDING, ACCEPTED, BIND_2),
@@ -537,23 +555,36 @@ const INSTANCES_AT_ONCE: [Exchange; 8] = [
     (REMOVE_NOW, "", UNPROCESSABLE, BUSY),
 ];
 
-/// Fails where one of these exchanges goes otherwise over the settings without this text.
-fn goes_without(alloc: Global, text: &str, exchanges: &[Exchange]) -> Result<(), Fail> {
-    let settings = settings_with(alloc, text, "")?;
-    goes_over(alloc, &settings, exchanges)
+/// Fails where one of these exchanges goes otherwise over the built-in settings with one text in the
+/// place of another.
+fn goes_with(alloc: Global, from: &str, to: &str, exchanges: &[Exchange]) -> Result<(), Fail> {
+    let settings = settings_with(alloc, from, to)?;
+    let went = goes_over(alloc, &settings, exchanges);
+    drop(settings);
+    went
 }
 
 #[test]
 fn modes_of_bindings_and_of_instances(rt: HostRuntime) -> Result<(), Fail> {
     let alloc = rt.alloc();
-    goes_without(alloc, ",\"bindings\":\"asynchronous\"", &BINDINGS_AT_ONCE)?;
-    goes_without(alloc, "\"instances\":\"asynchronous\",", &INSTANCES_AT_ONCE)
+    goes_with(
+        alloc,
+        ",\"bindings\":\"asynchronous\"",
+        "",
+        &BINDINGS_AT_ONCE,
+    )?;
+    goes_with(
+        alloc,
+        "\"instances\":\"asynchronous\",",
+        "",
+        &INSTANCES_AT_ONCE,
+    )
 }
 
 const UPDATE_TO_NEW: &str = r#"{"service_id":"svc","maintenance_info":{"version":"1.3.0"}}"#;
 
 /// What stands under another version of its plan: without a version an update keeps the old one.
-const IN_NEW_CATALOG: [Exchange; 10] = [
+static IN_NEW_CATALOG: [Exchange; 10] = [
     (MAKE, LARGE, OK, "{}"),
     (MAKE, THIS_VERSION, UNPROCESSABLE, OTHER_VERSION),
     (UPDATE_NOW, NOTHING, OK, "{}"),
@@ -581,16 +612,29 @@ const IN_NEW_CATALOG: [Exchange; 10] = [
     (UPDATE, NOTHING, UNPROCESSABLE, BUSY),
 ];
 
+fn made_over(alloc: Global, settings: &Settings) -> Result<Records<MemStore>, Fail> {
+    after_all(alloc, settings, open_memory(alloc)?, &MADE)
+}
+
 /// The records once an instance is made over the built-in settings.
 fn made(alloc: Global) -> Result<Records<MemStore>, Fail> {
     let settings = built_in(alloc)?;
-    after_all(alloc, &settings, open_memory(alloc)?, &MADE)
+    let made = made_over(alloc, &settings);
+    drop(settings);
+    made
+}
+
+/// Fails where one of these exchanges goes otherwise over these settings, once an instance was made.
+fn goes_once_made(alloc: Global, settings: &Settings, exchanges: &[Exchange]) -> Result<(), Fail> {
+    let records = after_all(alloc, settings, made(alloc)?, exchanges)?;
+    drop(records);
+    Ok(())
 }
 
 #[test]
 fn another_version_in_the_catalog(rt: HostRuntime) -> Result<(), Fail> {
     let settings = settings_with(rt.alloc(), "1.2.0", "1.3.0")?;
-    let records = made(rt.alloc())?;
-    after_all(rt.alloc(), &settings, records, &IN_NEW_CATALOG)?;
-    Ok(())
+    let went = goes_once_made(rt.alloc(), &settings, &IN_NEW_CATALOG);
+    drop(settings);
+    went
 }

@@ -16,7 +16,7 @@ use tests_support::lives::{Life, is_life};
 use tests_support::replies::ACCEPTED;
 use tests_support::serving::after_all;
 
-pub(crate) const SENT_AGAIN: [Exchange; 7] = [
+pub(crate) static SENT_AGAIN: [Exchange; 7] = [
     CREATION,
     CREATION,
     CREATION,
@@ -26,7 +26,7 @@ pub(crate) const SENT_AGAIN: [Exchange; 7] = [
     UPDATE,
 ];
 
-const WITHOUT_REPEATS: [Exchange; 3] = [CREATION, CREATION_ENDS, UPDATE];
+static WITHOUT_REPEATS: [Exchange; 3] = [CREATION, CREATION_ENDS, UPDATE];
 
 /// Asks for another instance.
 const OF_ANOTHER: Exchange = (
@@ -36,7 +36,7 @@ const OF_ANOTHER: Exchange = (
     CREATE_1,
 );
 
-const AMONG_OTHERS: [Exchange; 13] = [
+static AMONG_OTHERS: [Exchange; 13] = [
     CREATION,
     OF_ANOTHER,
     CREATION,
@@ -79,7 +79,9 @@ fn life_over(
 /// The same over the built-in settings.
 fn life_after(alloc: Global, exchanges: &[Exchange]) -> Result<Vec<Order>, Fail> {
     let settings = built_in(alloc)?;
-    life_over(alloc, &settings, exchanges)
+    let life = life_over(alloc, &settings, exchanges);
+    drop(settings);
+    life
 }
 
 /// Whether these exchanges leave the life that the three without repeats leave.

@@ -15,7 +15,7 @@ fn async_binding(rt: HostRuntime) -> Result<(), Fail> {
     goes(rt.alloc(), &ASYNC_BINDING)
 }
 
-pub(crate) const FAILED_BINDING: [Exchange; 10] = [
+pub(crate) static FAILED_BINDING: [Exchange; 10] = [
     (PUT_LATER, ASYNC, ACCEPTED, CREATE_1),
     (REPORT_1, SUCCEEDED, OK, "{}"),
     (BIND_LATER, TO_ASYNC, ACCEPTED, BIND_2),
@@ -33,7 +33,7 @@ fn failed_binding(rt: HostRuntime) -> Result<(), Fail> {
     goes(rt.alloc(), &FAILED_BINDING)
 }
 
-pub(crate) const SYNC_BINDING: [Exchange; 9] = [
+pub(crate) static SYNC_BINDING: [Exchange; 9] = [
     (PUT, SYNC, CREATED, "{}"),
     (BIND, TO_SYNC, CREATED, MEMORY_1),
     (BIND, TO_SYNC, OK, MEMORY_1),
@@ -65,7 +65,7 @@ const GET_C: &str = "GET /v2/service_instances/i/service_bindings/c";
 const UNBIND_C: &str =
     "DELETE /v2/service_instances/i/service_bindings/c?service_id=svc&plan_id=p-sync";
 
-pub(crate) const TWO_BINDINGS: [Exchange; 14] = [
+pub(crate) static TWO_BINDINGS: [Exchange; 14] = [
     (PUT, SYNC, CREATED, "{}"),
     (BIND, TO_SYNC, CREATED, MEMORY_1),
     (
@@ -121,7 +121,7 @@ const WITH_ALL: &str =
     r#"{"service_id":"svc","plan_id":"p-async","app_guid":"x","bind_resource":{"r":1},"parameters":{"n":1}}"#;
 
 /// The second binding of that id has nothing of the first, whose orders can still be polled.
-pub(crate) const BOUND_AGAIN: [Exchange; 16] = [
+pub(crate) static BOUND_AGAIN: [Exchange; 16] = [
     (PUT_LATER, ASYNC, ACCEPTED, CREATE_1),
     (REPORT_1, SUCCEEDED, OK, "{}"),
     (BIND_LATER, WITH_ALL, ACCEPTED, BIND_2),
@@ -181,7 +181,7 @@ fn bound_again(rt: HostRuntime) -> Result<(), Fail> {
 }
 
 /// A binding keeps its plan, and goes by the mode of the one that the instance has by now.
-pub(crate) const PLAN_CHANGED_UNDER_IT: [Exchange; 9] = [
+pub(crate) static PLAN_CHANGED_UNDER_IT: [Exchange; 9] = [
     (PUT, SYNC, CREATED, "{}"),
     (BIND, TO_SYNC, CREATED, MEMORY_1),
     (PATCH, TO_ASYNC, OK, "{}"),
@@ -213,7 +213,7 @@ fn plan_changed_under_a_binding(rt: HostRuntime) -> Result<(), Fail> {
     goes(rt.alloc(), &PLAN_CHANGED_UNDER_IT)
 }
 
-pub(crate) const UNBINDABLE: [Exchange; 2] = [
+pub(crate) static UNBINDABLE: [Exchange; 2] = [
     (PUT, SYNC, CREATED, "{}"),
     (BIND, TO_SYNC, BAD, NOT_BINDABLE),
 ];
@@ -230,5 +230,7 @@ pub(crate) fn without_bindings(alloc: Global) -> Result<Settings, Fail> {
 #[test]
 fn a_plan_that_is_not_bindable(rt: HostRuntime) -> Result<(), Fail> {
     let settings = without_bindings(rt.alloc())?;
-    goes_over(rt.alloc(), &settings, &UNBINDABLE)
+    let went = goes_over(rt.alloc(), &settings, &UNBINDABLE);
+    drop(settings);
+    went
 }

@@ -56,7 +56,7 @@ pub(crate) fn with_updates(alloc: Global) -> Result<Settings, Fail> {
 
 /// The context of a creation is kept and shown to the backend. Another one makes no other request, and
 /// changes nothing.
-pub(crate) const KEPT: [Exchange; 10] = [
+pub(crate) static KEPT: [Exchange; 10] = [
     (PUT_LATER, WITH_X, ACCEPTED, CREATE_1),
     (PUT_LATER, WITH_Y, ACCEPTED, CREATE_1),
     (PUT_LATER, ASYNC, ACCEPTED, CREATE_1),
@@ -75,7 +75,7 @@ fn context_kept(rt: HostRuntime) -> Result<(), Fail> {
 }
 
 /// Where the service allows it, a context alone is an update. One that fails leaves the context.
-pub(crate) const UPDATED: [Exchange; 18] = [
+pub(crate) static UPDATED: [Exchange; 18] = [
     (PUT_LATER, WITH_X, ACCEPTED, CREATE_1),
     (PUT_LATER, WITH_Y, ACCEPTED, CREATE_1),
     CREATION_WITH_X,
@@ -109,11 +109,13 @@ pub(crate) const UPDATED: [Exchange; 18] = [
 #[test]
 fn context_updated(rt: HostRuntime) -> Result<(), Fail> {
     let settings = with_updates(rt.alloc())?;
-    goes_over(rt.alloc(), &settings, &UPDATED)
+    let went = goes_over(rt.alloc(), &settings, &UPDATED);
+    drop(settings);
+    went
 }
 
 /// The empty context is one as well, and an update without a context keeps the one that stands.
-pub(crate) const EMPTIED: [Exchange; 8] = [
+pub(crate) static EMPTIED: [Exchange; 8] = [
     (PUT_LATER, WITH_X, ACCEPTED, CREATE_1),
     CREATION_ENDS,
     UPDATE,
@@ -137,11 +139,13 @@ pub(crate) const EMPTIED: [Exchange; 8] = [
 #[test]
 fn context_emptied(rt: HostRuntime) -> Result<(), Fail> {
     let settings = with_updates(rt.alloc())?;
-    goes_over(rt.alloc(), &settings, &EMPTIED)
+    let went = goes_over(rt.alloc(), &settings, &EMPTIED);
+    drop(settings);
+    went
 }
 
 /// Where the service doesn't allow it, an update has the context that stands, whichever it was sent with.
-pub(crate) const NOT_ALLOWED: [Exchange; 9] = [
+pub(crate) static NOT_ALLOWED: [Exchange; 9] = [
     (PUT_LATER, WITH_X, ACCEPTED, CREATE_1),
     CREATION_ENDS,
     (PATCH_LATER, TO_Y_AND_1, ACCEPTED, UPDATE_2),
@@ -171,7 +175,7 @@ const BINDING_WITH_Z: &str =
 
 /// A binding has the context of its request, an unbinding has none, and a deletion that of the instance.
 /// A new instance has nothing of the one before.
-pub(crate) const OF_BINDINGS: [Exchange; 17] = [
+pub(crate) static OF_BINDINGS: [Exchange; 17] = [
     (PUT_LATER, WITH_X, ACCEPTED, CREATE_1),
     CREATION_ENDS,
     (BIND_LATER, BINDING_WITH_Y, ACCEPTED, BIND_2),
@@ -218,7 +222,7 @@ const EMPTY: &str =
     r#"{"service_id":"svc","plan_id":"p-async","organization_guid":"o","space_guid":"s","context":{ }}"#;
 
 /// An empty context isn't shown, and any other is shown as its compact text.
-pub(crate) const SHOWN: [Exchange; 4] = [
+pub(crate) static SHOWN: [Exchange; 4] = [
     (
         "PUT /v2/service_instances/j?accepts_incomplete=true",
         EMPTY,
@@ -249,7 +253,7 @@ const SYNC_WITH_X: &str =
     r#"{"service_id":"svc","plan_id":"p-sync","organization_guid":"o","space_guid":"s","context":{"platform":"x"}}"#;
 
 /// What is done at once keeps its context as well.
-pub(crate) const AT_ONCE: [Exchange; 4] = [
+pub(crate) static AT_ONCE: [Exchange; 4] = [
     (PUT, SYNC_WITH_X, CREATED, "{}"),
     (PATCH, TO_ASYNC, OK, "{}"),
     (DELETE_LATER, "", ACCEPTED, DELETE_3),
@@ -262,7 +266,7 @@ pub(crate) const AT_ONCE: [Exchange; 4] = [
 ];
 
 /// So does an update that is done at once, where the service allows it.
-pub(crate) const UPDATED_AT_ONCE: [Exchange; 5] = [
+pub(crate) static UPDATED_AT_ONCE: [Exchange; 5] = [
     (PUT, SYNC_WITH_X, CREATED, "{}"),
     (PATCH, TO_Y, OK, "{}"),
     (PATCH, TO_ASYNC, OK, "{}"),
@@ -279,7 +283,9 @@ pub(crate) const UPDATED_AT_ONCE: [Exchange; 5] = [
 fn contexts_at_once(rt: HostRuntime) -> Result<(), Fail> {
     goes(rt.alloc(), &AT_ONCE)?;
     let settings = with_updates(rt.alloc())?;
-    goes_over(rt.alloc(), &settings, &UPDATED_AT_ONCE)
+    let went = goes_over(rt.alloc(), &settings, &UPDATED_AT_ONCE);
+    drop(settings);
+    went
 }
 
 /// The context whose creation has a body of the largest size.
@@ -318,27 +324,47 @@ fn written(
     connections: &[Vec<u8>],
 ) -> Result<Vec<Vec<u8>>, Fail> {
     let mut broker = new_broker(alloc, settings, 1)?;
-    Ok(broker.serve_all(connections)?)
+    let written = broker.serve_all(connections);
+    drop(broker);
+    Ok(written?)
+}
+
+/// The body of its creation.
+fn large_creation(alloc: Global, context: &str) -> Result<String, Fail> {
+    let start = ASYNC.strip_suffix("}").ok_or("no object")?;
+    Ok(format!(in alloc; "{start},\"context\":{context}}}")?)
+}
+
+/// What is written to its requests.
+fn written_of_large(alloc: Global, settings: &Settings, body: &str) -> Result<Vec<Vec<u8>>, Fail> {
+    let connections = large_requests(alloc, body)?;
+    written(alloc, settings, connections.as_slice())
+}
+
+/// Whether the listings show an order with the context.
+fn show(alloc: Global, outputs: &[Vec<u8>], context: &str) -> Result<bool, Fail> {
+    match outputs {
+        [_, first, _, _, last] => Ok(
+            *first == listing_with(alloc, context, "create", 1)?
+                && *last == listing_with(alloc, context, "delete", 2)?,
+        ),
+        _ => Ok(false),
+    }
 }
 
 /// Whether the creation's context is shown with it and with the deletion.
 fn shows_large(alloc: Global, settings: &Settings) -> Result<bool, Fail> {
     let context = large_context(alloc)?;
-    let start = ASYNC.strip_suffix("}").ok_or("no object")?;
-    let body = format!(in alloc; "{start},\"context\":{context}}}")?;
-    let connections = large_requests(alloc, body.as_str())?;
-    let outputs = written(alloc, settings, connections.as_slice())?;
-    let created = listing_with(alloc, context.as_str(), "create", 1)?;
-    let deleted = listing_with(alloc, context.as_str(), "delete", 2)?;
-    Ok(match outputs.as_slice() {
-        [_, first, _, _, last] => body.len() == 262_144 && *first == created && *last == deleted,
-        _ => false,
-    })
+    let body = large_creation(alloc, context.as_str())?;
+    let outputs = written_of_large(alloc, settings, body.as_str())?;
+    Ok(body.len() == 262_144 && show(alloc, outputs.as_slice(), context.as_str())?)
 }
 
 #[test]
 fn a_large_context(rt: HostRuntime) -> Result<(), Fail> {
     let settings = built_in(rt.alloc())?;
-    assert!(rt; shows_large(rt.alloc(), &settings)?);
+    let shows = shows_large(rt.alloc(), &settings);
+    drop(settings);
+    assert!(rt; shows?);
     Ok(())
 }

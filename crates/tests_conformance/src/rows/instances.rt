@@ -23,7 +23,7 @@ const KNOWN_WITH_PARAMETERS: Exchange = (
     "{}",
 );
 
-pub(crate) const PARAMETERS_CANONICAL: [Exchange; 2] = [
+pub(crate) static PARAMETERS_CANONICAL: [Exchange; 2] = [
     CREATED_WITH_PARAMETERS,
     KNOWN_WITH_PARAMETERS,
 ];
@@ -33,7 +33,7 @@ fn parameters_canonical(rt: HostRuntime) -> Result<(), Fail> {
     goes(rt.alloc(), &PARAMETERS_CANONICAL)
 }
 
-pub(crate) const PARAMETERS_DIFFER: [Exchange; 3] = [
+pub(crate) static PARAMETERS_DIFFER: [Exchange; 3] = [
     CREATED_WITH_PARAMETERS,
     KNOWN_WITH_PARAMETERS,
     (
@@ -49,7 +49,7 @@ fn parameters_differ(rt: HostRuntime) -> Result<(), Fail> {
     goes(rt.alloc(), &PARAMETERS_DIFFER)
 }
 
-pub(crate) const ASYNC_ASKED: [Exchange; 4] = [
+pub(crate) static ASYNC_ASKED: [Exchange; 4] = [
     (PUT, ASYNC, UNPROCESSABLE, ASYNC_REQUIRED),
     (PUT_LATER, ASYNC, ACCEPTED, CREATE_1),
     (PUT_LATER, ASYNC, ACCEPTED, CREATE_1),
@@ -61,7 +61,7 @@ fn async_required(rt: HostRuntime) -> Result<(), Fail> {
     goes(rt.alloc(), &ASYNC_ASKED)
 }
 
-pub(crate) const POLL_AND_REPORT: [Exchange; 9] = [
+pub(crate) static POLL_AND_REPORT: [Exchange; 9] = [
     (PUT_LATER, ASYNC, ACCEPTED, CREATE_1),
     (
         "GET /v2/service_instances/i/last_operation?operation=create-1",
@@ -93,7 +93,7 @@ fn poll_and_report(rt: HostRuntime) -> Result<(), Fail> {
     goes(rt.alloc(), &POLL_AND_REPORT)
 }
 
-pub(crate) const FAILED_CREATE: [Exchange; 9] = [
+pub(crate) static FAILED_CREATE: [Exchange; 9] = [
     (PUT_LATER, ASYNC, ACCEPTED, CREATE_1),
     (
         REPORT_1,
@@ -128,7 +128,7 @@ pub(crate) const UPDATE: Exchange = (PATCH_LATER, UPDATE_TO_1, ACCEPTED, UPDATE_
 
 const OTHER_UPDATE: Exchange = (PATCH_LATER, UPDATE_TO_2, UNPROCESSABLE, BUSY);
 
-pub(crate) const UPDATE_RUNNING: [Exchange; 7] = [
+pub(crate) static UPDATE_RUNNING: [Exchange; 7] = [
     CREATION,
     CREATION_ENDS,
     UPDATE,
@@ -143,7 +143,7 @@ fn update_running(rt: HostRuntime) -> Result<(), Fail> {
     goes(rt.alloc(), &UPDATE_RUNNING)
 }
 
-pub(crate) const UPDATE_FAILED: [Exchange; 12] = [
+pub(crate) static UPDATE_FAILED: [Exchange; 12] = [
     CREATION,
     CREATION_ENDS,
     UPDATE,
@@ -178,7 +178,7 @@ fn update_failed(rt: HostRuntime) -> Result<(), Fail> {
     goes(rt.alloc(), &UPDATE_FAILED)
 }
 
-pub(crate) const MAINTENANCE_CONFLICT: [Exchange; 3] = [
+pub(crate) static MAINTENANCE_CONFLICT: [Exchange; 3] = [
     (
         PUT_LATER,
         r#"{"service_id":"svc","plan_id":"p-async","organization_guid":"o","space_guid":"s","maintenance_info":{"version":"1.1.0"}}"#,
@@ -199,7 +199,7 @@ fn maintenance_conflict(rt: HostRuntime) -> Result<(), Fail> {
     goes(rt.alloc(), &MAINTENANCE_CONFLICT)
 }
 
-pub(crate) const VERSION_OF_ITS_PLAN: [Exchange; 3] = [
+pub(crate) static VERSION_OF_ITS_PLAN: [Exchange; 3] = [
     (PUT, SYNC, CREATED, "{}"),
     (
         PATCH,
@@ -220,7 +220,7 @@ fn a_version_goes_with_its_plan(rt: HostRuntime) -> Result<(), Fail> {
     goes(rt.alloc(), &VERSION_OF_ITS_PLAN)
 }
 
-pub(crate) const PLAN_CHANGED: [Exchange; 8] = [
+pub(crate) static PLAN_CHANGED: [Exchange; 8] = [
     (PUT, SYNC, CREATED, "{}"),
     (PATCH, TO_ASYNC, OK, "{}"),
     (
@@ -260,7 +260,7 @@ const SYNC_WITH_2: &str =
     r#"{"service_id":"svc","plan_id":"p-sync","organization_guid":"o","space_guid":"s","parameters":{"n":2}}"#;
 
 /// The last update counts, and all that follows goes by it.
-pub(crate) const UPDATED_TWICE: [Exchange; 11] = [
+pub(crate) static UPDATED_TWICE: [Exchange; 11] = [
     (PUT, SYNC, CREATED, "{}"),
     (PATCH, UPDATE_TO_1, OK, "{}"),
     (PATCH, UPDATE_TO_2, OK, "{}"),
@@ -296,7 +296,7 @@ fn updated_twice(rt: HostRuntime) -> Result<(), Fail> {
 }
 
 /// The second instance of that id has nothing of the first, whose orders can still be polled.
-pub(crate) const MADE_AGAIN: [Exchange; 14] = [
+pub(crate) static MADE_AGAIN: [Exchange; 14] = [
     (PUT, SYNC, CREATED, "{}"),
     (PATCH, UPDATE_TO_1, OK, "{}"),
     (BIND, TO_SYNC, CREATED, MEMORY_1),
@@ -333,7 +333,7 @@ fn made_again(rt: HostRuntime) -> Result<(), Fail> {
     goes(rt.alloc(), &MADE_AGAIN)
 }
 
-pub(crate) const DESCRIBED: [Exchange; 3] = [
+pub(crate) static DESCRIBED: [Exchange; 3] = [
     (PUT_LATER, ASYNC, ACCEPTED, CREATE_1),
     (
         REPORT_1,
@@ -354,7 +354,7 @@ fn a_description_is_quoted(rt: HostRuntime) -> Result<(), Fail> {
     goes(rt.alloc(), &DESCRIBED)
 }
 
-pub(crate) const ORDER_LIMIT: [Exchange; 4] = [
+pub(crate) static ORDER_LIMIT: [Exchange; 4] = [
     (PUT, SYNC, CREATED, "{}"),
     (PATCH, UPDATE_TO_1, UNPROCESSABLE, FULL),
     (PUT, SYNC, OK, "{}"),
@@ -369,10 +369,12 @@ pub(crate) fn with_one_order(alloc: Global) -> Result<Settings, Fail> {
 #[test]
 fn order_limit(rt: HostRuntime) -> Result<(), Fail> {
     let settings = with_one_order(rt.alloc())?;
-    goes_over(rt.alloc(), &settings, &ORDER_LIMIT)
+    let went = goes_over(rt.alloc(), &settings, &ORDER_LIMIT);
+    drop(settings);
+    went
 }
 
-pub(crate) const FAILED_DELETION: [Exchange; 7] = [
+pub(crate) static FAILED_DELETION: [Exchange; 7] = [
     (PUT_LATER, ASYNC, ACCEPTED, CREATE_1),
     (REPORT_1, SUCCEEDED, OK, "{}"),
     (DELETE_LATER, "", ACCEPTED, r#"{"operation":"delete-2"}"#),
@@ -392,7 +394,7 @@ fn failed_deletion(rt: HostRuntime) -> Result<(), Fail> {
     goes(rt.alloc(), &FAILED_DELETION)
 }
 
-pub(crate) const FIXED_PLAN: [Exchange; 4] = [
+pub(crate) static FIXED_PLAN: [Exchange; 4] = [
     (PUT, SYNC, CREATED, "{}"),
     (PATCH, TO_ASYNC, UNPROCESSABLE, NO_PLAN_CHANGE),
     (PATCH, TO_SYNC, OK, "{}"),
@@ -412,11 +414,13 @@ pub(crate) fn with_fixed_plan(alloc: Global) -> Result<Settings, Fail> {
 #[test]
 fn a_plan_that_cannot_be_changed(rt: HostRuntime) -> Result<(), Fail> {
     let settings = with_fixed_plan(rt.alloc())?;
-    goes_over(rt.alloc(), &settings, &FIXED_PLAN)
+    let went = goes_over(rt.alloc(), &settings, &FIXED_PLAN);
+    drop(settings);
+    went
 }
 
 // One instance that is busy doesn't make another so.
-pub(crate) const APART: [Exchange; 5] = [
+pub(crate) static APART: [Exchange; 5] = [
     (PUT_LATER, ASYNC, ACCEPTED, CREATE_1),
     ("PUT /v2/service_instances/j", SYNC, CREATED, "{}"),
     (

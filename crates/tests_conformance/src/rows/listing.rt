@@ -53,14 +53,18 @@ fn served(
     connections: &[Vec<u8>],
 ) -> Result<Vec<Vec<u8>>, Fail> {
     let mut broker = new_broker(alloc, settings, 1)?;
-    Ok(broker.serve_all(connections)?)
+    let served = broker.serve_all(connections);
+    drop(broker);
+    Ok(served?)
 }
 
 /// What is written to the requests.
 fn outputs(alloc: Global) -> Result<Vec<Vec<u8>>, Fail> {
-    let settings = built_in(alloc)?;
     let connections = requests(alloc)?;
-    served(alloc, &settings, connections.as_slice())
+    let settings = built_in(alloc)?;
+    let outputs = served(alloc, &settings, connections.as_slice());
+    drop(settings);
+    outputs
 }
 
 /// Whether the listing has these orders.
@@ -99,7 +103,7 @@ fn a_hundred_orders_and_one(rt: HostRuntime) -> Result<(), Fail> {
 }
 
 /// Instances are listed by the bytes of their ids, whichever came first.
-const OUT_OF_ORDER: [Exchange; 7] = [
+static OUT_OF_ORDER: [Exchange; 7] = [
     (
         "PUT /v2/service_instances/z?accepts_incomplete=true",
         ASYNC,

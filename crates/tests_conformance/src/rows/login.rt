@@ -10,7 +10,7 @@ const CATALOG: &str =
     r#"{"services":[{"bindable":true,"bindings_retrievable":true,"description":"Key store","id":"svc","name":"store","plan_updateable":true,"plans":[{"description":"At once","id":"p-sync","name":"small"},{"description":"Later","id":"p-async","maintenance_info":{"version":"1.2.0"},"name":"large"}]}]}"#;
 
 /// A target, the lines of a GET of it, and the status line and the body that answer it.
-const AUTH_AND_VERSION: [Exchange; 10] = [
+static AUTH_AND_VERSION: [Exchange; 10] = [
     (
         "/v1/catalog",
         "X-Broker-API-Version: 2.17\r\nAuthorization: Basic d3Jvbmc6d3Jvbmc=\r\n",
@@ -84,8 +84,8 @@ fn opens(alloc: Global, door: Exchange) -> Result<(), Fail> {
 
 #[test]
 fn auth_and_version(rt: HostRuntime) -> Result<(), Fail> {
-    for door in AUTH_AND_VERSION {
-        opens(rt.alloc(), door)?;
+    for door in &AUTH_AND_VERSION {
+        opens(rt.alloc(), *door)?;
     }
     Ok(())
 }

@@ -31,7 +31,10 @@ fn fault_over(
     records: Records<MemStore>,
 ) -> Result<(NewFault, Records<MemStore>), Fail> {
     match Broker::new(alloc, settings, records, 1) {
-        Ok(_) => Err("a broker")?,
+        Ok(broker) => {
+            drop(broker);
+            Err("a broker")?
+        }
         Err(fault) => Ok(fault),
     }
 }
@@ -62,7 +65,9 @@ fn refused_over(
 /// The same where the settings have `p-sync` alone.
 fn refused(alloc: Global, records: Records<MemStore>) -> Result<Records<MemStore>, Fail> {
     let fewer = Settings::read(alloc, SYNC_ALONE.as_bytes())?;
-    refused_over(alloc, &fewer, records)
+    let records = refused_over(alloc, &fewer, records);
+    drop(fewer);
+    records
 }
 
 /// The records after both, which are as they were for a catalog that has the plan.
@@ -75,7 +80,8 @@ fn stay(alloc: Global, settings: &Settings) -> Result<Records<MemStore>, Fail> {
 #[test]
 fn plan_in_use(rt: HostRuntime) -> Result<(), Fail> {
     let settings = built_in(rt.alloc())?;
-    let records = stay(rt.alloc(), &settings)?;
-    drop(records);
+    let records = stay(rt.alloc(), &settings);
+    drop(settings);
+    drop(records?);
     Ok(())
 }

@@ -7,7 +7,7 @@ use tests_support::exchange::{Exchange, last_reply, request};
 use tests_support::replies::*;
 use tests_support::serving::{answers, goes};
 
-pub(crate) const IDS: [Exchange; 9] = [
+pub(crate) static IDS: [Exchange; 9] = [
     ("PUT /v2/service_instances/a", SYNC, CREATED, "{}"),
     ("PUT /v2/service_instances/%61", SYNC, OK, "{}"),
     ("PUT /v2/service_instances/a%2Fb", SYNC, CREATED, "{}"),
@@ -43,7 +43,7 @@ fn the_longest_id(rt: HostRuntime) -> Result<(), Fail> {
 }
 
 /// New instances with a number among their parameters, each on an empty database.
-pub(crate) const NUMBERS: [Exchange; 6] = [
+pub(crate) static NUMBERS: [Exchange; 6] = [
     (
         "PUT /v2/service_instances/i",
         r#"{"service_id":"svc","plan_id":"p-sync","organization_guid":"o","space_guid":"s","parameters":{"x":1.5}}"#,
@@ -90,7 +90,7 @@ fn numbers(rt: HostRuntime) -> Result<(), Fail> {
     Ok(())
 }
 
-pub(crate) const NOT_OFFERED: [Exchange; 2] = [
+pub(crate) static NOT_OFFERED: [Exchange; 2] = [
     (
         "PUT /v2/service_instances/i",
         r#"{"service_id":"nope","plan_id":"p-sync","organization_guid":"o","space_guid":"s"}"#,
@@ -110,7 +110,7 @@ fn not_in_the_catalog(rt: HostRuntime) -> Result<(), Fail> {
     goes(rt.alloc(), &NOT_OFFERED)
 }
 
-pub(crate) const FAULTS: [Exchange; 13] = [
+pub(crate) static FAULTS: [Exchange; 13] = [
     ("GET /v1/catalog", "", NOT_FOUND, "{}"),
     ("GET /", "", NOT_FOUND, "{}"),
     ("GET *", "", NOT_FOUND, "{}"),

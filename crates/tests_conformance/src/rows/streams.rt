@@ -72,8 +72,18 @@ struct Left {
 /// How many orders the instance `i` has.
 fn orders_of(alloc: Global, broker: Broker<'_, MemStore>) -> Result<usize, Fail> {
     let mut records = broker.into_records();
-    let life = memory::life(&mut records, alloc, "i")?;
-    Ok(life.len())
+    let life = memory::life(&mut records, alloc, "i");
+    drop(records);
+    Ok(life?.len())
+}
+
+/// Fails where the instance `i` has another number of orders.
+fn has_orders(alloc: Global, broker: Broker<'_, MemStore>, expected: usize) -> Result<(), Fail> {
+    if orders_of(alloc, broker)? == expected {
+        Ok(())
+    } else {
+        Err("another number of orders")?
+    }
 }
 
 /// How many reads and writes fail on a connection that ends so: none is tried again.
@@ -123,11 +133,16 @@ fn leaves_over(
 {
     let (bytes, room) = sent;
     let mut broker = new_broker(alloc, settings, per_connection)?;
-    let same = ends(alloc, &mut broker, bytes, room, left)?;
-    if orders_of(alloc, broker)? == left.orders && same {
-        Ok(())
-    } else {
-        Err("another end")?
+    match ends(alloc, &mut broker, bytes, room, left) {
+        Ok(true) => has_orders(alloc, broker, left.orders),
+        Ok(false) => {
+            drop(broker);
+            Err("another end")?
+        }
+        Err(fail) => {
+            drop(broker);
+            Err(fail)
+        }
     }
 }
 
@@ -143,7 +158,9 @@ fn leaves(
     requires few { per_connection ≤ 1000 }
 {
     let settings = built_in(alloc)?;
-    leaves_over(alloc, &settings, per_connection, (bytes, room), &left)
+    let leaves = leaves_over(alloc, &settings, per_connection, (bytes, room), &left);
+    drop(settings);
+    leaves
 }
 
 const UNREAD: Left = Left {

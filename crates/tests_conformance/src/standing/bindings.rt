@@ -82,7 +82,7 @@ const C: About = About {
     ask: "GET /v2/service_instances/i/service_bindings/c",
 };
 
-const ORDERS_OF_TWO: [&str; 6] = [
+static ORDERS_OF_TWO: [&str; 6] = [
     CREATED_SMALL,
     r#"bind-2 succeeded svc p-sync - {} {} - {} b - {"uri":"mem:1"}"#,
     r#"bind-3 succeeded svc p-sync - {} {"n":2} - {} c - {"uri":"mem:1"}"#,
@@ -189,11 +189,13 @@ fn plan_changed_under_a_binding(rt: HostRuntime) -> Result<(), Fail> {
 #[test]
 fn a_plan_that_is_not_bindable(rt: HostRuntime) -> Result<(), Fail> {
     let settings = bindings::without_bindings(rt.alloc())?;
-    stands_over(
+    let stands = stands_over(
         rt.alloc(),
         &settings,
         &bindings::UNBINDABLE,
         &[SMALL, SMALL],
         &[CREATED_SMALL],
-    )
+    );
+    drop(settings);
+    stands
 }

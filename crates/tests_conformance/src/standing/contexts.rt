@@ -34,7 +34,7 @@ fn context_updated(rt: HostRuntime) -> Result<(), Fail> {
     let updated = r#"Ready svc p-async o s {} 1.2.0 {"platform":"y"}"#;
     let again = r#"Updating svc p-async o s {} 1.2.0 {"platform":"y"}"#;
     let deleting = r#"Deleting svc p-async o s {} 1.2.0 {"platform":"y"}"#;
-    stands_over(
+    let stands = stands_over(
         rt.alloc(),
         &settings,
         &contexts::UPDATED,
@@ -49,14 +49,16 @@ fn context_updated(rt: HostRuntime) -> Result<(), Fail> {
             r#"update-3 failed svc p-async o s {"n":1} 1.2.0 {"platform":"z"} - - {}"#,
             r#"delete-4 in progress svc p-async o s {} 1.2.0 {"platform":"y"} - - {}"#,
         ],
-    )
+    );
+    drop(settings);
+    stands
 }
 
 #[test]
 fn context_emptied(rt: HostRuntime) -> Result<(), Fail> {
     let settings = contexts::with_updates(rt.alloc())?;
     let again = r#"Updating svc p-async o s {"n":1} 1.2.0 {"platform":"x"}"#;
-    stands_over(
+    let stands = stands_over(
         rt.alloc(),
         &settings,
         &contexts::EMPTIED,
@@ -68,7 +70,9 @@ fn context_emptied(rt: HostRuntime) -> Result<(), Fail> {
             r#"update-2 succeeded svc p-async o s {"n":1} 1.2.0 {"platform":"x"} - - {}"#,
             r#"update-3 in progress svc p-async o s {"n":1} 1.2.0 {} - - {}"#,
         ],
-    )
+    );
+    drop(settings);
+    stands
 }
 
 #[test]
@@ -158,7 +162,7 @@ fn contexts_at_once(rt: HostRuntime) -> Result<(), Fail> {
 fn contexts_updated_at_once(rt: HostRuntime) -> Result<(), Fail> {
     let settings = contexts::with_updates(rt.alloc())?;
     let deleting = r#"Deleting svc p-async o s {} 1.2.0 {"platform":"y"}"#;
-    stands_over(
+    let stands = stands_over(
         rt.alloc(),
         &settings,
         &contexts::UPDATED_AT_ONCE,
@@ -175,5 +179,7 @@ fn contexts_updated_at_once(rt: HostRuntime) -> Result<(), Fail> {
             r#"update-3 succeeded svc p-async o s {} 1.2.0 {"platform":"y"} - - {}"#,
             r#"delete-4 in progress svc p-async o s {} 1.2.0 {"platform":"y"} - - {}"#,
         ],
-    )
+    );
+    drop(settings);
+    stands
 }

@@ -214,13 +214,15 @@ fn a_description_is_quoted(rt: HostRuntime) -> Result<(), Fail> {
 #[test]
 fn order_limit(rt: HostRuntime) -> Result<(), Fail> {
     let settings = instances::with_one_order(rt.alloc())?;
-    stands_over(
+    let stands = stands_over(
         rt.alloc(),
         &settings,
         &instances::ORDER_LIMIT,
         &[SMALL, SMALL, SMALL, SMALL],
         &[CREATED_SMALL],
-    )
+    );
+    drop(settings);
+    stands
 }
 
 #[test]
@@ -240,13 +242,15 @@ fn failed_deletion(rt: HostRuntime) -> Result<(), Fail> {
 #[test]
 fn a_plan_that_cannot_be_changed(rt: HostRuntime) -> Result<(), Fail> {
     let settings = instances::with_fixed_plan(rt.alloc())?;
-    stands_over(
+    let stands = stands_over(
         rt.alloc(),
         &settings,
         &instances::FIXED_PLAN,
         &[SMALL, SMALL, SMALL, SMALL],
         &[CREATED_SMALL],
-    )
+    );
+    drop(settings);
+    stands
 }
 
 #[test]

@@ -5,7 +5,7 @@ use crate::rows::requests;
 use std::test::Fail;
 
 /// The instances of the usable ids, and what stands of each after each request.
-const IDS: [(About, [&str; 9]); 4] = [
+static IDS: [(About, [&str; 9]); 4] = [
     (
         About {
             instance: "a",
@@ -61,7 +61,7 @@ const LARGEST: &str = r#"Ready svc p-sync o s {"x":18446744073709551615} - {}"#;
 const SMALLEST: &str = r#"Ready svc p-sync o s {"x":-9223372036854775808} - {}"#;
 
 /// What stands after each of the numbers, and the life.
-const NUMBERS: [(&str, &[&str]); 6] = [
+static NUMBERS: [(&str, &[&str]); 6] = [
     (ABSENT, &[]),
     (ABSENT, &[]),
     (

@@ -4,7 +4,7 @@ use std::process::Abort;
 use std::test::Fail;
 
 /// A method and a target, the field lines, and what is told of the outcome.
-const LOGINS_AND_VERSIONS: [Case; 32] = [
+static LOGINS_AND_VERSIONS: [Case; 32] = [
     ("GET /v1/catalog", "", "NoDoor"),
     (
         "GET /v1/catalog",
@@ -178,7 +178,7 @@ fn versions(rt: HostRuntime) -> Result<(), Fail> {
     )
 }
 
-const ROUTES: [Case; 31] = [
+static ROUTES: [Case; 31] = [
     ("GET /v2/catalog", "", "Catalog"),
     (
         "GET /v2/catalog?x=%FF&accepts_incomplete=no",

@@ -53,7 +53,7 @@ const REPORT: &str = "PUT /backend/v1/orders/i/1";
 const REPORT_BODY: &str = r#"{"state":"succeeded","description":"done","credentials":{"u":1}}"#;
 
 /// A request, its body, and one of the body's members.
-const REQUIRED_IDS: [Case; 7] = [
+static REQUIRED_IDS: [Case; 7] = [
     (PROVISION, PROVISION_BODY, r#""service_id":"svc""#),
     (PROVISION, PROVISION_BODY, r#""plan_id":"p-sync""#),
     (PROVISION, PROVISION_BODY, r#""organization_guid":"o""#),
@@ -63,12 +63,12 @@ const REQUIRED_IDS: [Case; 7] = [
     (BIND, BIND_BODY, r#""plan_id":"p-sync""#),
 ];
 
-const IDS_IN_ANY_BODY: [Case; 2] = [
+static IDS_IN_ANY_BODY: [Case; 2] = [
     (UPDATE, UPDATE_BODY, r#""plan_id":"p-sync""#),
     (BIND, BIND_BODY, r#""app_guid":"app""#),
 ];
 
-const OBJECTS: [Case; 8] = [
+static OBJECTS: [Case; 8] = [
     (PROVISION, PROVISION_BODY, r#""context":{"c":1}"#),
     (PROVISION, PROVISION_BODY, r#""parameters":{"p":1}"#),
     (
@@ -88,7 +88,7 @@ const OBJECTS: [Case; 8] = [
 ];
 
 /// Values that are no id text.
-const NO_IDS: [&str; 9] = [
+static NO_IDS: [&str; 9] = [
     "1",
     "true",
     "[]",
@@ -101,19 +101,26 @@ const NO_IDS: [&str; 9] = [
 ];
 
 /// Values that are no object.
-const NO_OBJECTS: [&str; 6] = ["1", "true", "false", "[]", r#""{}""#, r#"[{}]"#];
+static NO_OBJECTS: [&str; 6] = ["1", "true", "false", "[]", r#""{}""#, r#"[{}]"#];
+
+/// The member with another value.
+fn with_value(alloc: Global, member: &str, value: &str) -> Result<String, Fail> {
+    let (name, _) = member.split_once(':').ok_or("no member")?;
+    Ok(format!(in alloc; "{name}:{value}")?)
+}
+
+/// What is told of the request whose body has another value in the member.
+fn outcome_with_value(alloc: Global, case: &Case, value: &str) -> Result<String, Fail> {
+    let (line, body, member) = *case;
+    let changed = with_value(alloc, member, value)?;
+    outcome_of_change(alloc, line, body, member, changed.as_str())
+}
 
 /// With each of the values under the member's name, the body isn't usable.
 fn refuses(rt: &(impl Abort + AllocGlobal), case: &Case, values: &[&str]) -> Result<(), Fail> {
-    let (line, body, member) = *case;
-    let colon = member.find(":").ok_or("no member")?;
-    let name = member.get(..colon).ok_or("no name")?;
     for value in values {
-        let mut changed = String::from_str(rt.alloc(), name)?;
-        changed.push(':')?;
-        changed.push_str(*value)?;
-        let told = outcome_of_change(rt.alloc(), line, body, member, changed.as_str())?;
-        assert!(rt; told.as_str() == "Body", "{line} {changed}: {told}");
+        let told = outcome_with_value(rt.alloc(), case, *value)?;
+        assert!(rt; told.as_str() == "Body", "{} {value}: {told}", case.2);
     }
     Ok(())
 }
@@ -146,7 +153,7 @@ fn members_of_another_kind(rt: HostRuntime) -> Result<(), Fail> {
     each_refuses(&rt, &OBJECTS, &NO_OBJECTS)
 }
 
-const OF_PROVISION: [Change; 18] = [
+static OF_PROVISION: [Change; 18] = [
     (
         "svc",
         "svc",
@@ -219,7 +226,7 @@ const OF_PROVISION: [Change; 18] = [
     (r#""version":"1.2.0""#, r#""description":"d""#, "Body"),
 ];
 
-const OF_UPDATE: [Change; 12] = [
+static OF_UPDATE: [Change; 12] = [
     (
         "svc",
         "svc",
@@ -262,7 +269,7 @@ const OF_UPDATE: [Change; 12] = [
     (r#"{"version":"1.2.0"}"#, "{}", "Body"),
 ];
 
-const OF_BIND: [Change; 11] = [
+static OF_BIND: [Change; 11] = [
     (
         "svc",
         "svc",
@@ -308,7 +315,7 @@ const OF_BIND: [Change; 11] = [
     (r#"{"p":1}"#, "[]", "Body"),
 ];
 
-const OF_REPORT: [Change; 20] = [
+static OF_REPORT: [Change; 20] = [
     ("done", "done", r#"Report i 1 succeeded done {"u":1}"#),
     ("succeeded", "failed", r#"Report i 1 failed done {"u":1}"#),
     ("succeeded", "in progress", "Body"),
@@ -356,7 +363,7 @@ fn members(rt: HostRuntime) -> Result<(), Fail> {
     tells_changes(&rt, REPORT, REPORT_BODY, &OF_REPORT)
 }
 
-const NUMBERS: [Change; 16] = [
+static NUMBERS: [Change; 16] = [
     ("1}", "0}", r#"Report i 1 succeeded done {"u":0}"#),
     (
         "1}",
@@ -388,7 +395,7 @@ const NUMBERS: [Change; 16] = [
 ];
 
 /// Under a name that is read past, in a list of it, and in an object that is kept.
-const NUMBERS_ANYWHERE: [Change; 4] = [
+static NUMBERS_ANYWHERE: [Change; 4] = [
     (r#"{"service_id""#, r#"{"other":-0,"service_id""#, "Body"),
     (
         r#"{"service_id""#,
@@ -407,7 +414,7 @@ fn numbers(rt: HostRuntime) -> Result<(), Fail> {
     tells_changes(&rt, BIND, BIND_BODY, &NUMBERS_ANYWHERE)
 }
 
-const NO_OBJECT_BODIES: [Case; 9] = [
+static NO_OBJECT_BODIES: [Case; 9] = [
     (UPDATE, "", "Body"),
     (UPDATE, "{", "Body"),
     (UPDATE, "null", "Body"),
@@ -426,13 +433,8 @@ const NO_OBJECT_BODIES: [Case; 9] = [
 #[test]
 fn bodies_that_are_no_objects(rt: HostRuntime) -> Result<(), Fail> {
     tells(&rt, &NO_OBJECT_BODIES)?;
-    let told = outcome(
-        rt.alloc(),
-        UPDATE,
-        PLATFORM,
-        b"{\"service_id\":\"svc\",\"x\":\"\xFF\"}",
-    )?;
-    assert!(rt; told.as_str() == "Body");
+    let no_text = b"{\"service_id\":\"svc\",\"x\":\"\xFF\"}";
+    assert!(rt; outcome(rt.alloc(), UPDATE, PLATFORM, no_text)?.as_str() == "Body");
     Ok(())
 }
 

@@ -5,7 +5,7 @@ use std::test::Fail;
 
 /// For each route with ids and each of its ids, which `@` stands for: the request, and what is told
 /// of it where the id is usable.
-const ROUTES_WITH_IDS: [Case; 14] = [
+static ROUTES_WITH_IDS: [Case; 14] = [
     (
         "PUT /v2/service_instances/@",
         r#"{"service_id":"svc","plan_id":"p-sync","organization_guid":"o","space_guid":"s"}"#,
@@ -75,7 +75,7 @@ const ROUTES_WITH_IDS: [Case; 14] = [
 ];
 
 /// Segments, and the ids that they stand for.
-const USABLE: [(&str, &str); 17] = [
+static USABLE: [(&str, &str); 17] = [
     ("a", "a"),
     ("%61", "a"),
     ("%61b", "ab"),
@@ -96,7 +96,7 @@ const USABLE: [(&str, &str); 17] = [
 ];
 
 /// Segments that are no ids: too long, with a control character, or no UTF-8.
-const UNUSABLE: [&str; 12] = [
+static UNUSABLE: [&str; 12] = [
     "~aaaaaaa",
     "~aaaaa%C3%A4",
     "%00",
@@ -168,7 +168,7 @@ fn ids_of_all_routes(rt: HostRuntime) -> Result<(), Fail> {
     tells_ids(&rt, &ROUTES_WITH_IDS)
 }
 
-const NUMBERS: [Case; 16] = [
+static NUMBERS: [Case; 16] = [
     (
         "PUT /backend/v1/orders/i/1",
         r#"{"state":"failed"}"#,

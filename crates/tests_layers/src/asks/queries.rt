@@ -1,7 +1,7 @@
 use super::{Case, tells};
 use std::test::Fail;
 
-const FLAGS: [Case; 18] = [
+static FLAGS: [Case; 18] = [
     (
         "PATCH /v2/service_instances/i",
         r#"{"service_id":"svc"}"#,
@@ -99,7 +99,7 @@ fn flags(rt: HostRuntime) -> Result<(), Fail> {
     tells(&rt, &FLAGS)
 }
 
-const IDS: [Case; 22] = [
+static IDS: [Case; 22] = [
     ("DELETE /v2/service_instances/i", "", "Query"),
     ("DELETE /v2/service_instances/i?service_id=svc", "", "Query"),
     ("DELETE /v2/service_instances/i?plan_id=p-sync", "", "Query"),
@@ -205,7 +205,7 @@ fn services_and_plans(rt: HostRuntime) -> Result<(), Fail> {
     tells(&rt, &IDS)
 }
 
-const OPERATIONS_AND_AFTER: [Case; 19] = [
+static OPERATIONS_AND_AFTER: [Case; 19] = [
     (
         "GET /v2/service_instances/i/last_operation?operation=create-1",
         "",
@@ -269,7 +269,7 @@ fn operations_and_after(rt: HostRuntime) -> Result<(), Fail> {
 }
 
 /// Requests with two neighbouring faults: the earlier one is told.
-const NEIGHBOURS: [Case; 19] = [
+static NEIGHBOURS: [Case; 19] = [
     (
         "PUT /v2/service_instances//last_operation/%FF?accepts_incomplete=no",
         "{",

@@ -5,26 +5,36 @@ use std::alloc::{AllocError, Global};
 use std::process::Abort;
 use std::test::Fail;
 
-/// Whether the text is an id, and a copy of it is the same.
-fn is_kept_id(alloc: Global, text: &str) -> Result<bool, AllocError> {
-    let Some(id) = Id::new(Text::from_str(alloc, text)?) else {
-        return Ok(false);
-    };
+/// Whether a copy of the id is the same.
+fn is_copied(id: &Id, text: &str) -> Result<bool, AllocError> {
     let copy = id.clone()?;
-    Ok(copy == id && Text::from(copy).as_str() == text)
+    Ok(copy == *id && Text::from(copy).as_str() == text)
 }
 
-/// The same of texts of objects.
-fn is_kept_object(alloc: Global, text: &str) -> Result<bool, AllocError> {
-    let Some(object) = ObjectText::new(alloc, Text::from_str(alloc, text)?)? else {
-        return Ok(false);
-    };
+/// Whether the text is an id, and a copy of it is the same.
+fn is_kept_id(alloc: Global, text: &str) -> Result<bool, AllocError> {
+    match Id::new(Text::from_str(alloc, text)?) {
+        Some(id) => is_copied(&id, text),
+        None => Ok(false),
+    }
+}
+
+/// Whether a copy of the object's text is the same.
+fn is_copied_object(object: &ObjectText, text: &str) -> Result<bool, AllocError> {
     let copy = object.clone()?;
-    Ok(copy == object && Text::from(copy).as_str() == text)
+    Ok(copy == *object && Text::from(copy).as_str() == text)
+}
+
+/// Whether the text is that of an object, and a copy of it is the same.
+fn is_kept_object(alloc: Global, text: &str) -> Result<bool, AllocError> {
+    match ObjectText::new(alloc, Text::from_str(alloc, text)?)? {
+        Some(object) => is_copied_object(&object, text),
+        None => Ok(false),
+    }
 }
 
 /// Texts, and whether each is an id.
-const IDS: [(&str, bool); 4] = [
+static IDS: [(&str, bool); 4] = [
     ("a/b", true),
     ("", false),
     ("a\u{1}", false),
@@ -32,7 +42,7 @@ const IDS: [(&str, bool); 4] = [
 ];
 
 /// Texts, and whether each is that of an object.
-const OBJECTS: [(&str, bool); 7] = [
+static OBJECTS: [(&str, bool); 7] = [
     ("{}", true),
     (r#"{"a":1,"b":{}}"#, true),
     ("", false),
@@ -70,7 +80,7 @@ fn ids_and_objects(rt: HostRuntime) -> Result<(), Fail> {
 }
 
 /// A method and a target, a body, and the instance and the binding that the ask is about.
-const SUBJECTS: [Case; 12] = [
+static SUBJECTS: [Case; 12] = [
     ("GET /v2/catalog", "", "- -"),
     (
         "PUT /v2/service_instances/i",

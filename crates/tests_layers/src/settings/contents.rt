@@ -62,19 +62,26 @@ fn told(alloc: Global, settings: &Settings) -> Result<String, Fail> {
 
 fn told_of(alloc: Global, file: &str) -> Result<String, Fail> {
     let settings = Settings::read(alloc, file.as_bytes())?;
-    told(alloc, &settings)
+    let told = told(alloc, &settings);
+    drop(settings);
+    told
+}
+
+/// What is told of the built-in settings with `to` at the first place of `from`.
+fn told_with(alloc: Global, from: &str, to: &str) -> Result<String, Fail> {
+    let file = changed(alloc, BUILT_IN, from, to)?;
+    told_of(alloc, file.as_str())
 }
 
 fn tells_contents(rt: &(impl Abort + AllocGlobal), cases: &[Case]) -> Result<(), Fail> {
     for (from, to, contents) in cases {
-        let file = changed(rt.alloc(), BUILT_IN, *from, *to)?;
-        let told = told_of(rt.alloc(), file.as_str())?;
+        let told = told_with(rt.alloc(), *from, *to)?;
         assert!(rt; told.as_str() == *contents, "{to}: {told}");
     }
     Ok(())
 }
 
-const CONTENTS: [Case; 17] = [
+static CONTENTS: [Case; 17] = [
     (
         r#""bindable":true"#,
         r#""bindable":true"#,
@@ -177,7 +184,7 @@ const FULL_PLAN: &str =
 const FULL_CATALOG: &str =
     r#"{"services":[{"allow_context_updates":true,"bindable":true,"bindings_retrievable":true,"description":"Key store","id":"svc","instances_retrievable":false,"metadata":{"x":[true],"y":null},"name":"store","plan_updateable":true,"plans":[{"bindable":false,"description":"At once","id":"p-sync","name":"small"},{"description":"Later","free":false,"id":"p-async","maintenance_info":{"description":"","version":"1.2.0-rc.1+b"},"maximum_polling_duration":18446744073709551615,"metadata":{},"name":"large","plan_updateable":false}],"tags":["k\u0001","v"]}]}"#;
 
-const FULL: [(&str, &str); 3] = [
+static FULL: [(&str, &str); 3] = [
     (r#""plans":["#, FULL_SERVICE),
     (r#""maintenance_info":{"version":"1.2.0"}"#, FULL_PLAN),
     (r#""id":"p-sync""#, r#""id":"p-sync","bindable":false"#),

@@ -2,26 +2,29 @@ use super::{Case, fault_of, tells_faults, tells_first_faults};
 use osb_catalog::{Field, SettingsFault};
 use std::test::Fail;
 
+static NO_TEXTS: [&str; 7] = [
+    "",
+    "{",
+    "[]",
+    "null",
+    r#"{"a":1.5}"#,
+    r#"{"a":[-0]}"#,
+    "{} {}",
+];
+
 #[test]
 fn texts(rt: HostRuntime) -> Result<(), Fail> {
-    for file in [
-        "",
-        "{",
-        "[]",
-        "null",
-        r#"{"a":1.5}"#,
-        r#"{"a":[-0]}"#,
-        "{} {}",
-    ] {
-        let told = fault_of(rt.alloc(), file.as_bytes())?;
-        assert!(rt; told.as_str() == "1 Text", "{file}");
+    for file in &NO_TEXTS {
+        assert!(rt;
+            fault_of(rt.alloc(), file.as_bytes())?.as_str() == "1 Text",
+            "{file}"
+        );
     }
-    let empty = fault_of(rt.alloc(), b"{}")?;
-    assert!(rt; empty.as_str() == "2 Missing platform");
+    assert!(rt; fault_of(rt.alloc(), b"{}")?.as_str() == "2 Missing platform");
     Ok(())
 }
 
-const ONE_OF_EACH: [Case; 6] = [
+static ONE_OF_EACH: [Case; 6] = [
     (r#""name":"store","#, "", "2 Missing name"),
     (r#""id":"p-async""#, r#""id":"p-sync""#, "3 DoubleId"),
     (
@@ -45,7 +48,7 @@ fn lower_of_two(rt: HostRuntime) -> Result<(), Fail> {
     tells_first_faults(&rt, &ONE_OF_EACH)
 }
 
-const DOUBLE_IDS: [Case; 4] = [
+static DOUBLE_IDS: [Case; 4] = [
     (
         r#""services":["#,
         r#""services":[{"id":"svc","name":"n","description":"d","bindable":false,"plans":[{"id":"p","name":"n","description":"d"}]},"#,
@@ -69,7 +72,7 @@ fn double_ids(rt: HostRuntime) -> Result<(), Fail> {
     tells_faults(&rt, &DOUBLE_IDS)
 }
 
-const LEFT_OUT: [Case; 11] = [
+static LEFT_OUT: [Case; 11] = [
     (
         r#""plans":["#,
         r#""binding_rotatable":true,"plans":["#,
@@ -132,7 +135,7 @@ fn left_out(rt: HostRuntime) -> Result<(), Fail> {
     tells_faults(&rt, &LEFT_OUT)
 }
 
-const LEFT_OUT_OF_A_SERVICE: [Case; 5] = [
+static LEFT_OUT_OF_A_SERVICE: [Case; 5] = [
     (
         r#""plans":["#,
         r#""binding_rotatable":true,"plans":["#,
@@ -161,7 +164,7 @@ const LEFT_OUT_OF_A_SERVICE: [Case; 5] = [
 ];
 
 /// One plan after another, and a service with its plans before the next.
-const LEFT_OUT_OF_TWO: [Case; 3] = [
+static LEFT_OUT_OF_TWO: [Case; 3] = [
     (
         r#""id":"p-sync""#,
         r#""schemas":{},"id":"p-sync""#,
@@ -185,7 +188,7 @@ fn first_left_out(rt: HostRuntime) -> Result<(), Fail> {
     tells_first_faults(&rt, &LEFT_OUT_OF_TWO)
 }
 
-const VERSIONS: [Case; 6] = [
+static VERSIONS: [Case; 6] = [
     (r#""version":"1.2.0""#, r#""version":"1.2""#, "5 Version"),
     (r#""version":"1.2.0""#, r#""version":"""#, "5 Version"),
     (r#""version":"1.2.0""#, r#""version":"01.2.3""#, "5 Version"),
@@ -199,7 +202,7 @@ fn versions(rt: HostRuntime) -> Result<(), Fail> {
     tells_faults(&rt, &VERSIONS)
 }
 
-const MODES: [Case; 8] = [
+static MODES: [Case; 8] = [
     (r#""bindings_retrievable":true,"#, "", "6 Mode"),
     (
         r#""bindings_retrievable":true"#,
@@ -236,7 +239,7 @@ fn modes(rt: HostRuntime) -> Result<(), Fail> {
     tells_faults(&rt, &MODES)
 }
 
-const CREDENTIALS: [Case; 14] = [
+static CREDENTIALS: [Case; 14] = [
     (r#""user":"platform""#, r#""user":"a:b""#, "7 Credential"),
     (r#""user":"platform""#, r#""user":"""#, "7 Credential"),
     (r#""user":"backend""#, r#""user":":""#, "7 Credential"),
@@ -287,14 +290,23 @@ fn credentials(rt: HostRuntime) -> Result<(), Fail> {
     tells_faults(&rt, &CREDENTIALS)
 }
 
+fn has_numbers() -> bool {
+    SettingsFault::Text.number() == 1 && SettingsFault::Memory.number() == 8
+}
+
+fn has_fields() -> bool {
+    SettingsFault::Missing(Field::Id).field() == Some(Field::Id)
+        && SettingsFault::Mode.field().is_none()
+}
+
+fn has_names() -> bool {
+    SettingsFault::LeftOut(Field::Schemas).name() == "LeftOut"
+        && Field::MaximumPollingDuration.name() == "maximum_polling_duration"
+}
+
 #[test]
 fn names_of_faults(rt: HostRuntime) -> Result<(), Fail> {
-    assert!(rt; SettingsFault::Text.number() == 1 && SettingsFault::Memory.number() == 8);
-    assert!(rt; SettingsFault::LeftOut(Field::Schemas).name() == "LeftOut");
-    assert!(rt; SettingsFault::Missing(Field::Id).field() == Some(Field::Id));
-    assert!(rt; SettingsFault::Mode.field().is_none());
-    assert!(rt; Field::MaximumPollingDuration.name() == "maximum_polling_duration");
-    let text = SettingsFault::Memory.to_string(rt.alloc())?;
-    assert!(rt; text.as_str() == "8 Memory");
+    assert!(rt; has_numbers() && has_fields() && has_names());
+    assert!(rt; SettingsFault::Memory.to_string(rt.alloc())?.as_str() == "8 Memory");
     Ok(())
 }

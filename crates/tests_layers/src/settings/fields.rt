@@ -1,7 +1,7 @@
 use super::{Case, tells_faults, tells_first_faults};
 use std::test::Fail;
 
-const LOGINS: [Case; 19] = [
+static LOGINS: [Case; 19] = [
     (
         r#"{"user":"platform","password":"secret"}"#,
         "null",
@@ -96,7 +96,7 @@ fn logins(rt: HostRuntime) -> Result<(), Fail> {
     tells_faults(&rt, &LOGINS)
 }
 
-const FILE_FIELDS: [Case; 23] = [
+static FILE_FIELDS: [Case; 23] = [
     (r#""catalog":"#, r#""other":"#, "2 Missing catalog"),
     (
         r#""catalog":"#,
@@ -187,7 +187,7 @@ fn file_fields(rt: HostRuntime) -> Result<(), Fail> {
     tells_faults(&rt, &FILE_FIELDS)
 }
 
-const LISTS_OF_OBJECTS: [Case; 12] = [
+static LISTS_OF_OBJECTS: [Case; 12] = [
     (r#""services":"#, r#""other":"#, "2 Missing services"),
     (
         r#""services":"#,
@@ -235,7 +235,7 @@ fn lists_of_objects(rt: HostRuntime) -> Result<(), Fail> {
     tells_faults(&rt, &LISTS_OF_OBJECTS)
 }
 
-const REQUIRED_TEXTS: [Case; 47] = [
+static REQUIRED_TEXTS: [Case; 47] = [
     (r#""id":"svc""#, r#""id":null"#, "2 Missing id"),
     (r#""id":"p-async""#, r#""id":null"#, "2 Missing id"),
     (r#""id":"svc""#, r#""id":"""#, "2 Missing id"),
@@ -354,7 +354,7 @@ fn required_texts(rt: HostRuntime) -> Result<(), Fail> {
     tells_faults(&rt, &REQUIRED_TEXTS)
 }
 
-const FLAGS: [Case; 30] = [
+static FLAGS: [Case; 30] = [
     (r#""bindable":true,"#, "", "2 Missing bindable"),
     (
         r#""bindable":true"#,
@@ -488,7 +488,7 @@ fn flags(rt: HostRuntime) -> Result<(), Fail> {
     tells_faults(&rt, &FLAGS)
 }
 
-const OPTIONAL_FIELDS: [Case; 18] = [
+static OPTIONAL_FIELDS: [Case; 18] = [
     (r#""plans":"#, r#""tags":"a","plans":"#, "2 Missing tags"),
     (r#""plans":"#, r#""tags":[1],"plans":"#, "2 Missing tags"),
     (r#""plans":"#, r#""tags":[null],"plans":"#, "2 Missing tags"),
@@ -574,7 +574,7 @@ fn optional_fields(rt: HostRuntime) -> Result<(), Fail> {
     tells_faults(&rt, &OPTIONAL_FIELDS)
 }
 
-const MODE_FIELDS: [Case; 8] = [
+static MODE_FIELDS: [Case; 8] = [
     (
         r#""instances":"asynchronous""#,
         r#""instances":"later""#,
@@ -607,7 +607,7 @@ fn mode_fields(rt: HostRuntime) -> Result<(), Fail> {
 }
 
 // In the order of the tables: the file's fields, then those of services, plans and modes.
-const IN_ORDER: [Case; 14] = [
+static IN_ORDER: [Case; 14] = [
     (
         r#""password":"secret""#,
         r#""password":1"#,
@@ -662,7 +662,7 @@ fn first_missing(rt: HostRuntime) -> Result<(), Fail> {
 }
 
 /// The file's own fields; then what the catalog has to have, and the modes after it.
-const IN_ORDER_OF_A_FILE: [Case; 5] = [
+static IN_ORDER_OF_A_FILE: [Case; 5] = [
     (
         r#""catalog":"#,
         r#""catalog":1,"unread":"#,
@@ -682,7 +682,7 @@ const IN_ORDER_OF_A_FILE: [Case; 5] = [
     (r#""id":"p-async""#, r#""id":1"#, "2 Missing id"),
 ];
 
-const IN_ORDER_OF_A_SERVICE: [Case; 9] = [
+static IN_ORDER_OF_A_SERVICE: [Case; 9] = [
     (
         r#""description":"Key store""#,
         r#""description":1"#,
@@ -727,7 +727,7 @@ const IN_ORDER_OF_A_SERVICE: [Case; 9] = [
 ];
 
 /// A plan, and the modes after it.
-const IN_ORDER_OF_A_PLAN: [Case; 10] = [
+static IN_ORDER_OF_A_PLAN: [Case; 10] = [
     (
         r#""description":"Later""#,
         r#""description":1"#,
@@ -777,7 +777,7 @@ const IN_ORDER_OF_A_PLAN: [Case; 10] = [
 ];
 
 /// One plan after another, and each with all its fields.
-const IN_ORDER_OF_PLANS: [Case; 2] = [
+static IN_ORDER_OF_PLANS: [Case; 2] = [
     (
         r#""description":"At once""#,
         r#""description":1"#,
@@ -787,7 +787,7 @@ const IN_ORDER_OF_PLANS: [Case; 2] = [
 ];
 
 /// All services, and then their plans.
-const IN_ORDER_OF_SERVICES: [Case; 2] = [
+static IN_ORDER_OF_SERVICES: [Case; 2] = [
     (
         r#""bindings_retrievable":true"#,
         r#""bindings_retrievable":1"#,

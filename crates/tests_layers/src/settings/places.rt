@@ -2,7 +2,7 @@
 
 use super::changed;
 use osb_catalog::{BUILT_IN, Place, Settings, SettingsFault, place_of};
-use std::alloc::Global;
+use std::alloc::{AllocError, Global};
 use std::process::Abort;
 use std::test::Fail;
 
@@ -10,27 +10,22 @@ use std::test::Fail;
 type Case = (&'static str, &'static str, &'static str);
 
 /// The place in words, empty where there is none.
-fn text_of(alloc: Global, place: &Option<Place>) -> Result<String, Fail> {
-    let Some(place) = place else {
-        return Ok(String::new(alloc));
-    };
-    Ok(match place {
-        Place::File => format!(in alloc; "file")?,
-        Place::Catalog => format!(in alloc; "catalog")?,
-        Place::Platform => format!(in alloc; "platform")?,
-        Place::Backend => format!(in alloc; "backend")?,
-        Place::Service(at) => format!(in alloc; "service {at}")?,
-        Place::Plan(service, at) => format!(in alloc; "plan {service} {at}")?,
-        Place::Mode(name) => format!(in alloc; "mode {}", name.as_str())?,
-    })
+fn text_of(alloc: Global, place: &Option<Place>) -> Result<String, AllocError> {
+    match place {
+        None => Ok(String::new(alloc)),
+        Some(Place::File) => String::from_str(alloc, "file"),
+        Some(Place::Catalog) => String::from_str(alloc, "catalog"),
+        Some(Place::Platform) => String::from_str(alloc, "platform"),
+        Some(Place::Backend) => String::from_str(alloc, "backend"),
+        Some(Place::Service(at)) => format!(in alloc; "service {at}"),
+        Some(Place::Plan(service, at)) => format!(in alloc; "plan {service} {at}"),
+        Some(Place::Mode(name)) => format!(in alloc; "mode {}", name.as_str()),
+    }
 }
 
 /// The fault of a file that has one.
 fn fault_in(alloc: Global, file: &[u8]) -> Result<SettingsFault, Fail> {
-    match Settings::read(alloc, file) {
-        Ok(_) => Err("no fault")?,
-        Err(fault) => Ok(fault),
-    }
+    Ok(Settings::read(alloc, file).err().ok_or("no fault")?)
 }
 
 /// Where the fault of a file is.
@@ -39,7 +34,7 @@ fn id_position_in(alloc: Global, file: &[u8]) -> Result<String, Fail> {
     let place = place_of(alloc, fault, file)?;
     let text = text_of(alloc, &place);
     drop(place);
-    text
+    Ok(text?)
 }
 
 /// Where the fault is of a file with `to` at the first place of `from`.
@@ -56,7 +51,7 @@ fn finds_places(rt: &(impl Abort + AllocGlobal), file: &str, cases: &[Case]) -> 
     Ok(())
 }
 
-const CASES: [Case; 16] = [
+static CASES: [Case; 16] = [
     (r#"{"platform""#, r#"{{"platform""#, ""),
     (r#""backend":"#, r#""other":"#, "file"),
     (r#""services":"#, r#""other":"#, "catalog"),
@@ -104,7 +99,7 @@ fn the_first_object_that_has_the_fault(rt: HostRuntime) -> Result<(), Fail> {
 const BEFORE: &str =
     r#""services":[{"id":"first","name":"n","description":"d","bindable":false,"plans":[{"id":"p","name":"n","description":"d"}]},"#;
 
-const BEHIND: [Case; 4] = [
+static BEHIND: [Case; 4] = [
     (r#""bindable":true,"#, "", "service 1"),
     ("1.2.0", "1.2", "plan 1 1"),
     (r#""id":"p-sync""#, r#""id":"p""#, "plan 0 0"),
