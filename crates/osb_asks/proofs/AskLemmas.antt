@@ -1,4 +1,4 @@
--- What each route finds: a worded ask that the catalog offers and that isn't for the catalog, or a late fault.
+-- What each route finds: an ask with valid texts that the catalog offers and that isn't for the catalog, or a late fault.
 use Rattle.std.proofs.Common.{◌≡◌, ◌≢◌, ◌⊎◌, inl, inr, ℕ, ◌≤◌, List, Bool, true, false, not, length, Option, Some, None, IsSome, IfSome, is_some, Result, Ok, Err, IfOk, cond, refl, sym, subst, ap, ◌∙◌, codes}
 use Rattle.std.specs.Prelude.{⊤}
 use Rattle.std.proofs.lemmas.Bool.{and_parts, true≢false}
@@ -138,7 +138,7 @@ not_early : (rules : Rules) (r : Result Ask AskFault) → Finds Ask (IsGoodFor r
 not_early rules (Ok a) f = f.found.late
 not_early rules (Err e) f = late_fault e f.found
 
--- an ask that is worded and offered, or a fault that isn't Memory
+-- an ask with valid texts that is offered, or a fault that isn't Memory
 abbrev Told : Rules → Result Ask AskFault → Type 0
 Told rules (Ok a) = AskHasValidTexts a × IsOffered rules a
 Told rules (Err e) = e ≢ fault.Memory

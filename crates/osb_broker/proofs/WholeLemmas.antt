@@ -62,7 +62,7 @@ run_served machine limits k s connections outputs u bytes output t run served = 
 
 -- ---- what stands at the front
 
--- a fault that is told stands there
+-- a fault that is reported stands there
 pub told_here : (limits : Limits) (bytes : List ℕ) (over : Bool) (f : StopKind) → FaultStays limits bytes over f → IsFront limits bytes (fault f)
 told_here limits bytes over f (inl each) = subst (λ l. IsFront limits l (fault f)) (append-nil bytes) (each [])
 told_here limits bytes over f (inr here) = here.0
