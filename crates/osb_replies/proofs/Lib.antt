@@ -1,2 +1,3 @@
 pub mod SendingLemmas
 pub mod TextLemmas
+pub mod PiecesLemmas

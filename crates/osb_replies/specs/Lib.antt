@@ -12,4 +12,4 @@ pub mod FixedError
 -- For contracts inside the crate.
 pub mod Sending
 pub mod Staging
-pub mod Tally
+pub mod Pieces

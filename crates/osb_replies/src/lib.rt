@@ -3,11 +3,11 @@
 
 mod body;
 mod fixed_error;
+mod pieces;
 mod reply;
 mod sender;
 mod stage;
 mod status;
-mod tally;
 mod write;
 
 pub use body::Body;

@@ -1,15 +1,16 @@
 //! Writes the text of a reply to a sink.
 
-ghost use Rattle.std.specs.Prelude.{◌≡◌, ◌≤◌, ◌<◌, ◌+◌, ◌-◌, ◌^◌, ◌++◌, ℕ, List, length, min, take, IsOk, OnOk, OnErr, IfErr, option_copied};
+ghost use Rattle.std.specs.Prelude.{◌≡◌, ◌≤◌, ◌<◌, ◌+◌, ◌-◌, ◌^◌, ◌++◌, ℕ, List, length, min, take, IsOk, OnOk, OnErr, IfErr};
 ghost use Rattle.osb_replies.specs.Parts.{parts};
 ghost use Rattle.osb_replies.specs.Sending.{Seen, seen};
 ghost use Rattle.osb_replies.specs.Staging.{Carries};
-ghost use Rattle.osb_replies.specs.Text.{reply_text, status_line, type_line, length_line, echo_line};
+ghost use Rattle.osb_replies.specs.Pieces.{text_of};
+ghost use Rattle.osb_replies.specs.Text.{reply_text};
 ghost use Rattle.osb_replies.specs.Written.{WroteFirst};
 
-use crate::reply::{Reply, challenge, closing};
+use crate::pieces::pieces;
+use crate::reply::Reply;
 use crate::stage::Stage;
-use crate::status::Status;
 use itoa::Buffer;
 use osb_frames::Sink;
 use thiserror::Error;
@@ -22,41 +23,16 @@ pub struct WriteFault {
     pub written: usize,
 }
 
-/// Adds the lines with which a reply begins, up to the one with its body's length.
-fn put_front<W: Sink>(stage: &mut Stage, sink: &mut W, status: Status, size: usize)
+/// Adds the pieces of a text.
+fn put_all<W: Sink>(stage: &mut Stage, sink: &mut W, pieces: &[&[u8]])
     ensures { let old = seen (W.taken sink.old) (W.writes sink.old) (W.failed_or_empty sink.old) (W.room sink.old) in
         let new = seen (W.taken sink.new) (W.writes sink.new) (W.failed_or_empty sink.new) (W.room sink.new) in
         (start : Seen) (text : List ℕ) →
         Carries start text old stage.old →
-        Carries start (text ++ (status_line status ++ type_line ++ length_line size)) new stage.new }
+        Carries start (text ++ text_of pieces.now) new stage.new }
 {
-    stage.put(sink, b"HTTP/1.1 ");
-    stage.put(
-        sink,
-        Buffer::new().format(status.code().as_u16()).as_bytes(),
-    );
-    stage.put(sink, b" ");
-    stage.put(sink, status.phrase().as_bytes());
-    stage.put(
-        sink,
-        b"\r\nContent-Type: application/json\r\nContent-Length: ",
-    );
-    stage.put(sink, Buffer::new().format(size).as_bytes());
-    stage.put(sink, b"\r\n");
-}
-
-/// Adds the line that repeats the request's identity, where it has one.
-fn put_echo<W: Sink>(stage: &mut Stage, sink: &mut W, echo: Option<&[u8]>)
-    ensures { let old = seen (W.taken sink.old) (W.writes sink.old) (W.failed_or_empty sink.old) (W.room sink.old) in
-        let new = seen (W.taken sink.new) (W.writes sink.new) (W.failed_or_empty sink.new) (W.room sink.new) in
-        (start : Seen) (text : List ℕ) →
-        Carries start text old stage.old →
-        Carries start (text ++ echo_line (option_copied echo.entry)) new stage.new }
-{
-    if let Some(identity) = echo {
-        stage.put(sink, b"X-Broker-API-Request-Identity: ");
-        stage.put(sink, identity);
-        stage.put(sink, b"\r\n");
+    for piece in pieces {
+        stage.put(sink, piece);
     }
 }
 
@@ -68,13 +44,8 @@ fn put_reply<W: Sink>(stage: &mut Stage, sink: &mut W, reply: &Reply<'_>)
         Carries start text old stage.old →
         Carries start (text ++ reply_text (parts reply.now)) new stage.new }
 {
-    let body = reply.body.bytes();
-    put_front(stage, sink, reply.status, body.len());
-    stage.put(sink, challenge(reply.status));
-    put_echo(stage, sink, reply.echo);
-    stage.put(sink, closing(reply.close));
-    stage.put(sink, b"\r\n");
-    stage.put(sink, body);
+    let (mut code, mut size) = (Buffer::new(), Buffer::new());
+    put_all(stage, sink, &pieces(reply, &mut code, &mut size));
 }
 
 /// Writes the text of a reply, in as few writes as fit: a text of up to 1,024 bytes is offered to
