@@ -57,6 +57,10 @@ tested_finds P false x e late h = record { found = late }
 abbrev pub Anything : {A : Type 0} → A → Type 0
 Anything x = ⊤
 
+needed_finds : {A : Type 0} (e : AskFault) (o : Option A) → is_late e ≡ true → Finds A Anything (needed e o)
+needed_finds e None late = record { found = late }
+needed_finds e (Some x) late = record { found = tt }
+
 -- ---- ids and numbers
 
 id_or_finds : (e : AskFault) (text : List ℕ) → is_late e ≡ true → Finds (List ℕ) IsId (id.id_or e text)
@@ -101,11 +105,7 @@ accepts_finds q = by (query.query_value (codes "accepts_incomplete") q)
     by (Some text) = chosen_finds (bytes_eq text (codes "true")) (bytes_eq text (codes "false")) true false fault.Query refl
 
 pub id_in_finds : (name q : List ℕ) → Finds (List ℕ) IsId (query.query_id name q)
-id_in_finds name q = by (query.query_value name q)
-  where
-    by : (o : Option (List ℕ)) → Finds (List ℕ) IsId (query.query_id_by o)
-    by None = record { found = refl }
-    by (Some text) = id_or_finds fault.Query text refl
+id_in_finds name q = then_finds Anything IsId (needed fault.Query (query.query_value name q)) _ (needed_finds fault.Query _ refl) (λ text _. id_or_finds fault.Query text refl)
 
 pub after_finds : (q : List ℕ) → Finds (Option (List ℕ)) IsGivenId (query.after_in q)
 after_finds q = unless_empty_finds fault.Query (query.query_value (codes "after") q) refl
@@ -127,11 +127,10 @@ text_finds : (name : List ℕ) (v : Data) → Finds (Option (List ℕ)) Anything
 text_finds name v = or_body_finds (field as_str name v)
 
 pub id_at_finds : (name : List ℕ) (v : Data) → Finds (List ℕ) IsId (body.id_at name v)
-id_at_finds name v = then_finds Anything IsId (body.body_text_at name v) body.id_by (text_finds name v) (λ o _. by o)
-  where
-    by : (o : Option (List ℕ)) → Finds (List ℕ) IsId (body.id_by o)
-    by None = record { found = refl }
-    by (Some text) = id_or_finds fault.Body text refl
+id_at_finds name v =
+    then_finds Anything IsId (body.body_text_at name v >>= needed fault.Body) _
+    (then_finds Anything Anything (body.body_text_at name v) (needed fault.Body) (text_finds name v) (λ o _. needed_finds fault.Body o refl))
+    (λ text _. id_or_finds fault.Body text refl)
 
 pub given_id_finds : (name : List ℕ) (v : Data) → Finds (Option (List ℕ)) IsGivenId (body.given_id_at name v)
 given_id_finds name v = then_finds Anything IsGivenId (body.body_text_at name v) body.given_id_by (text_finds name v) (λ o _. by o)

@@ -34,13 +34,9 @@ body_of bytes = or_body (object_of bytes)
 abbrev pub body_text_at : List ℕ → Data → Result (Option (List ℕ)) AskFault
 body_text_at name v = or_body (field as_str name v)
 
-abbrev pub id_by : Option (List ℕ) → Result (List ℕ) AskFault
-id_by None = Err Body
-id_by (Some text) = id_or Body text
-
 -- an id that has to be there
 abbrev pub id_at : List ℕ → Data → Result (List ℕ) AskFault
-id_at name v = body_text_at name v >>= id_by
+id_at name v = body_text_at name v >>= needed Body >>= id_or Body
 
 abbrev pub given_id_by : Option (List ℕ) → Result (Option (List ℕ)) AskFault
 given_id_by None = Ok None

@@ -5,6 +5,7 @@ use Rattle.std.specs.Str.Lossy.{utf8_lossy}
 use Rattle.form_urlencoded.specs.Form.{decode, raw_pairs}
 use Rattle.osb_asks.specs.declared.ask_fault.AskFault.{AskFault}
 use Rattle.osb_asks.specs.declared.ask_fault.AskFault.TheVariants.{Query}
+use Rattle.osb_asks.specs.Reads.{◌>>=◌, needed}
 use Rattle.osb_asks.specs.Ids.{id_or, id_unless_empty_or}
 
 -- a name or a value as text: bytes that are no UTF-8 become U+FFFD
@@ -30,13 +31,9 @@ accepts_incomplete_by (Some text) =
 abbrev pub accepts_incomplete_in : List ℕ → Result Bool AskFault
 accepts_incomplete_in query = accepts_incomplete_by (query_value (codes "accepts_incomplete") query)
 
-abbrev pub query_id_by : Option (List ℕ) → Result (List ℕ) AskFault
-query_id_by None = Err Query
-query_id_by (Some text) = id_or Query text
-
 -- an id that has to be there
 abbrev pub query_id : List ℕ → List ℕ → Result (List ℕ) AskFault
-query_id name query = query_id_by (query_value name query)
+query_id name query = needed Query (query_value name query) >>= id_or Query
 
 -- the id after which orders are listed, which is this project's own
 abbrev pub after_in : List ℕ → Result (Option (List ℕ)) AskFault

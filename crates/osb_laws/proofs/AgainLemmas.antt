@@ -1,5 +1,5 @@
 -- An ask whose step was taken changes nothing when it is asked again at once.
-use Rattle.std.proofs.Common.{◌≡◌, ℕ, Bool, true, false, cond, not, ◌&&◌, ◌==◌, List, [], ◌∷◌, ◌++◌, length, Option, None, Some, refl, sym, ◌∙◌, ap, subst}
+use Rattle.std.proofs.Common.{◌≡◌, ℕ, ◌+◌, Bool, true, false, cond, not, ◌&&◌, ◌==◌, List, [], ◌∷◌, ◌++◌, length, Option, None, Some, refl, sym, ◌∙◌, ap, subst}
 use Rattle.std.specs.Prelude.{nat_le, bytes_eq, unwrap_or}
 use Rattle.std.specs.List.{find}
 use Rattle.osb_catalog.specs.Rules.{Rules, allows_context_updates}
@@ -37,18 +37,18 @@ use Rattle.osb_orders.specs.IsLife.{is_empty, is_absent, IsLifeAfter}
 use Rattle.osb_machine.specs.Decision.{Decision, done, empty_object}
 use Rattle.osb_machine.specs.Plans.{catalog_version, is_bindable}
 use Rattle.osb_machine.specs.Same.{are_same}
-use Rattle.osb_machine.specs.Opened.{Opening, running, succeeded_with, next_order, opened, is_busy, is_unlike}
+use Rattle.osb_machine.specs.Opened.{Opening, running, succeeded_with, numbered, opened, is_busy, is_unlike}
 use Rattle.osb_machine.specs.Provision.{creation, provision_at, provision}
 use Rattle.osb_machine.specs.Update.{target_plan, target_maintenance, target_context, target, update_opening, forbids_change, update_ready, update_by, update_checked, update_over, update_at}
 use Rattle.osb_machine.specs.Deprovision.{deletion, deprovision_over, deprovision_at}
-use Rattle.osb_machine.specs.Bind.{bind_opening, is_of_plan, bind_by, bind_in, bind_at}
+use Rattle.osb_machine.specs.Bind.{bind_opening, is_of_plan, bind_new, bind_over, bind_at}
 use Rattle.osb_machine.specs.Unbind.{unbind_opening, unbind_over, unbind_at}
 use Rattle.osb_machine.specs.Report.{reported_state, kept_outcome, is_outcome, report}
 use Rattle.std.specs.Cmp.Lexicographic.{nat_list_eq_equiv}
 use Rattle.std.proofs.lemmas.Bool.{true≢false}
 use Rattle.osb_orders.proofs.GrowLemmas.{choose, grow, unless, unless-miss, unless-hit, from_last-hit, from_last-miss, last_where-hit, last_where-miss, since_birth-create, since_birth-later, since_birth-deleted}
 use Rattle.osb_laws.proofs.LifeLemmas.{absent_by, found_ended}
-use Rattle.osb_laws.proofs.StepLemmas.{change_of, after_ask, accepted_quiet, provision_over_quiet, bind_over_quiet, poll_quiet, update_running_quiet, fetch_quiet, fetch_binding_quiet}
+use Rattle.osb_laws.proofs.StepLemmas.{change_of, after_ask, accepted_quiet, provision_over_quiet, bind_again_quiet, poll_quiet, update_running_quiet, fetch_quiet, fetch_binding_quiet}
 
 same_bytes : (bytes : List ℕ) → bytes_eq bytes bytes ≡ true
 same_bytes bytes = nat_list_eq_equiv.refl bytes
@@ -145,15 +145,12 @@ ready_quiet rules facts a s is =
 
 bind_quiet : (rules : Rules) (facts : ViewData) (a : Bind) (b : BindingNow) (s : Option Standing) → facts.binding ≡ Some b → (bind_at rules facts a s).change ≡ Nothing
 bind_quiet rules facts a b None is = refl
-bind_quiet rules facts a b (Some s) is = over s.phase
+bind_quiet rules facts a b (Some s) is = subst (λ found. (bind_over s.phase found rules facts s.attributes a).change ≡ Nothing) (sym is) (over s.phase)
   where
-    by : (bind_by rules facts s.attributes a facts.binding).change ≡ Nothing
-    by = subst (λ found. (bind_by rules facts s.attributes a found).change ≡ Nothing) (sym is) (bind_over_quiet b.phase _ b facts a)
-
-    over : (p : InstancePhase) → (bind_in p rules facts s.attributes a).change ≡ Nothing
+    over : (p : InstancePhase) → (bind_over p (Some b) rules facts s.attributes a).change ≡ Nothing
     over phase.Failed = refl
     over phase.Creating = refl
-    over _ = by
+    over _ = bind_again_quiet b.phase _ b facts a
 
 report_quiet : (a : Report) (named : Option Order) → ((o : Order) → named ≡ Some o → is_now Running o ≡ false) → (report a named).change ≡ Nothing
 report_quiet a None ended = refl
@@ -186,7 +183,7 @@ module _ (rules : Rules) (life : Life) (listing : List (List ℕ × Order)) wher
     past : (test : Bool) (here other : Decision) → here.change ≡ Nothing → Settles other → Settles (cond test here other)
     past test here other quiet otherwise = choose Settles test here other (λ _. still here.change quiet) (λ _. otherwise)
 
-    opening : (o : Opening) → Rests ask (next_order (length life) o running) → Rests ask (next_order (length life) o (succeeded_with o.credentials)) → Settles (opened rules (view_data_of life listing ask) o)
+    opening : (o : Opening) → Rests ask (numbered (length life + 1) o running) → Rests ask (numbered (length life + 1) o (succeeded_with o.credentials)) → Settles (opened rules (view_data_of life listing ask) o)
     opening o later now =
         past (o.asynchronous && not o.accepts_incomplete) _ _ refl
         (past (nat_le rules.order_limit (length life)) _ _ refl
@@ -210,7 +207,7 @@ module _ (rules : Rules) (life : Life) (listing : List (List ℕ × Order)) wher
   deprovision_settles a s present = over s.phase
     where
       o : Outcome → Order
-      o outcome = next_order (length life) (deletion rules s.attributes a) outcome
+      o outcome = numbered (length life + 1) (deletion rules s.attributes a) outcome
 
       rests : (outcome : Outcome) (now : Option Standing) → standing_of (life ++ o outcome ∷ []) ≡ now → (deprovision_at rules (view_data_of (life ++ o outcome ∷ []) listing (the.Deprovision a)) a now).change ≡ Nothing → Rests (the.Deprovision a) (o outcome)
       rests outcome now is quiet = subst (λ s. (deprovision_at rules (view_data_of (life ++ o outcome ∷ []) listing (the.Deprovision a)) a s).change ≡ Nothing) (sym is) quiet
@@ -232,7 +229,7 @@ module _ (rules : Rules) (life : Life) (listing : List (List ℕ × Order)) wher
       aim = target rules s.attributes a
 
       o : Outcome → Order
-      o outcome = next_order (length life) (update_opening rules s.attributes a aim) outcome
+      o outcome = numbered (length life + 1) (update_opening rules s.attributes a aim) outcome
 
       facts : Outcome → ViewData
       facts outcome = view_data_of (life ++ o outcome ∷ []) listing (the.Update a)
@@ -271,31 +268,31 @@ module _ (rules : Rules) (life : Life) (listing : List (List ℕ × Order)) wher
       over _ = checked
 
   bind_settles : (a : Bind) (s : Standing) → is_absent life ≡ false → Settles (the.Bind a) (bind_at rules (view_data_of life listing (the.Bind a)) a (Some s))
-  bind_settles a s present = over s.phase
+  bind_settles a s present = over s.phase (binding_of a.binding life)
     where
-      rests : (outcome : Outcome) → Rests (the.Bind a) (next_order (length life) (bind_opening rules s.attributes a) outcome)
+      rests : (outcome : Outcome) → Rests (the.Bind a) (numbered (length life + 1) (bind_opening rules s.attributes a) outcome)
       rests outcome =
-          let o = next_order (length life) (bind_opening rules s.attributes a) outcome in
+          let o = numbered (length life + 1) (bind_opening rules s.attributes a) outcome in
           bind_quiet rules (view_data_of (life ++ o ∷ []) listing (the.Bind a)) a _ (standing_of (life ++ o ∷ []))
           (ap (λ since. binding_since a.binding (since_bind a.binding since)) (since_birth-later life o refl refl) ∙ ap (binding_since a.binding) (bind_grown a.binding (since_birth life) o present (same_bytes a.binding) refl))
 
-      by : (b : Option BindingNow) → Settles (the.Bind a) (bind_by rules (view_data_of life listing (the.Bind a)) s.attributes a b)
-      by None =
+      new : Settles (the.Bind a) (bind_new rules (view_data_of life listing (the.Bind a)) s.attributes a)
+      new =
           past (the.Bind a) (is_busy (view_data_of life listing (the.Bind a))) _ _ refl
           (past (the.Bind a) (not (is_of_plan a s.attributes)) _ _ refl
           (past (the.Bind a) (not (is_bindable rules s.attributes.service s.attributes.plan)) _ _ refl (opening (the.Bind a) (bind_opening rules s.attributes a) (rests running) (rests (succeeded_with (bind_opening rules s.attributes a).credentials)))))
-      by (Some b) = still (the.Bind a) _ (bind_over_quiet b.phase _ b (view_data_of life listing (the.Bind a)) a)
 
-      over : (p : InstancePhase) → Settles (the.Bind a) (bind_in p rules (view_data_of life listing (the.Bind a)) s.attributes a)
-      over phase.Failed = λ own. own
-      over phase.Creating = λ own. own
-      over _ = by (binding_of a.binding life)
+      over : (p : InstancePhase) (b : Option BindingNow) → Settles (the.Bind a) (bind_over p b rules (view_data_of life listing (the.Bind a)) s.attributes a)
+      over phase.Failed b = λ own. own
+      over phase.Creating b = λ own. own
+      over _ (Some b) = still (the.Bind a) _ (bind_again_quiet b.phase _ b (view_data_of life listing (the.Bind a)) a)
+      over _ None = new
 
   unbind_settles : (a : Unbind) (b : BindingNow) → Settles (the.Unbind a) (unbind_at rules (view_data_of life listing (the.Unbind a)) a (Some b))
   unbind_settles a b = over b.phase
     where
       o : Outcome → Order
-      o outcome = next_order (length life) (unbind_opening rules (standing_of life) b a) outcome
+      o outcome = numbered (length life + 1) (unbind_opening rules (standing_of life) b a) outcome
 
       facts : Outcome → ViewData
       facts outcome = view_data_of (life ++ o outcome ∷ []) listing (the.Unbind a)

@@ -48,28 +48,25 @@ bind_new rules facts instance ask =
     if not (is_bindable rules instance.service instance.plan) then refuses NotBindable
     else opened rules facts (bind_opening rules instance ask)))
 
--- by the phase of the binding, and whether it is the same
-abbrev pub bind_over : BindingPhase → Bool → BindingNow → ViewData → Bind → Decision
-bind_over binding_phase.Bound true binding facts ask = says status.Ok (credentials_body binding.credentials)
-bind_over binding_phase.Bound false binding facts ask = conflict
-bind_over binding_phase.Binding true binding facts ask = accepted ask.accepts_incomplete facts.last
-bind_over binding_phase.Binding false binding facts ask = conflict
-bind_over binding_phase.Unbinding same binding facts ask = refuses ConcurrencyError
-bind_over binding_phase.Failed same binding facts ask = conflict
+-- a binding of that id is there: by its phase, and whether it is the same
+abbrev pub bind_again : BindingPhase → Bool → BindingNow → ViewData → Bind → Decision
+bind_again binding_phase.Bound true binding facts ask = says status.Ok (credentials_body binding.credentials)
+bind_again binding_phase.Bound false binding facts ask = conflict
+bind_again binding_phase.Binding true binding facts ask = accepted ask.accepts_incomplete facts.last
+bind_again binding_phase.Binding false binding facts ask = conflict
+bind_again binding_phase.Unbinding same binding facts ask = refuses ConcurrencyError
+bind_again binding_phase.Failed same binding facts ask = conflict
 
-abbrev pub bind_by : Rules → ViewData → Attributes → Bind → Option BindingNow → Decision
-bind_by rules facts instance ask (Some binding) = bind_over binding.phase (is_same_binding ask binding.attributes) binding facts ask
-bind_by rules facts instance ask None = bind_new rules facts instance ask
-
--- by the phase of the instance
-abbrev pub bind_in : InstancePhase → Rules → ViewData → Attributes → Bind → Decision
-bind_in phase.Failed rules facts instance ask = not_found
-bind_in phase.Creating rules facts instance ask = refuses ConcurrencyError
-bind_in _ rules facts instance ask = bind_by rules facts instance ask facts.binding
+-- by the phase of the instance, and whether a binding of that id is there
+abbrev pub bind_over : InstancePhase → Option BindingNow → Rules → ViewData → Attributes → Bind → Decision
+bind_over phase.Failed binding rules facts instance ask = not_found
+bind_over phase.Creating binding rules facts instance ask = refuses ConcurrencyError
+bind_over _ (Some binding) rules facts instance ask = bind_again binding.phase (is_same_binding ask binding.attributes) binding facts ask
+bind_over _ None rules facts instance ask = bind_new rules facts instance ask
 
 abbrev pub bind_at : Rules → ViewData → Bind → Option Standing → Decision
 bind_at rules facts ask None = not_found
-bind_at rules facts ask (Some instance) = bind_in instance.phase rules facts instance.attributes ask
+bind_at rules facts ask (Some instance) = bind_over instance.phase facts.binding rules facts instance.attributes ask
 
 abbrev pub bind : Rules → ViewData → Bind → Decision
 bind rules facts ask = bind_at rules facts ask facts.standing

@@ -39,10 +39,6 @@ succeeded_with credentials = record { state = Succeeded; description = []; crede
 abbrev pub numbered : ℕ → Opening → Outcome → Order
 numbered number opening outcome = record { number = number; kind = opening.kind; binding = opening.binding; attributes = opening.attributes; outcome = outcome }
 
--- the order after so many others
-abbrev pub next_order : ℕ → Opening → Outcome → Order
-next_order count opening outcome = numbered (count + 1) opening outcome
-
 abbrev pub appends : Status → List ℕ → Order → Decision
 appends status body order = record { status = status; body = body; change = Append order }
 
@@ -59,7 +55,7 @@ abbrev pub opened : Rules → ViewData → Opening → Decision
 opened rules facts opening =
     if opening.asynchronous && not opening.accepts_incomplete then refuses AsyncRequired else (
     if nat_le rules.order_limit facts.count then refuses Full else (
-    if opening.asynchronous then begins (next_order facts.count opening running)
+    if opening.asynchronous then begins (numbered (facts.count + 1) opening running)
     else carried_out (facts.count + 1) opening))
 
 -- '202 of it': the order that runs, where the request accepts that

@@ -4,7 +4,7 @@ ghost use Rattle.std.specs.Prelude.{◌≡◌, IfOk};
 ghost use Rattle.osb_catalog.specs.Rules.{rules_of};
 ghost use Rattle.osb_orders.specs.ViewData.{data_in};
 ghost use Rattle.osb_machine.specs.Opened.{opened};
-ghost use Rattle.osb_machine.specs.Bind.{bound_attributes, bind_opening, is_of_plan, bind_new, bind_over, bind};
+ghost use Rattle.osb_machine.specs.Bind.{bound_attributes, bind_opening, is_of_plan, bind_new, bind_again, bind};
 ghost use Rattle.osb_machine.specs.Steps.{decision, opening_of};
 
 use crate::answer_and_change::{Answer, AnswerAndChange};
@@ -40,21 +40,21 @@ pub(crate) fn bind<'a>(
     match &view.binding {
         Some(binding) => {
             let same = is_same_binding(ask, &binding.attributes);
-            bind_over(alloc, view, binding, ask, same)
+            bind_again(alloc, view, binding, ask, same)
         }
         None => bind_new(alloc, settings, view, &instance.attributes, ask),
     }
 }
 
-/// By the phase of the binding, and whether it is the same.
-fn bind_over<'a>(
+/// A binding of that id is there: by its phase, and whether it is the same.
+fn bind_again<'a>(
     alloc: Global,
     view: &View,
     binding: &BindingNow,
     ask: &Bind,
     same: bool,
 ) -> Result<AnswerAndChange<'a>, AllocError>
-    ensures { IfOk result (λ step. decision step ≡ bind_over binding.now.phase same binding.now (data_in view.now) ask.now) }
+    ensures { IfOk result (λ step. decision step ≡ bind_again binding.now.phase same binding.now (data_in view.now) ask.now) }
 {
     match binding.phase {
         BindingPhase::Bound if same => {

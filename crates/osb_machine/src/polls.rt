@@ -2,7 +2,7 @@
 
 ghost use Rattle.std.specs.Prelude.{◌≡◌, IfOk};
 ghost use Rattle.osb_orders.specs.ViewData.{data_in};
-ghost use Rattle.osb_machine.specs.Polls.{polled_answer, poll};
+ghost use Rattle.osb_machine.specs.Polls.{polled, poll};
 ghost use Rattle.osb_machine.specs.Steps.{decision};
 
 use crate::answer_and_change::AnswerAndChange;
@@ -30,17 +30,17 @@ pub(crate) fn poll<'a>(
         (Some(_), Some(named)) => named,
         (Some(_), None) => return Ok(AnswerAndChange::refuses(FixedError::Operation)),
     };
-    polled_answer(alloc, order.kind == removal, order)
+    polled(alloc, removal, order)
 }
 
-fn polled_answer<'a>(
+fn polled<'a>(
     alloc: Global,
-    is_removal: bool,
+    removal: OrderKind,
     order: &Order,
 ) -> Result<AnswerAndChange<'a>, AllocError>
-    ensures { IfOk result (λ step. decision step ≡ polled_answer is_removal order.now) }
+    ensures { IfOk result (λ step. decision step ≡ polled removal order.now) }
 {
-    if is_removal && matches!(order.outcome.state, OrderState::Succeeded) {
+    if order.kind == removal && matches!(order.outcome.state, OrderState::Succeeded) {
         return Ok(AnswerAndChange::of_status(Status::Gone));
     }
     let text = texts::state(alloc, &order.outcome)?;
