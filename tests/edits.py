@@ -21,13 +21,15 @@ its files and what is put in their place.
 `rt ci` has proved every function just before, so here each other function of the crate is taken at its
 word: its proof is a hole, and the edited function alone is checked against what the others promise. That
 takes seconds, where an edit under must-fail/ costs a check of the whole crate. Edits of several functions
-are tried in one check, after all functions that edits name have passed as they are, past the same holes.
+are tried in one check.
 
 An edit counts as refused where its own function has a goal that shows a wrong result: what the function
 ensures, what a function that it calls requires, an invariant, or a written answer that now proves another
 statement. The goal is printed. A refusal shows nothing, and is a fault of the edit, where each open goal is one
 of safety (an index, a sum), one at which the search met its limits, or an answer that names what the edit took
-away. That the search met its limits counts only in a function that passes as it is within half of them.
+away. That the search met its limits counts only in a function that passes as it is, past the same holes, within
+half of them. That the others pass as they are is what the command of the second form proves beside the edits;
+without such a command each is checked here.
 
 The edits under must-fail/ are tried by `rt ci` itself. One that can't be tried, or that it refused for a name or
 for a limit alone, is a fault here.
@@ -218,9 +220,9 @@ def batches(edits):
     return made
 
 
-def check(crate, names, edits, kept, more=()):
-    """The judgement on the functions that these edits name, or on all of these names where there is no edit. Every
-    function of these names keeps its body, and each other one is taken at its word."""
+def check(crate, names, edits, kept, only=(), more=()):
+    """The judgement on the functions that these edits name, and on these alone where there is no edit. Every function
+    of these names keeps its body, and each other one is taken at its word."""
     with tempfile.TemporaryDirectory() as room:
         folder = pathlib.Path(room)
         for part in ("src", "specs", "proofs"):
@@ -229,7 +231,7 @@ def check(crate, names, edits, kept, more=()):
         for edit in edits:
             edit.apply(folder)
         keep_alone(folder, crate, names)
-        words = command(crate, sorted({edit.refused for edit in edits} or names), kept, more)
+        words = command(crate, sorted({*only, *(edit.refused for edit in edits)}), kept, more)
         how = {"stdin": subprocess.DEVNULL, "stdout": subprocess.PIPE, "stderr": subprocess.STDOUT, "text": True}
         return Judgement(crate, subprocess.run(words, cwd=room, **how).stdout)
 
@@ -279,38 +281,41 @@ class Judgement:
             for goal, error in self.answers.get(function, []):
                 yield goal, WRITTEN, error
 
-    def shows(self, function, gave_up_counts):
-        """The open goals that show that the function's result is wrong, a line each."""
+    def shows(self, function):
+        """The open goals that show that the function's result is wrong, a line each, with whether the search met its
+        limits there."""
         for goal, kind, more in self.open_goals(function):
             is_one = SHOWS.search(kind) or kind == WRITTEN or not kind and (goal or "").startswith(NAMED)
-            if is_one and (gave_up_counts or GAVE_UP not in more) and not GONE.search(more):
-                yield f"{goal}: {kind or 'no proof'}{more}"[:160]
+            if is_one and not GONE.search(more):
+                yield GAVE_UP in more, f"{goal}: {kind or 'no proof'}{more}"[:160]
 
 
 def try_batch(crate, names, batch, kept):
-    """The edits of a batch that weren't refused, with what was said of their functions. `names` has each function
-    that keeps its body, and whether it passes within half of the search's limits."""
+    """What refuses each edit of a batch, as `Judgement.shows` has it; and the edits that nothing refuses, with what was
+    said of their functions. Each function of these names keeps its body."""
     judged = check(crate, names, batch, kept)
-    wrong, again = [], []
+    refused, wrong, again = {}, [], []
     for edit in batch:
-        shown, told = list(judged.shows(edit.refused, names[edit.refused])), judged.told(edit.refused)
+        shown, told = sorted(judged.shows(edit.refused)), judged.told(edit.refused)
         if shown:
-            print(f"{edit}: refused in {edit.refused}: {shown[0]}", flush=True)
+            refused[edit] = shown[0]
         elif any(f"`{crate}::{other.refused}`" in told for other in batch if other is not edit):
             again.append(edit)
         else:
             goals = [f"    {goal}: {kind}{more}"[:200] for goal, kind, more in judged.open_goals(edit.refused)]
             wrong.append("\n".join([f"{edit}: {edit.refused}: {told[:300]}", *goals]))
-    parts = [again] if len(again) < len(batch) else [[edit] for edit in again]
-    return wrong + [line for part in parts if part for line in try_batch(crate, names, part, kept)]
+    for part in [again] if len(again) < len(batch) else [[edit] for edit in again]:
+        more, less = try_batch(crate, names, part, kept) if part else ({}, [])
+        refused, wrong = refused | more, wrong + less
+    return refused, wrong
 
 
 class Told:
-    """What a command that proves all crates has told so far: which are proved, which the toolkit kept, and which edits
-    under must-fail/ show nothing."""
+    """What a command that proves all crates, where there is one, has told so far: which are proved, which the toolkit
+    kept, and which edits under must-fail/ show nothing."""
 
-    def __init__(self):
-        self.crates = {name: threading.Event() for name in LIBRARIES}
+    def __init__(self, proves):
+        self.proves, self.crates = proves, {name: threading.Event() for name in LIBRARIES}
         self.kept, self.wrong, self.ended, self.failed = set(), [], threading.Event(), False
 
     def read(self, line):
@@ -372,9 +377,16 @@ def try_crate(crate, edits, told, places):
 def try_proved(crate, edits, told):
     """The edits of a crate over proved libraries that weren't refused."""
     build_missing(crate, told)
+    names, refused, wrong = {edit.refused for edit in edits}, {}, []
     with tempfile.TemporaryDirectory() as kept:
-        names, wrong = pass_unedited(crate, {edit.refused for edit in edits}, kept)
-        wrong += [line for batch in batches(edits) for line in try_batch(crate, names, batch, kept)]
+        for batch in batches(edits):
+            more, less = try_batch(crate, names, batch, kept)
+            refused, wrong = refused | more, wrong + less
+        within = {edit.refused for edit, (met_limit, _) in refused.items() if met_limit}
+        wrong += pass_unedited(crate, names, within, kept)
+        if not told.proves:
+            wrong += pass_unedited(crate, names, names - within, kept, halved=False)
+    print(*(f"{edit}: refused in {edit.refused}: {goal}" for edit, (_, goal) in refused.items()), sep="\n")
     if not wrong:
         passed(crate).parent.mkdir(parents=True, exist_ok=True)
         passed(crate).touch()
@@ -382,14 +394,13 @@ def try_proved(crate, edits, told):
     return wrong
 
 
-def pass_unedited(crate, names, kept):
-    """Each function that a crate's edits name, with whether it passes without them within half of the search's limits;
-    and those that don't pass. What doesn't within half of them is checked again within all."""
-    first = check(crate, names, [], kept, HALVED)
-    left = {it for it in names if not first.passes(it)}
-    judged = check(crate, left, [], kept) if left and HALVED else first
-    within = {it: bool(HALVED) and it not in left for it in sorted(names)}
-    return within, [f"{crate}: {it} without an edit: {judged.told(it)[:300]}" for it in sorted(left) if not judged.passes(it)]
+def pass_unedited(crate, names, only, kept, halved=True):
+    """Which of these functions don't pass as they are, or not within half of the search's limits. No search is shown
+    to stay within half of them by a toolkit that can't halve them."""
+    judged = check(crate, names, [], kept, only, HALVED if halved else []) if only else None
+    fail = [it for it in sorted(only) if not judged.passes(it) or halved and not HALVED]
+    how = " and within half of the limits, which its edit met" if halved else ""
+    return [f"{crate}: {it} without an edit{how}: {judged.told(it)[:300]}" for it in fail]
 
 
 def beside(words, told, jobs):
@@ -426,7 +437,7 @@ def faults_of_files(every):
 
 def try_all(edits, words):
     """Tries the edits of each crate, beside a command where one is given. Gives what is wrong, and its status."""
-    told, status = Told(), 0
+    told, status = Told(proves=bool(words)), 0
     jobs = lanes(BYTES_OF_CRATE) if words else 0
     at_once = max(1, min(2, (free_memory() - jobs * BYTES_OF_CRATE) // BYTES_OF_EDITS))
     places = threading.Semaphore(at_once)

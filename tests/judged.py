@@ -66,15 +66,15 @@ WRONG = {
 
 
 class Small:
-    """A repository of one crate, with these edits and this list of them."""
+    """A repository of one crate, with these edits, this list of them and this source."""
 
-    def __init__(self, room, edits, listed=None):
+    def __init__(self, room, edits, listed=None, source=SOURCE):
         self.root = pathlib.Path(tempfile.mkdtemp(dir=room))
         for name in ("tests/edits.py", "tools/crates.py"):
             (self.root / name).parent.mkdir(exist_ok=True)
             shutil.copy(os.path.join(ROOT, name), self.root / name)
         crate = self.root / "crates" / "small"
-        texts = {"src/lib.rt": SOURCE, "proofs/Lib.antt": "", "proofs/smaller/Answers.antt": ANSWER}
+        texts = {"src/lib.rt": source, "proofs/Lib.antt": "", "proofs/smaller/Answers.antt": ANSWER}
         texts |= {f"edits/{name}.edit": text for name, text in edits.items()}
         for name, text in texts.items():
             (crate / name).parent.mkdir(parents=True, exist_ok=True)
@@ -114,6 +114,9 @@ def try_proofs(room):
     found = {name for name in WRONG if f"small/edits/{name}: " in said and f"small/edits/{name}: refused" not in said}
     yield "edits that show nothing", (status, found, "4 to be tried, 4 faults" in said), (1, set(WRONG), True)
     yield "one under must-fail/ that can't be tried", "\nrt: must-fail small/x.edit: BAD EDIT" in said, True
+    broken, at_fault = SOURCE.replace("    n + 1", "    n + 3"), "small: next without an edit: "
+    status, said = Small(room, {"two_more": edit("next", "    n + 3", "    n + 2")}, source=broken).judged()
+    yield "a function that doesn't pass as it is", (status, at_fault in said), (1, True)
     limit = "echo 'rt: must-fail small/x.edit: refused, as it must be (only by a limit of the prover)'"
     status, said = Small(room, {"two_more": TWO_MORE}).judged("--beside", "sh", "-c", limit)
     yield "one under must-fail/ that met a limit", (status, "1 faults" in said), (1, True)
