@@ -1,6 +1,6 @@
 -- The route that a request takes, or the fault that keeps it out: NoDoor, Auth, Version, NoRoute, in this order
 -- (OSB API 2.17, "API Version Header" and "Authentication"; their order is this project's choice).
-use Rattle.std.specs.Prelude.{◌≡◌, ℕ, List, Bool, true, false, not, Option, Result, Ok, Err, codes, if◌then◌else◌}
+use Rattle.std.specs.Prelude.{ℕ, List, Bool, true, false, not, Option, Result, Ok, Err, codes, if◌then◌else◌}
 use Rattle.std.specs.Option.{option_map_or, option_and_then}
 use Rattle.osb_frames.specs.Fields.{Line, values_of, first_value}
 use Rattle.osb_frames.specs.Cuts.{Message}
@@ -45,8 +45,3 @@ admit_at rules q e =
 
 abbrev pub admit_of : Rules → Message → Result Routed AskFault
 admit_of rules q = needed NoDoor (entry_of q.target) >>= admit_at rules q
-
--- what was returned, seen by view, is what is found
-abbrev pub Admits : {X Y : Type 0} → (X → Y) → Result X AskFault → Result Y AskFault → Type 0
-Admits view (Ok x) found = found ≡ Ok (view x)
-Admits view (Err fault) found = found ≡ Err fault

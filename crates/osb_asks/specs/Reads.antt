@@ -1,5 +1,5 @@
 -- What a reader of a request answers: what is found, or the first fault, unless memory was refused.
-use Rattle.std.specs.Prelude.{◌≡◌, ◌≢◌, Option, Some, None, option_map, Result, Ok, Err}
+use Rattle.std.specs.Prelude.{◌≡◌, ◌≢◌, Option, Some, None, Result, Ok, Err}
 use Rattle.osb_asks.specs.declared.ask_fault.AskFault.{AskFault}
 use Rattle.osb_asks.specs.declared.ask_fault.AskFault.TheVariants.{Memory}
 
@@ -7,16 +7,6 @@ use Rattle.osb_asks.specs.declared.ask_fault.AskFault.TheVariants.{Memory}
 abbrev pub Meets : {X : Type 0} → Result X AskFault → Result X AskFault → Type 0
 Meets (Ok x) found = found ≡ Ok x
 Meets (Err fault) found = fault ≢ Memory → found ≡ Err fault
-
--- the same of what was returned as `view` shows it
-abbrev pub ReadsAs : {X Y : Type 0} → (X → Y) → Result X AskFault → Result Y AskFault → Type 0
-ReadsAs view (Ok x) found = found ≡ Ok (view x)
-ReadsAs view (Err fault) found = fault ≢ Memory → found ≡ Err fault
-
--- a look-up, which takes no memory, gives what is found
-abbrev pub Gives : {X Y : Type 0} → (X → Y) → Result (Option X) AskFault → Result (Option Y) AskFault → Type 0
-Gives view (Ok o) found = found ≡ Ok (option_map view o)
-Gives view (Err fault) found = found ≡ Err fault
 
 -- the first fault counts
 infixl 10 ◌>>=◌

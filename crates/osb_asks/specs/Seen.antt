@@ -1,4 +1,6 @@
 -- Entries, places and routes without where their segments lie in memory. For contracts inside the crate.
+use Rattle.std.specs.Prelude.{◌≡◌, Result, Ok, Err}
+use Rattle.osb_asks.specs.declared.ask_fault.AskFault.{AskFault}
 use Rattle.osb_asks.specs.declared.door.DoorAndPath.{DoorAndPath}
 use Rattle.osb_asks.specs.declared.resource.Resource.{Resource}
 use Rattle.osb_asks.specs.declared.resource.Resource.TheVariants as place
@@ -34,3 +36,8 @@ seen_route (route.Unbind i b) = routed.Unbind i.now b.now
 seen_route (route.BindingOp i b) = routed.BindingOp i.now b.now
 seen_route route.Orders = routed.Orders
 seen_route (route.Report i n) = routed.Report i.now n.now
+
+-- what was returned, seen by view, is what is found
+abbrev pub Admits : {X Y : Type 0} → (X → Y) → Result X AskFault → Result Y AskFault → Type 0
+Admits view (Ok x) found = found ≡ Ok (view x)
+Admits view (Err fault) found = found ≡ Err fault

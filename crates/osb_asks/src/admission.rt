@@ -4,7 +4,7 @@ ghost use Rattle.std.specs.Prelude.{◌≡◌, option_map};
 ghost use Rattle.osb_frames.specs.Steps.{message};
 ghost use Rattle.osb_catalog.specs.Rules.{rules_of};
 ghost use Rattle.osb_asks.specs.Admission as spec;
-ghost use Rattle.osb_asks.specs.Seen.{seen_path, seen_route};
+ghost use Rattle.osb_asks.specs.Seen.{Admits, seen_path, seen_route};
 
 use crate::ask_fault::AskFault;
 use crate::credentials::is_login;
@@ -51,7 +51,7 @@ fn route_of<'a>(name: &[u8], entry: DoorAndPath<'a>) -> Option<Route<'a>>
 
 /// The route that the request takes, or the first fault that keeps it out.
 pub(crate) fn admit<'a>(request: &Request<'a>, settings: &Settings) -> Result<Route<'a>, AskFault>
-    ensures { spec.Admits seen_route result (spec.admit_of (rules_of settings.now) (message request.now)) }
+    ensures { Admits seen_route result (spec.admit_of (rules_of settings.now) (message request.now)) }
 {
     let Some(entry) = entry_of(request.target) else {
         return Err(AskFault::NoDoor);

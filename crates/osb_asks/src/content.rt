@@ -3,7 +3,8 @@
 ghost use Rattle.std.specs.Prelude.{◌≡◌, IfOk};
 ghost use Rattle.osb_text.specs.ObjectText.{IsReadable};
 ghost use Rattle.osb_asks.specs.Bodies as spec;
-ghost use Rattle.osb_asks.specs.Reads.{Gives, Meets, ReadsAs};
+ghost use Rattle.osb_asks.specs.Reads.{Meets};
+ghost use Rattle.osb_asks.specs.Contents.{Gives, ReadsAs};
 
 use crate::ask::ReportState;
 use crate::ask_fault::AskFault;
