@@ -96,10 +96,7 @@ fn created_thrice(alloc: Global) -> Result<(usize, Records<FileStore<Memory>>), 
 }
 
 /// How many orders the instance has.
-fn orders_in<D: Crash + Drop>(
-    alloc: Global,
-    mut records: Records<FileStore<D>>,
-) -> Result<usize, Fail> {
+fn orders_in<S: Alter + Drop>(alloc: Global, mut records: Records<S>) -> Result<usize, Fail> {
     let life = records.life(alloc, "i")?;
     Ok(life.len())
 }
