@@ -1,8 +1,9 @@
 //! The replies to framing faults.
 
-ghost use Rattle.std.specs.Prelude.{◌≡◌, ◌<◌, length, OnErr};
+ghost use Rattle.std.specs.Prelude.{◌≡◌, ◌<◌, length, OnErr, IfErr};
 ghost use Rattle.osb_replies.specs.Parts.{parts};
 ghost use Rattle.osb_replies.specs.Text.{reply_text};
+ghost use Rattle.osb_replies.specs.Written.{WroteFirst};
 ghost use Rattle.osb_broker.specs.Machine.{error_of, fault_reply};
 ghost use Rattle.osb_broker.specs.Serving.{WritesText};
 
@@ -32,6 +33,9 @@ fn fault_reply(kind: StopKind) -> Reply<'static>
 
 /// Writes the reply to a framing fault.
 pub fn refuse<W: Sink>(sink: &mut W, kind: StopKind) -> Result<(), WriteFault>
+    ensures cut { IfErr result (λ fault.
+        WroteFirst (W.taken sink.old) (W.taken sink.new)
+        (reply_text (fault_reply kind)) fault.written) }
     ensures short { OnErr result (W.room sink.old < length (reply_text (fault_reply kind))) }
     ensures writes { WritesText (W.taken sink.old) (W.failed_or_empty sink.old) (W.taken sink.new)
         (W.failed_or_empty sink.new) result (reply_text (fault_reply kind)) }
