@@ -1,6 +1,6 @@
 -- The route that a request takes, or the fault that keeps it out: NoDoor, Auth, Version, NoRoute, in this order
 -- (OSB API 2.17, "API Version Header" and "Authentication"; their order is this project's choice).
-use Rattle.std.specs.Prelude.{ℕ, List, Bool, true, false, not, Option, Result, Ok, Err, codes, if◌then◌else◌}
+use Rattle.std.specs.Prelude.{ℕ, List, Bool, true, false, not, Option, Result, Err, codes, if◌then◌else◌}
 use Rattle.std.specs.Option.{option_map_or, option_and_then}
 use Rattle.osb_frames.specs.Fields.{Line, values_of, first_value}
 use Rattle.osb_frames.specs.Cuts.{Message}
