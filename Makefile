@@ -1,16 +1,21 @@
 # make        builds ./osb-broker: proves the crates that it stands on, and links it
-# make run    builds it and serves 127.0.0.1:8080 with the settings of examples/settings.json, over the
-#             database osb-broker.db in the working folder
+# make run    builds it and serves $(ADDRESS) with the settings of examples/settings.json, over the database
+#             osb-broker.db in the working folder
+# make try    serves the same settings there without a proof, for a first look; its records go with it
 # make test   is the whole gate: every proof from nothing, edits that must be refused, and then the built
 #             program tried from outside
 # make package
 #             builds it and makes a Debian package of it
-# make edits  tries those of tests/edits.py alone, over the libraries that the gate or rt check left
+# make image  builds it and makes a container image of it, with podman
+# make edits  tries those of tests/edits.py alone, over the libraries that are there
 
 RT ?= rt
 export RT
+# Nothing is left beside the scripts.
+export PYTHONDONTWRITEBYTECODE = 1
+ADDRESS ?= 127.0.0.1:8080
 
-.PHONY: all run package test tried edits clean FORCE
+.PHONY: all run try package image test tried edits clean FORCE
 
 all: osb-broker
 
@@ -18,10 +23,16 @@ osb-broker: FORCE
 	@python3 tools/build.py
 
 run: osb-broker
-	./osb-broker serve --settings examples/settings.json --database osb-broker.db --listen 127.0.0.1:8080
+	./osb-broker serve --settings examples/settings.json --database osb-broker.db --listen $(ADDRESS)
+
+try:
+	@python3 tools/try.py $(ADDRESS)
 
 package: osb-broker
 	@packaging/package.sh ./osb-broker
+
+image: osb-broker
+	@packaging/image.sh ./osb-broker
 
 # The edits run beside what else there is to do, and behind it.
 test:
@@ -29,12 +40,12 @@ test:
 	python3 tests/needs.py
 	python3 tests/counts.py
 	python3 tests/judged.py
+	python3 tests/building.py
 	python3 tests/edits.py --beside make --no-print-directory tried
 
 # Every proof from nothing; and the program that rt ci linked, tried from outside.
 tried:
-	$(RT) ci
-	cp crates/osb_program/out/osb_program osb-broker
+	python3 tools/build.py --linked-by $(RT) ci
 	python3 tests/outside.py ./osb-broker
 
 edits:

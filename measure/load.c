@@ -1,13 +1,15 @@
-/* Sends requests to a server on loopback from several clients at once, and tells how many were
- * answered and in how many seconds.
+/* Sends requests to a server on loopback from several clients at once, and prints how many were
+ * answered, in how many seconds, and within how many milliseconds 99 of 100 were.
  *
  * usage: load PORT KIND CLIENTS REQUESTS-PER-CONNECTION SECONDS
  *
  * KIND is catalog (the same GET each time), create (a PUT of an id that is new each time), context
  * (the same with a context of 138 bytes), repeat (a PUT of one id each time) or life (an instance is
  * made, bound, unbound and deleted in turn). Each client is a process that sends one request after the
- * other and reads its reply by the Content-Length; the last reply of a connection is read up to the end.
+ * other and reads its reply by the Content-Length; the last request of a connection says so, and its reply is read up
+ * to the end.
  */
+#define _GNU_SOURCE
 #include <arpa/inet.h>
 #include <netinet/tcp.h>
 #include <stdio.h>
@@ -29,7 +31,11 @@
 #define BINDING "{" PLAN "}"
 #define GONE "?service_id=svc&plan_id=p-sync"
 
+/* How many requests took so many hundredths of a millisecond; the last has all that took longer. */
+#define SPANS 1000000
+
 static int port, client;
+static unsigned *spans;
 
 static double now(void)
 {
@@ -80,6 +86,16 @@ static int connected(void)
     return stream;
 }
 
+/* Says in a request that it is the last one of its connection. */
+static int closing(char *text, int length)
+{
+    static const char line[] = "\r\nConnection: close";
+    char *end = strstr(text, "\r\n\r\n");
+    memmove(end + strlen(line), end, text + length - end);
+    memcpy(end, line, strlen(line));
+    return length + strlen(line);
+}
+
 /* Reads one reply, and ends the program where it isn't one of success. */
 static void answered(int stream, int is_last)
 {
@@ -90,7 +106,7 @@ static void answered(int stream, int is_last)
         if (n <= 0)
             break;
         reply[got += n] = 0;
-        char *body = strstr(reply, "\r\n\r\n"), *length = strstr(reply, "Content-Length: ");
+        char *body = strstr(reply, "\r\n\r\n"), *length = strcasestr(reply, "Content-Length: ");
         if (body && length)
             wanted = body + 4 - reply + atol(length + 16);
     }
@@ -106,16 +122,32 @@ static long run(const char *kind, int each, double end)
     static char text[4096];
     long number = 0;
     while (now() < end) {
+        double begun = now();
         int stream = connected();
         for (int i = 0; i < each; i++) {
             int length = request(text, sizeof text, kind, number++);
+            if (i + 1 == each)
+                length = closing(text, length);
             if (write(stream, text, length) != length)
                 exit(1);
             answered(stream, i + 1 == each);
+            long span = (now() - begun) * 1e5;
+            __sync_fetch_and_add(spans + (span < SPANS ? span : SPANS - 1), 1);
+            begun = now();
         }
         close(stream);
     }
     return number;
+}
+
+/* Within how many milliseconds 99 of 100 were answered. */
+static double most_of(long all)
+{
+    long slower = 0;
+    for (int i = SPANS - 1; i >= 0; i--)
+        if ((slower += spans[i]) > all / 100)
+            return (i + 1) / 100.0;
+    return 0;
 }
 
 int main(int count, char **words)
@@ -124,6 +156,7 @@ int main(int count, char **words)
         return 2;
     int clients = atoi(words[3]), status, failed = 0;
     long *counts = mmap(NULL, clients * sizeof *counts, PROT_READ | PROT_WRITE, MAP_SHARED | MAP_ANONYMOUS, -1, 0);
+    spans = mmap(NULL, SPANS * sizeof *spans, PROT_READ | PROT_WRITE, MAP_SHARED | MAP_ANONYMOUS, -1, 0);
     long all = 0;
     double start = now();
     port = atoi(words[1]);
@@ -136,6 +169,6 @@ int main(int count, char **words)
         failed |= status;
     for (int i = 0; i < clients; i++)
         all += counts[i];
-    printf("%ld %f\n", all, now() - start);
+    printf("%ld %f %.2f\n", all, now() - start, most_of(all));
     return failed ? 1 : 0;
 }

@@ -34,7 +34,7 @@ KINDS = {
     "repeat": ("the same instance again", 2, False),
     "life": ("a whole life", 2, True),
 }
-CELLS = [(1, 1), (100, 1), (1, 8), (100, 8)]
+CELLS = [(1, 1), (100, 1), (1, 8), (100, 8), (1, 64)]
 
 
 def serving(program, port, each, database):
@@ -60,7 +60,7 @@ def wait_for(port):
 @contextlib.contextmanager
 def running(words, port):
     """A server that listens, until it is killed."""
-    server = subprocess.Popen(words, stdout=subprocess.DEVNULL)
+    server = subprocess.Popen(words, stdout=subprocess.DEVNULL, stderr=subprocess.DEVNULL)
     try:
         wait_for(port)
         yield server
@@ -70,8 +70,12 @@ def running(words, port):
 
 
 def processor_seconds(process):
-    with open(f"/proc/{process.pid}/schedstat", encoding="ascii") as file:
-        return int(file.read().split()[0]) / 1e9
+    """What all its threads took."""
+    used = 0
+    for thread in os.listdir(f"/proc/{process.pid}/task"):
+        with open(f"/proc/{process.pid}/task/{thread}/schedstat", encoding="ascii") as file:
+            used += int(file.read().split()[0])
+    return used / 1e9
 
 
 def bytes_written(process):
@@ -108,7 +112,7 @@ class Bench:
             told = subprocess.run(asked, check=True, stdout=subprocess.PIPE).stdout
             used, written = processor_seconds(server) - before, bytes_written(server) - written
         shutil.rmtree(place)
-        count, seconds = map(float, told.split())
+        count, seconds, _ = map(float, told.split())
         return count / seconds, used / count * 1e6, written / count
 
     def start(self, name, database):

@@ -33,12 +33,15 @@ fill() {
 }
 
 install -D -m 755 -s "$program" "$root/usr/bin/osb-broker"
-install -D -m 644 "$here/osb-broker.service" "$root/lib/systemd/system/osb-broker.service"
+install -D -m 644 -t "$root/lib/systemd/system" "$here/osb-broker.service" "$here/osb-broker@.service"
 mkdir -p "$doc/examples" "$root/usr/share/man/man1" "$root/DEBIAN"
 fill "$here/osb-broker.1" | gzip -9n > "$root/usr/share/man/man1/osb-broker.1.gz"
-install -m 644 "$checkout/README.md" "$checkout"/docs/*.md "$doc"
-install -m 644 "$checkout/examples/queues.json" "$checkout/examples/nginx.conf" "$checkout/examples/haproxy.cfg" "$doc/examples"
-install -m 755 "$checkout/examples/backend.py" "$doc/examples"
+install -m 644 "$checkout/README.md" "$checkout/CHANGELOG.md" "$checkout/SECURITY.md" "$checkout"/docs/*.md "$doc"
+for each in queues.json postgresql.json nginx.conf haproxy.cfg haproxy-shards.cfg osb-backend.service \
+    drbd-osb.res standby.conf kubernetes.yaml; do
+    install -m 644 "$checkout/examples/$each" "$doc/examples"
+done
+install -m 755 "$checkout/examples/"*.py "$checkout/examples/osb-fence-peer" "$checkout/examples/osb-take-over" "$doc/examples"
 fill "$here/debian/copyright" > "$doc/copyright"
 printf 'osb-broker (%s) unstable; urgency=medium\n\n  * Commit %s.\n\n -- %s  %s\n' \
     "$version" "$commit" "$maintainer" "$date" | gzip -9n > "$doc/changelog.gz"

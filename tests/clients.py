@@ -3,12 +3,16 @@
 
 usage: tests/clients.py PROGRAM
 
-Each kind of client comes forty times. One that is owed a reply has it whole, and the next client is served
-within half a second of that reply or, where none is owed, of the time of a connection. The kinds are tried
-side by side, over programs of their own, since most of it is waiting. What goes wrong while the machine
-stands still is tried again (`calm.py`).
+Each kind of client comes forty times to a program that takes one client after the other, and forty times to one
+that takes many at the same time. One that is owed a reply has it whole, and the next client is served within half a
+second of that reply or, where none is owed, of the time of a connection; where many are taken at the same time it
+doesn't wait at all, and the line of one that isn't done comes when its time is over. The kinds are tried side by side,
+over programs of their own, since most of it is waiting. What goes wrong while the machine stands still is tried again
+(`calm.py`).
 """
 
+import contextlib
+import itertools
 import os
 import resource
 import sys
@@ -23,7 +27,7 @@ from typing import Callable, Optional
 from calm import Watch
 from conversations import CATALOG_REPLY, CLOSE, GET_CATALOG, I, LARGE_SYNC, NO_HEAD_REPLY, TOO_LARGE_REPLY
 from conversations import head_of, reply, request
-from serving import Serving, new_database, tell
+from serving import BEGUN_LINE, Serving, new_database, tell
 
 TRIES = 40
 PROGRAMS = 4
@@ -33,6 +37,13 @@ SOON = 0.5
 AT_ONCE = 0.2
 TIME_LIMIT = 1
 PAUSE = 0.05
+# More than there are descriptors for, where that is tried.
+FEW = 10
+# How much longer somebody waits beside others, where many are taken at the same time.
+BESIDE = 0.1
+
+ONE = ["--together", "1"]
+MANY = ["--together", "64"]
 
 READ_LINE = b"connection: read\n"
 WRITE_LINE = b"connection: write\n"
@@ -176,6 +187,15 @@ def new_lines(serving):
     return serving.process.stderr.read() or b""
 
 
+def lines_in_time(serving, begun):
+    """The lines of a client that came then, and whether they came when its time was over."""
+    lines = b""
+    while not lines and time.monotonic() - begun < TIME_LIMIT + SOON:
+        time.sleep(PAUSE / 10)
+        lines = new_lines(serving)
+    return lines, TIME_LIMIT <= time.monotonic() - begun < TIME_LIMIT + SOON
+
+
 def one_try(serving, name):
     """A client of a kind, and the next one while the first stays."""
     kind = KINDS[name]
@@ -192,10 +212,26 @@ def one_try(serving, name):
     yield f"the lines of one that {name}", new_lines(serving), b"" if kind.owed else READ_LINE
 
 
-def some_tries(serving, name, watch):
+def one_try_beside(serving, name):
+    """The same where many are taken at the same time: the next one doesn't wait for the first."""
+    kind = KINDS[name]
+    begun = time.monotonic()
+    with serving.connection() as client:
+        answer = heard_by(client, kind.acts)
+        asked = time.monotonic()
+        next_answer = heard_next(serving)
+        waited = time.monotonic() - asked
+        lines = (new_lines(serving), True) if kind.owed else lines_in_time(serving, begun)
+    yield f"one that {name}, among many", answer, (kind.owed, "closed") if kind.owed else None
+    yield f"the next beside one that {name}", next_answer, SERVED
+    yield f"the wait beside one that {name}", max(waited, BESIDE), BESIDE
+    yield f"the lines of one that {name}, among many", lines, (b"" if kind.owed else READ_LINE, True)
+
+
+def some_tries(serving, name, trial, watch):
     """So many tries of one kind as each program has of them."""
     for _ in range(TRIES // PROGRAMS):
-        yield from watch.calmly(partial(one_try, serving, name))
+        yield from watch.calmly(partial(trial, serving, name))
 
 
 def unread_replies(serving):
@@ -247,6 +283,20 @@ def lacking_descriptors(serving):
     yield "without descriptors", (status, errors[-26:]), (1, b"osb-broker: cannot accept\n")
 
 
+def few_descriptors(serving):
+    """Silent clients that have all descriptors are ended for those who come behind them."""
+    used = len(os.listdir(f"/proc/{serving.process.pid}/fd"))
+    limit_descriptors(serving, used + 2)
+    with contextlib.ExitStack() as clients:
+        for _ in range(FEW):
+            clients.enter_context(serving.connection())
+        begun = time.monotonic()
+        yield "behind silent ones that have all descriptors", heard_next(serving), SERVED
+        waited = time.monotonic() - begun
+    # One is ended each tenth of a second.
+    yield "the wait behind them", max(waited, FEW / 10 + SOON), FEW / 10 + SOON
+
+
 def shared_time(serving):
     """The requests of a connection share its time."""
     begun = time.monotonic()
@@ -260,19 +310,23 @@ def shared_time(serving):
 
 
 LIMITED = ["--time-limit", str(TIME_LIMIT)]
+WAYS = [(ONE, one_try), (MANY, one_try_beside)]
 MANY_REQUESTS = ["--per-connection", "1000"]
 OTHERS = [
-    (default_limit, []),
-    (lacking_descriptors, []),
+    (default_limit, ONE),
+    (lacking_descriptors, ONE),
+    (lacking_descriptors, MANY),
+    (few_descriptors, MANY),
     (unread_replies, LIMITED + MANY_REQUESTS),
     (shared_time, LIMITED + MANY_REQUESTS),
 ]
 
 
 def over_its_own(program, folder, words, trial):
-    """What a trial finds over a program of its own."""
+    """What a trial finds over a program of its own, which begins a database."""
     with Serving(program, new_database(folder), *words) as serving:
-        return list(trial(serving))
+        begun = ("the line of a start", new_lines(serving), BEGUN_LINE)
+        return [begun, *trial(serving)]
 
 
 def tries(program):
@@ -280,9 +334,9 @@ def tries(program):
     with tempfile.TemporaryDirectory() as folder, ThreadPoolExecutor(SIDE_BY_SIDE) as pool:
         over = partial(over_its_own, program, folder)
         trials = [partial(watch.calmly, partial(over, words, trial)) for trial, words in OTHERS]
-        for name, kind in KINDS.items():
-            trial = partial(some_tries, name=name, watch=watch)
-            trials += [partial(over, [] if kind.owed else LIMITED, trial)] * PROGRAMS
+        for (name, kind), (way, each) in itertools.product(KINDS.items(), WAYS):
+            trial = partial(some_tries, name=name, trial=each, watch=watch)
+            trials += [partial(over, [*way, *([] if kind.owed else LIMITED)], trial)] * PROGRAMS
         for found in pool.map(lambda trial: trial(), trials):
             yield from found
     print(f"clients: {watch.again} trials again, since the machine stood still")

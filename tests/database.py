@@ -7,6 +7,8 @@ usage: tests/database.py PROGRAM
 import contextlib
 import json
 import os
+import random
+import resource
 import shutil
 import sqlite3
 import stat
@@ -173,6 +175,7 @@ def content(path):
     with contextlib.closing(sqlite3.connect(path)) as connection:
         schema = sorted(connection.execute("SELECT type, name, sql FROM sqlite_schema"), key=repr)
         named = [name for kind, name, _ in schema if kind == "table"]
+        connection.text_factory = bytes
         return schema, [sorted(connection.execute(f"SELECT * FROM {name}")) for name in named]
 
 
@@ -207,9 +210,9 @@ def copied(path, folder):
     return copy
 
 
-def starts(program, database, settings=SETTINGS, listen="127.0.0.1:0", cwd=None):
+def starts(program, database, settings=SETTINGS, listen="127.0.0.1:0", cwd=None, more=()):
     """How the program ends that can't serve over this database."""
-    words = ["--settings", settings, "--database", database, "--listen", listen]
+    words = ["--settings", settings, "--database", database, "--listen", listen, *more]
     try:
         ended = subprocess.run([program, "serve", *words], capture_output=True, timeout=10, cwd=cwd)
         return ended.returncode, ended.stdout, ended.stderr
@@ -218,6 +221,7 @@ def starts(program, database, settings=SETTINGS, listen="127.0.0.1:0", cwd=None)
 
 
 REFUSED = (1, b"", b"database: 1 Refused\n")
+MISSING = (1, b"", b"database: 3 Missing\n")
 NOT_OURS = (1, b"", b"database: 2 NotOurs\n")
 
 
@@ -375,16 +379,34 @@ SPOILED = {
     "a binding's phase that is none": ["UPDATE bindings SET phase = 5"],
 }
 
-# Rows that can't be read: a number that isn't one of 32 bits, a rowid below 0, a text that is no UTF-8.
-UNREADABLE = {
-    "a number below 0": "UPDATE orders SET seq = -1 WHERE instance_id = 'r'",
-    "a number of more than 32 bits": "UPDATE orders SET seq = 4294967296 WHERE instance_id = 'r'",
-    "a rowid below 0": "UPDATE orders SET rowid = -1 WHERE instance_id = 'r'",
-    "a text that is no UTF-8": "UPDATE orders SET note = CAST(x'ff' AS TEXT)",
-    "a number of a context below 0": "UPDATE contexts SET seq = -1 WHERE instance_id = 'r' AND seq = 1",
-    "a rowid of a context below 0": "UPDATE contexts SET rowid = -1 WHERE instance_id = 'r' AND seq = 1",
-    "a context that is no UTF-8": "UPDATE contexts SET context = CAST(x'ff' AS TEXT)",
+# The columns of each table that are numbers, and those that are texts.
+NUMBERS = {
+    "format": ["version"],
+    "orders": ["seq", "kind", "state"],
+    "instances": ["phase", "busy", "last_seq"],
+    "bindings": ["phase"],
+    "contexts": ["seq"],
 }
+TEXTS = {
+    "orders": ["instance_id", "binding_id", "service_id", "plan_id", "place", "spot", "params", "maint", "note", "credentials"],
+    "instances": ["instance_id", "service_id", "plan_id", "organization", "space", "params", "maint"],
+    "bindings": ["instance_id", "binding_id", "service_id", "plan_id", "app_guid", "bind_resource", "params", "credentials"],
+    "contexts": ["instance_id", "context"],
+}
+
+
+def unreadable(tables):
+    """Rows that can't be read, in one row of each of these tables: a number that isn't one of 32 bits, a rowid below 0,
+    a text that is no UTF-8."""
+    for table in tables:
+        row = f"WHERE rowid = (SELECT max(rowid) FROM {table})"
+        yield f"a rowid of {table} below 0", f"UPDATE {table} SET rowid = -1 {row}"
+        for column in NUMBERS[table]:
+            for number in (-1, 1 << 32, -(1 << 63), (1 << 63) - 1):
+                yield f"{column} of {table}: {number}", f"UPDATE {table} SET {column} = {number} {row}"
+        for column in TEXTS.get(table, []):
+            yield f"{column} of {table} is no UTF-8", f"UPDATE {table} SET {column} = CAST(x'ff' AS TEXT) {row}"
+
 
 # What is done to a file of version 1.
 SPOILED_BEFORE = {
@@ -402,6 +424,7 @@ SPOILED_BEFORE = {
     "a binding without a row before": ["DELETE FROM bindings WHERE instance_id = 'small'"],
     "a table of bindings that is missing before": ["DROP TABLE bindings"],
 }
+TABLES_BEFORE = ["format", "orders", "instances", "bindings"]
 
 # What may be done to the file without a change of its rows.
 HARMLESS = {
@@ -447,10 +470,81 @@ def try_spoiled(program, folder, path):
     yield from refuses_spoiled(program, folder, made_before(folder, 2), SPOILED_BEFORE)
     other = made_from(path, folder, dumped)
     yield "another order of the tables", starts(program, other), NOT_OURS
-    for name, statement in UNREADABLE.items():
-        copy = copied(path, folder)
+    first = made_before(folder, 2)
+    for made, version, has in [(path, 2, TABLES), (first, 1, TABLES_BEFORE)]:
+        for name, statement in unreadable(has):
+            copy = copied(made, folder)
+            run(copy, statement)
+            before = content(copied(copy, folder))
+            yield f"version {version}, {name}", starts(program, copy), REFUSED
+            yield f"version {version}, {name}: it stays", content(copy), before
+
+
+# More orders than a start reads at once, and the ids at which it ends one piece and begins the next.
+MANY, LONG = 10_000, 5_000
+NUMBERED = "n{:05}".format
+ENDS = ["long", NUMBERED(4_095), NUMBERED(8_191)]
+BEGINS = [NUMBERED(0), NUMBERED(4_096), NUMBERED(8_192)]
+# Less than all rows take, and more than a piece.
+FEW_BYTES = 32_000_000
+
+# A life that is longer than a piece was wronged, or one where pieces meet, or a row that no piece would have.
+WRONGED = {
+    "the last order of a long life runs": f"UPDATE orders SET state = 0 WHERE instance_id = 'long' AND seq = {LONG}",
+    "a long life lacks an order": f"DELETE FROM orders WHERE instance_id = 'long' AND seq = {LONG - 1}",
+    **{f"another last number of {it}": f"UPDATE instances SET last_seq = 9 WHERE instance_id = '{it}'" for it in ENDS + BEGINS},
+    **{f"no order of {it}": f"DELETE FROM orders WHERE instance_id = '{it}'" for it in ENDS + BEGINS},
+    "no context where a piece ends": f"DELETE FROM contexts WHERE instance_id = '{ENDS[1]}' AND seq = 0",
+    "no row where a piece begins": f"DELETE FROM instances WHERE instance_id = '{BEGINS[2]}'",
+    "a binding behind all orders": "INSERT INTO bindings VALUES ('z', 'b', 2, 'svc', 'p-sync', '', '{}', '{}', '{}')",
+    "an order without an id": f"UPDATE orders SET instance_id = '' WHERE instance_id = '{BEGINS[1]}'",
+    "a context without an id": f"UPDATE contexts SET instance_id = '' WHERE instance_id = '{BEGINS[1]}' AND seq = 0",
+}
+
+
+def order_rows(instance, count):
+    """A creation and updates, and their contexts."""
+    for number in range(1, count + 1):
+        kind = 1 if number == 1 else 2
+        yield "orders", (instance, number, kind, "", "svc", "p-sync", "o", "s", "{}", "", 1, "", "{}")
+        yield "contexts", (instance, number, "{}")
+
+
+def instance_rows(instance, count):
+    yield "instances", (instance, 2, 0, count, "svc", "p-sync", "o", "s", "{}", "")
+    yield "contexts", (instance, 0, "{}")
+
+
+def make_pieces(path):
+    """The rows of many lives, and of a long one, come in no order, with gaps between their numbers."""
+    chance = random.Random(57)
+    lives = [("long", LONG), *((NUMBERED(number), 1) for number in range(MANY))]
+    rows = [it for life in lives for part in (order_rows, instance_rows) for it in part(*life)]
+    numbers = chance.sample(range(100, 10 * len(rows)), len(rows))
+    with contextlib.closing(sqlite3.connect(path)) as conn:
+        for table in ("orders", "instances", "contexts"):
+            names = ", ".join(name for _, name, *_ in conn.execute(f"PRAGMA table_info({table})"))
+            of_table = [(number, *row) for number, (other, row) in zip(numbers, rows) if other == table]
+            marks = ", ".join("?" * len(of_table[0]))
+            conn.executemany(f"INSERT INTO {table} (rowid, {names}) VALUES ({marks})", of_table)
+        conn.commit()
+
+
+def few_bytes():
+    resource.setrlimit(resource.RLIMIT_DATA, (FEW_BYTES, FEW_BYTES))
+
+
+def try_pieces(program, folder, path):
+    """Rows of many lives are taken where each piece of them is as it has to be, and in little memory."""
+    many = copied(path, folder)
+    make_pieces(many)
+    asked = [("GET", at(it), "", 200, FETCHED) for it in [*ENDS, *BEGINS, NUMBERED(MANY - 1)]]
+    with Serving(program, copied(many, folder), preexec_fn=few_bytes) as serving:
+        yield from goes(serving, ASKED_AGAIN + asked)
+    for name, statement in WRONGED.items():
+        copy = copied(many, folder)
         run(copy, statement)
-        yield name, starts(program, copy), REFUSED
+        yield name, starts(program, copy), NOT_OURS
 
 
 def try_harmless(program, folder, path):
@@ -503,7 +597,7 @@ def try_made_before(program, folder):
     for count in range(len(INDEXES) + 1):
         path = made_before(folder, count)
         yield f"{count} indexes before", indexes(path), INDEXES[:count]
-        expected = migrated(tables(path, ["format", "orders", "instances", "bindings"]))
+        expected = migrated(tables(path, TABLES_BEFORE))
         with Serving(program, path) as serving:
             yield from goes(serving, MADE_BEFORE)
             yield "nothing else is changed", tables(copied(path, folder)), expected
@@ -612,10 +706,6 @@ def try_pages(program, folder):
     with Serving(program, path) as serving:
         yield from goes(serving, [made])
     yield "the pages of a file whose draft can't be made", page_size(path), 4096
-    os.remove(path)
-    with Serving(program, path) as serving:
-        yield from goes(serving, [("GET", I, "", 404, "{}")])
-    yield "the pages of a file beside a log that was left", page_size(path), 4096
 
 
 def replaced(path):
@@ -628,12 +718,27 @@ def renamed_folder(path):
     os.rename(folder, folder + ".old")
 
 
-# What is done to the file while the program runs.
+def removed_log(path):
+    os.remove(path + "-wal")
+
+
+def replaced_log(path):
+    replaced(path + "-wal")
+
+
+def renamed_log(path):
+    os.rename(path + "-wal", path + "-wal.old")
+
+
+# What is done to the file or its log while the program runs.
 TAKEN_AWAY = {
     "removed": os.remove,
     "replaced by a copy": replaced,
     "renamed": lambda path: os.rename(path, path + ".old"),
     "in a folder that is renamed": renamed_folder,
+    "its log removed": removed_log,
+    "its log replaced by a copy": replaced_log,
+    "its log renamed": renamed_log,
 }
 
 
@@ -664,12 +769,86 @@ def try_taken_away(program, folder):
             # It is the same file, whatever its times and its mode are.
             os.utime(path, (0, 0))
             os.chmod(path, 0o640)
-            os.rename(path, path + ".aside")
-            os.rename(path + ".aside", path)
+            for ending in ("", "-wal"):
+                os.rename(path + ending, path + ".aside")
+                os.rename(path + ".aside", path + ending)
             yield from goes(serving, [again])
             take(path)
             yield f"{name}: a reply", unanswered(serving, request(*again[:3])), b""
-            yield name, how_it_ended(serving), (1, b"database: 1 Refused\n")
+            yield name, how_it_ended(serving), (1, b"database: new\ndatabase: 1 Refused\n")
+
+
+def try_put_back(program, folder):
+    """A file that was moved away is put back with all that was answered, whatever was started meanwhile."""
+    path = new_database(folder)
+    with Serving(program, path) as serving:
+        yield from goes(serving, [("PUT", I, SYNC, 201, "{}")])
+        os.rename(path, path + ".old")
+        yield "moved away: a reply", unanswered(serving, request("PUT", I, SYNC)), b""
+        yield "moved away", how_it_ended(serving), (1, b"database: new\ndatabase: 1 Refused\n")
+    before = state_of(path)
+    for more in ((), ("--existing",)):
+        yield "a start over its log", starts(program, path, more=more), REFUSED
+    yield "its log is looked at", looked_at(program, path), unseen("a log without its file")
+    yield "nothing is made", state_of(path), before
+    os.rename(path + ".old", path)
+    with Serving(program, path) as serving:
+        yield from goes(serving, [("GET", I, "", 200, FETCHED)])
+
+
+def try_emptied(program, folder):
+    """An empty file beside a log with changes is refused, and stays. One beside the head of a log is a new database."""
+    path = new_database(folder)
+    with Serving(program, path) as serving:
+        yield from goes(serving, [("PUT", I, SYNC, 201, "{}")])
+    kept = copied(path, folder)
+    os.truncate(path, 0)
+    before = state_of(path)
+    for more in ((), ("--existing",)):
+        yield "an emptied file", starts(program, path, more=more), REFUSED
+    yield "an emptied file is looked at", looked_at(program, path), unseen("a log without its file")
+    yield "an emptied file stays", state_of(path), before
+    shutil.copy(kept, path)
+    with Serving(program, path) as serving:
+        yield from goes(serving, [("GET", I, "", 200, FETCHED)])
+    os.truncate(path, 0)
+    os.truncate(path + "-wal", 32)
+    with Serving(program, path) as serving:
+        yield from goes(serving, [("GET", I, "", 404, "{}")])
+
+
+def said_by(program, path, *more):
+    """What a program that answers one request says on standard error."""
+    serving = Serving(program, path, "--connections", "1", *more)
+    listens = serving.listens()
+    if listens:
+        serving.sends(request("GET", I, ""))
+    return listens, serving.ended()[2]
+
+
+def try_new(program, folder):
+    """A database that is begun is reported, and with --existing none is begun."""
+    is_new, is_kept = (True, b"database: new\n"), (True, b"")
+    path = new_database(folder)
+    yield "no file, an existing one asked for", starts(program, path, more=["--existing"]), MISSING
+    yield "none is made", os.listdir(os.path.dirname(path)), []
+    yield "no file", said_by(program, path), is_new
+    yield "the same again", said_by(program, path), is_kept
+    yield "an existing one", said_by(program, path, "--existing"), is_kept
+    path = new_database(folder)
+    open(path, "wb").close()
+    yield "an empty file is looked at", looked_at(program, path), (0, b"new\n", b"")
+    yield "an empty file, an existing one asked for", starts(program, path, more=["--existing"]), MISSING
+    yield "it stays empty", {name: len(found[0]) for name, found in state_of(path).items()}, {"broker.db": 0}
+    yield "an empty file", said_by(program, path), is_new
+    path = new_database(folder)
+    run(path, "CREATE TABLE more (a)", "DROP TABLE more")
+    yield "no tables are looked at", looked_at(program, path), (0, b"new\n", b"")
+    yield "no tables, an existing one asked for", starts(program, path, more=["--existing"]), MISSING
+    yield "no tables", said_by(program, path), is_new
+    link = os.path.join(tempfile.mkdtemp(dir=folder), "link.db")
+    os.symlink(path, link)
+    yield "by a link", said_by(program, link, "--existing"), is_kept
 
 
 def try_large(program, folder):
@@ -845,7 +1024,7 @@ def try_looked_at(program, folder, path):
     yield "no file", looked_at(program, empty), unseen("no such file")
     yield "none is made", os.path.exists(empty), False
     open(empty, "wb").close()
-    yield "an empty file", looked_at(program, empty), (0, b"instances 0, bindings 0, running 0\n", b"")
+    yield "an empty file", looked_at(program, empty), (0, b"new\n", b"")
     yield "it stays empty", os.path.getsize(empty), 0
 
 
@@ -904,6 +1083,7 @@ def tries(program):
         yield from try_reopened(program, folder)
         yield from try_reading(program, folder, path)
         yield from try_spoiled(program, folder, path)
+        yield from try_pieces(program, folder, path)
         yield from try_harmless(program, folder, path)
         yield from try_made_before(program, folder)
         yield from try_others(program, folder)
@@ -916,6 +1096,9 @@ def tries(program):
         yield from try_modes(program, folder)
         yield from try_pages(program, folder)
         yield from try_taken_away(program, folder)
+        yield from try_put_back(program, folder)
+        yield from try_emptied(program, folder)
+        yield from try_new(program, folder)
         yield from try_full_disk(program, folder)
         yield from try_full_disk_before(program, folder)
 

@@ -5,7 +5,8 @@ that the edit names.
     python3 tests/edits.py --beside make tried
     python3 tests/edits.py --keep
 
-The first tries the edits of these crates, or of all, over the libraries that `rt ci` or `rt check` left.
+The first tries the edits of these crates, or of all, over the libraries that are there; those that lack, or that were
+proved of other sources, are proved first.
 The second runs a command that proves all crates, and tries each crate's edits beside it, behind its work,
 as soon as it reports that the libraries below that crate are proved. The third writes the list of all edits,
 tests/edits.txt: an edit that is in the list and has no file is a fault, and so is one that isn't in the list.
@@ -53,12 +54,12 @@ ROOT = pathlib.Path(__file__).resolve().parent.parent
 TOOLS = ROOT / "tools"
 sys.path.append(str(TOOLS))
 
+import rattle
 from crates import LIBRARIES, RT, below, free_memory, lanes, sum_of
+from proved import is_usable, prove
 
-KIT = pathlib.Path(subprocess.run([RT, "doc"], stdout=subprocess.PIPE, text=True, check=True).stdout.strip()).parent
 # Halves what the search of a check may take, where the toolkit can.
-HELP = subprocess.run([str(KIT / "bin" / "rattle"), "check", "--help"], stdout=subprocess.PIPE, text=True).stdout
-HALVED = ["--margin"] if "--margin" in HELP else []
+HALVED = ["--margin"] if "--margin" in rattle.help_of("check") else []
 # What the largest check of a crate takes of memory, and the largest check of edits.
 BYTES_OF_CRATE = 6_000_000_000
 BYTES_OF_EDITS = 2_500_000_000
@@ -66,23 +67,10 @@ BYTES_OF_EDITS = 2_500_000_000
 LIST = ROOT / "tests" / "edits.txt"
 
 
-def rlib(crate):
-    return ROOT / "crates" / crate / "out" / "rlib" / f"{crate}.rlib"
-
-
 def command(crate, functions, kept, more=()):
     """The check of these functions of a crate, past holes."""
-    words = ["nice", "-n", "19", str(KIT / "bin" / "rattle"), "check", "--crate-name", crate, "src/lib.rt"]
-    for name in ["std", *LIBRARIES[crate]]:
-        words += ["--extern", f"{name}={rlib(name) if name in LIBRARIES else KIT / 'rlibs' / f'{name}.rlib'}"]
-    for folder in [KIT / "rlibs", *(rlib(name).parent for name in below(crate))]:
-        words += ["-L", f"dependency={folder}"]
-    words += ["--antt-project", str(KIT / "rattle" / "logic" / "antt-project.json")]
-    words += ["--logic-built", str(KIT / "logic_built"), "--links", f"{crate}=", "--jobs", "1"]
-    words += ["--incremental", kept, "--allow-holes", *more]
-    for function in functions:
-        words += ["--only", function]
-    return words
+    only = [word for function in functions for word in ("--only", function)]
+    return ["nice", "-n", "19", rattle.RATTLE, "check", *rattle.words(crate, 1, kept), "--allow-holes", *more, *only]
 
 
 FUNCTION = re.compile(r"^( *)(?:pub(?:\([a-z]+\))? )?(?:const )?fn (\w+)")
@@ -193,7 +181,16 @@ class Edit:
             wrong.append(f"{self}: it changes nothing")
         if bool(self.refused) != (self.folder == "edits"):
             wrong.append(f"{self}: an edit under edits/ names the function that is refused, one under must-fail/ none")
+        if self.refused and not self.is_there():
+            wrong.append(f"{self}: there is no function {self.refused}")
         return wrong
+
+    def is_there(self):
+        """Whether the crate has a function of the name that is refused, and its module."""
+        *owner, name = self.refused.split("::")
+        folder = ROOT / "crates" / self.crate
+        is_named = any(re.search(rf"\bfn {name}\b", text) for _, text in modules(folder))
+        return is_named and (not owner or folder.joinpath("src", owner[0]).with_suffix(".rt").is_file())
 
     def apply(self, folder):
         for name, text in self.texts(folder)[0].items():
@@ -232,8 +229,7 @@ def check(crate, names, edits, kept, only=(), more=()):
             edit.apply(folder)
         keep_alone(folder, crate, names)
         words = command(crate, sorted({*only, *(edit.refused for edit in edits)}), kept, more)
-        how = {"stdin": subprocess.DEVNULL, "stdout": subprocess.PIPE, "stderr": subprocess.STDOUT, "text": True}
-        return Judgement(crate, subprocess.run(words, cwd=room, **how).stdout)
+        return Judgement(crate, rattle.run(words, room)[1])
 
 
 NOTE = re.compile(r"note: src/\S+: (.*) \(`([^`]+)`\)(.*)")
@@ -312,13 +308,17 @@ def try_batch(crate, names, batch, kept):
 
 class Told:
     """What a command that proves all crates, where there is one, has told so far: which are proved, which the toolkit
-    kept, and which edits under must-fail/ show nothing."""
+    kept, which edits under must-fail/ show nothing, and the last lines of the first crate that isn't proved."""
 
     def __init__(self, proves):
         self.proves, self.crates = proves, {name: threading.Event() for name in LIBRARIES}
         self.kept, self.wrong, self.ended, self.failed = set(), [], threading.Event(), False
+        self.of_crate, self.unproved = [], []
 
     def read(self, line):
+        self.of_crate = [line] if line.startswith("== ") else [*self.of_crate, line][-20:]
+        if re.fullmatch(r"rt: \w+(: its tests)? NOT PROVED\n", line) and not self.unproved:
+            self.unproved = self.of_crate
         found = re.fullmatch(r"rt: (\w+) (proved|is kept\b.*)\n", line)
         if found and found.group(1) in self.crates:
             if found.group(2) != "proved":
@@ -337,7 +337,8 @@ class Told:
 def passed(crate):
     """The file that is there once a crate's edits were refused: it is named by a sum of all that was read."""
     found = hashlib.sha256(sum_of(crate).encode())
-    for file in [pathlib.Path(__file__), TOOLS / "crates.py", *sorted((ROOT / "crates" / crate / "edits").glob("*.edit"))]:
+    scripts = [pathlib.Path(__file__), *(TOOLS / name for name in ("crates.py", "proved.py", "rattle.py"))]
+    for file in [*scripts, *sorted((ROOT / "crates" / crate / "edits").glob("*.edit"))]:
         found.update(repr((file.name, file.read_bytes())).encode())
     home = os.environ.get("XDG_CACHE_HOME") or pathlib.Path.home() / ".cache"
     return pathlib.Path(home) / "osb-broker" / "edits" / found.hexdigest()
@@ -351,14 +352,31 @@ def are_kept(crate, told):
     return crate in told.kept
 
 
-def build_missing(crate, told):
-    """Builds the libraries below that a toolkit which kept them has left out."""
+def lacking(crate):
+    """The libraries below a crate that can't be used, and those that stand on one of them, lowest first."""
+    found = []
     for name in below(crate):
-        if not rlib(name).is_dir():
-            told.ended.wait()
-            if told.failed:
-                return
-            subprocess.run([RT, "lib"], cwd=ROOT / "crates" / name, stdout=subprocess.DEVNULL, check=True)
+        if not is_usable(name) or set(below(name)) & set(found):
+            found.append(name)
+    return found
+
+
+# One crate at a time builds what lacks.
+BUILDING = threading.Lock()
+
+
+def build_missing(crate, told):
+    """Builds the libraries below a crate that lack, where the command hasn't failed. Gives what is wrong."""
+    if not lacking(crate):
+        return []
+    told.ended.wait()
+    with BUILDING:
+        for name in lacking(crate) if not told.failed else []:
+            # (a toolkit that kept a library has left it out, and has it ready)
+            status, said = rattle.run([RT, "lib"], rattle.folder_of(name)) if name in told.kept else prove(name, 1)
+            if status:
+                return [f"{crate}: a library below it isn't proved: {said}"]
+    return []
 
 
 def try_crate(crate, edits, told, places):
@@ -376,8 +394,9 @@ def try_crate(crate, edits, told, places):
 
 def try_proved(crate, edits, told):
     """The edits of a crate over proved libraries that weren't refused."""
-    build_missing(crate, told)
-    names, refused, wrong = {edit.refused for edit in edits}, {}, []
+    if wrong := build_missing(crate, told):
+        return wrong
+    names, refused = {edit.refused for edit in edits}, {}
     with tempfile.TemporaryDirectory() as kept:
         for batch in batches(edits):
             more, less = try_batch(crate, names, batch, kept)
@@ -446,7 +465,8 @@ def try_all(edits, words):
         if words:
             status = beside(words, told, jobs)
         told.end(failed=status != 0)
-    return [line for result in results for line in result.result()] + told.wrong, status
+    wrong = [line for result in results for line in result.result()] + told.wrong
+    return wrong + ["not proved first:\n" + "".join(told.unproved)] * bool(told.unproved), status
 
 
 def main():

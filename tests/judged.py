@@ -70,7 +70,7 @@ class Small:
 
     def __init__(self, room, edits, listed=None, source=SOURCE):
         self.root = pathlib.Path(tempfile.mkdtemp(dir=room))
-        for name in ("tests/edits.py", "tools/crates.py"):
+        for name in ("tests/edits.py", "tools/crates.py", "tools/proved.py", "tools/rattle.py"):
             (self.root / name).parent.mkdir(exist_ok=True)
             shutil.copy(os.path.join(ROOT, name), self.root / name)
         crate = self.root / "crates" / "small"

@@ -33,8 +33,12 @@ if [ "$what" = --more ]; then
     has lintian || lacks lintian lintian
     has debootstrap || lacks debootstrap debootstrap
     has systemd-nspawn || lacks systemd-nspawn systemd-container
+    has podman || lacks podman podman
+    has runc || lacks runc runc
     has node || lacks node nodejs
     has go || lacks go golang-go
+    ls /usr/lib/postgresql/*/bin/initdb >/dev/null 2>&1 || lacks PostgreSQL postgresql
+    { python3 -c 'import psycopg2' || /usr/bin/python3 -c 'import psycopg2'; } 2>/dev/null || lacks psycopg2 python3-psycopg2
     echo $packages
     exit 0
 fi

@@ -1,5 +1,5 @@
 #!/usr/bin/env python3
-"""Tries the built program from outside, by all scripts that do so.
+"""Tries the built program from outside, by all scripts that do so, and beside it the one that `make try` serves.
 
 usage: tests/outside.py PROGRAM
 
@@ -16,14 +16,19 @@ from concurrent.futures import ThreadPoolExecutor
 from serving import ROOT
 
 # The longest first.
-SIDE_BY_SIDE = ["refused", "packaged", "power", "killed", "database", "served", "foreign", "program", "shown"]
-ALONE = ["clients", "proxied"]
+SIDE_BY_SIDE = ["unproved", "refused", "packaged", "backends", "power", "killed", "shards", "database", "begun", "examples"]
+SIDE_BY_SIDE += ["served", "foreign", "program", "imaged", "shown"]
+# These are tried with one client after the other, too.
+ONE_BY_ONE = ["power", "killed", "served"]
+ALONE = ["clients", "together", "proxied"]
 
 
-def tried(name, program):
-    """Whether a script passes."""
+def tried(name, program, together=None):
+    """Whether a script passes, with so many clients at the same time where it doesn't say it itself."""
     words = [sys.executable, os.path.join(ROOT, "tests", f"{name}.py"), program]
-    ran = subprocess.run(words, stdin=subprocess.DEVNULL, stdout=subprocess.PIPE, stderr=subprocess.STDOUT)
+    environment = {**os.environ, "TOGETHER": together} if together else None
+    how = {"stdin": subprocess.DEVNULL, "stdout": subprocess.PIPE, "stderr": subprocess.STDOUT, "env": environment}
+    ran = subprocess.run(words, **how)
     sys.stdout.buffer.write(ran.stdout)
     sys.stdout.flush()
     return ran.returncode == 0
@@ -31,10 +36,12 @@ def tried(name, program):
 
 def main():
     program = os.path.abspath(sys.argv[1])
+    beside = [(name,) for name in SIDE_BY_SIDE] + [(name, "1") for name in ONE_BY_ONE]
     with ThreadPoolExecutor(2 * len(os.sched_getaffinity(0))) as pool:
-        passed = list(pool.map(lambda name: tried(name, program), SIDE_BY_SIDE))
+        passed = list(pool.map(lambda it: tried(it[0], program, *it[1:]), beside))
     passed += [tried(name, program) for name in ALONE]
-    failed = [name for name, right in zip(SIDE_BY_SIDE + ALONE, passed) if not right]
+    names = [*map(" together ".join, beside), *ALONE]
+    failed = [name for name, right in zip(names, passed) if not right]
     print(f"outside: {passed.count(True)} of {len(passed)} passed{', not ' if failed else ''}{', '.join(failed)}")
     return 1 if failed else 0
 

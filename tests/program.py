@@ -6,14 +6,19 @@ usage: tests/program.py PROGRAM
 The expected replies and lines stand written out here; none comes from the program.
 """
 
+import contextlib
 import json
 import os
+import pty
 import subprocess
 import sys
 import tempfile
+import threading
+import tty
 
 from conversations import ASYNC, CATALOG, CATALOG_REPLY, GET_CATALOG, I, LATER, NO_HEAD_REPLY, REPORT, SUCCEEDED, SYNC
 from conversations import TOO_LARGE_REPLY, UNAUTHORIZED_REPLY, UPDATE, at, head_of, operation, replies, reply, request
+from serving import newest_version
 
 LIMIT = 16_777_216
 
@@ -148,6 +153,15 @@ def try_several_requests(tries):
     ended = tries.run(["replay"], request("PUT", I, "{}"))
     refused = reply(400, '{"description":"The body is not usable."}')
     tries.expect("a body that lacks members", ended, 0, refused, b"")
+    still_open = reply(200, CATALOG, closes=False)
+    for words, expected in [
+        ([], CATALOG_REPLY),
+        (["--per-connection", "1"], CATALOG_REPLY),
+        (["--per-connection", "2"], still_open + CATALOG_REPLY),
+        (["--per-connection=1000"], still_open * 3),
+    ]:
+        ended = tries.run(["replay", *words], GET_CATALOG * 3)
+        tries.expect(f"three requests {words}", ended, 0, expected, b"")
 
 
 def created_later(instance):
@@ -275,19 +289,47 @@ def try_closed_output(tries):
             tries.tell(f"output is {name} {words}", wrong)
 
 
+def fill(end, count):
+    """Gives so many spaces to a terminal's other side, which then is told of a failure."""
+    with contextlib.suppress(OSError), open(end, "wb", buffering=0) as terminal:
+        while count:
+            count -= terminal.write(b" " * min(count, 65_536))
+
+
+def on_failing_input(tries, words, count):
+    """How the program ends on an input that fails behind so many spaces."""
+    given, end = pty.openpty()
+    tty.setraw(end)
+    threading.Thread(target=fill, args=(end, count), daemon=True).start()
+    ended = subprocess.run([tries.program, *words], stdin=given, capture_output=True, timeout=60)
+    os.close(given)
+    return ended
+
+
 def try_broken_streams(tries, folder):
+    unread = b"osb-broker: cannot read standard input\n"
     given = os.open(folder, os.O_RDONLY)
     ended = subprocess.run([tries.program], stdin=given, capture_output=True, timeout=60)
     os.close(given)
-    tries.expect(
-        "input is a folder", ended, 1, b"", b"osb-broker: cannot read standard input\n"
-    )
+    tries.expect("input is a folder", ended, 1, b"", unread)
+    tries.expect("input fails", on_failing_input(tries, ["replay"], 5000), 1, b"", unread)
+    # Nothing behind the first byte too many is read.
+    too_large = b"osb-broker: too large standard input\n"
+    tries.expect("larger input fails", on_failing_input(tries, [], LIMIT + 1), 1, b"", too_large)
+    # A line that nobody takes changes nothing.
+    command = ["sh", "-c", '"$0" > /dev/full 2>&1', tries.program]
+    tries.expect("nothing is taken", subprocess.run(command, input=GET_CATALOG, capture_output=True), 1, b"", b"")
+
+
+# Words of `serve`, of which each has to be there.
+SERVED = ["--settings", "FILE", "--database", "FILE", "--listen", "127.0.0.1:0"]
 
 
 def try_words(tries):
-    for words in [["--help"], ["check", "--help"], ["replay", "--help"], ["serve", "--help"]]:
+    for words in [["--help"], ["check", "--help"], ["replay", "--help"], ["replay", "-h"], ["serve", "--help"]]:
         ended = tries.run(words)
-        helps = ended.returncode == 0 and b"osb-broker" in ended.stdout and not ended.stderr
+        is_help = b"osb-broker" in ended.stdout and len(ended.stdout) > 100
+        helps = ended.returncode == 0 and is_help and not ended.stderr
         tries.tell(f"help {words}", [] if helps else [repr(ended)])
     for words in [
         ["bogus"],
@@ -305,6 +347,14 @@ def try_words(tries):
         ["replay", "--per-connection", "0"],
         ["replay", "--per-connection", "1001"],
         ["replay", "--per-connection", "x"],
+        ["serve"],
+        ["serve", *SERVED[:2], *SERVED[4:]],
+        ["serve", *SERVED[:4]],
+        ["serve", *SERVED, "--connections", "0"],
+        ["serve", *SERVED, "--per-connection", "0"],
+        ["serve", *SERVED, "--together", "0"],
+        ["serve", *SERVED, "--together", "1025"],
+        ["serve", *SERVED, "--together", "2", "--per-connection", "2"],
     ]:
         ended = tries.run(words)
         told = ended.returncode == 2 and ended.stderr and not ended.stdout
@@ -313,7 +363,7 @@ def try_words(tries):
 
 def try_version(tries):
     for word in ["--version", "-V"]:
-        tries.expect(f"version {word}", tries.run([word]), 0, b"osb-broker 0.1.0\n", b"")
+        tries.expect(f"version {word}", tries.run([word]), 0, f"osb-broker {newest_version()}\n".encode(), b"")
 
 
 def try_words_of_bytes(tries):
@@ -393,6 +443,43 @@ PLACES = [
 ]
 
 
+# A text of examples/queues.json, what somebody writes in its place, and what is said to that; nothing where it is accepted.
+MISTAKES = [
+    ('"orders_per_instance": 10000', '"orders_per_instance": 10000,', "1 Text"),
+    ('"modes"', '// modes\n"modes"', "1 Text"),
+    ('{\n  "platform"', '\ufeff{\n  "platform"', "1 Text"),
+    ('"free": true', '"metadata": { "costs": [{ "amount": { "eur": 99.5 } }] }', "1 Text"),
+    ('"bindable": true', '"bindable": "true"', "2 Missing bindable\nat catalog.services[0]"),
+    ('"free": true', '"maximum_polling_duration": "10m"', "2 Missing maximum_polling_duration\nat catalog.services[0].plans[0]"),
+    ('"instances": "asynchronous"', '"instances": "async"', "2 Missing instances\nat modes.queues-own"),
+    ('"orders_per_instance": 10000', '"orders_per_instance": 0', "2 Missing orders_per_instance\nat the top"),
+    ('"queues-own": {', '"own": {', "6 Mode\nat modes.own"),
+    ('"bindings_retrievable": true,', "", "6 Mode\nat catalog.services[0].plans[1]"),
+    ('"version": "2.0.0"', '"version": "2.0"', "5 Version\nat catalog.services[0].plans[1]"),
+    ('"free": true', '"schemas": {}', "4 LeftOut schemas\nat catalog.services[0].plans[0]"),
+    ('"bindable": true', '"bindable": true, "dashboard_client": {}', "4 LeftOut dashboard_client\nat catalog.services[0]"),
+    ('"instances": "asynchronous"', '"instance": "asynchronous"', ""),
+    ('"plan_updateable"', '"plan_updatable"', ""),
+    ('"worker", "password": "battery staple"', '"cf", "password": "correct horse"', ""),
+    ('"name": "own"', '"name": "shared"', ""),
+    ('"name": "queues"', '"name": "my queues"', ""),
+]
+
+
+def try_mistakes(tries, folder):
+    """What is said to those of docs/SETTINGS.md."""
+    path = os.path.join(folder, "queues.json")
+    with open(os.path.join(HERE, "..", "examples", "queues.json"), encoding="utf-8") as file:
+        good = file.read()
+    for given, written, said in MISTAKES:
+        if good.count(given) != 1:
+            raise RuntimeError(f"{given} isn't in the example once")
+        with open(path, "w", encoding="utf-8") as file:
+            file.write(good.replace(given, written))
+        ends = (3, b"", f"settings: {said}\n".encode()) if said else (0, b"services 1, plans 2\n", b"")
+        tries.expect(f"mistake {written}", tries.run(["check", "--explain", path]), *ends)
+
+
 def try_explain(tries, folder):
     """Where in the settings a fault is."""
     path = os.path.join(folder, "settings.json")
@@ -404,6 +491,7 @@ def try_explain(tries, folder):
 
     for change, fault, place in PLACES:
         explain(place, changed(change), 3, b"", f"settings: {fault}\nat {place}\n".encode())
+    explain("an empty object", b"{}", 3, b"", b"settings: 2 Missing platform\nat the top\n")
     explain("no object", b"[]", 3, b"", b"settings: 1 Text\n")
     explain("good settings", json.dumps(SETTINGS).encode(), 0, b"services 1, plans 2\n", b"")
     os.remove(path)
@@ -429,6 +517,7 @@ def main():
         try_words_of_bytes(tries)
         try_check(tries, folder)
         try_explain(tries, folder)
+        try_mistakes(tries, folder)
     print(f"program: {tries.passed} passed, {tries.failed} failed")
     return 1 if tries.failed or not tries.passed else 0
 

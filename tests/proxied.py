@@ -96,6 +96,7 @@ def at_once(doors, most):
 def conversation(proxy):
     yield "a create", proxy.answers(closing("PUT", I + LATER, ASYNC)), (202, operation("create-1"))
     yield "the same again", proxy.answers(closing("PUT", I + LATER, ASYNC)), (202, operation("create-1"))
+    yield "its health", proxy.answers(b"GET /healthz HTTP/1.1\r\nHost: b\r\nConnection: close\r\n\r\n"), (200, "{}")
     yield "no login", proxy.answers(b"GET /v2/catalog HTTP/1.1\r\nHost: b\r\nConnection: close\r\n\r\n"), (401, "{}")
     targets = ["/backend/v1/orders", "/", "/v2", "//v2/catalog", "/backend/v1/orders?/v2/", "/v2/../backend/v1/orders"]
     for target in [*targets, "http://b/backend/v1/orders", "http://b/v2/../backend/v1/orders"]:
@@ -219,12 +220,14 @@ def behind(proxy, serving, watch):
         yield from watch.calmly(lambda: disagreements(proxy, serving, numbers))
         yield from watch.calmly(lambda: slow_and_fast(proxy, numbers))
         yield from watch.calmly(lambda: held_back(proxy, serving))
-        if proxy.queues:
-            yield from bridged(proxy, serving, numbers)
+        yield from bridged(proxy, serving, numbers)
         for name, found, expected in zip(["head", "body"], late, [proxy.no_head, proxy.no_body]):
             yield f"a client that stops inside its {name}", found.result(), expected
     serving.kill()
     yield "a broker that isn't there", proxy.answers(closing("GET", "/v2/catalog")), proxy.away
+    begun = time.monotonic()
+    yield "its health", proxy.answers(closing("GET", "/healthz")), proxy.away
+    yield "its health: at once", time.monotonic() - begun < SOON, True
 
 
 def tries(program, proxies):

@@ -15,12 +15,21 @@ AWAY = '{"description":"The broker does not answer."}'
 CODINGS = 411, '{"description":"Transfer codings are not supported."}'
 
 
+def replaced(text, given, used, times=1):
+    """A text with another part in the place of one that is in it so many times."""
+    if text.count(given) != times:
+        raise RuntimeError(f"{given} stands {text.count(given)} times in the example")
+    return text.replace(given, used)
+
+
 class Proxy:
     """A proxy in front of a broker, until it is left. The addresses of its example are put in the place of free ones,
     and nothing else of it is changed. What stands around it in Debian is written in `around` here, for one folder."""
 
     # Its program, its example, the address at which that listens, and what stands around it.
     program = example = listens = around = ""
+    # How often its example names the broker's address.
+    calls = 2
     # The words that it is started with, those that have it look at its configuration alone, and what it says to these.
     words, checks, valid = [], [], ""
 
@@ -28,12 +37,7 @@ class Proxy:
         self.folder, self.address = tempfile.mkdtemp(dir=folder), free_address()
         self.port = int(self.address.rpartition(":")[2])
         with open(os.path.join(EXAMPLES, self.example), encoding="utf-8") as file:
-            configuration = file.read()
-        for given, used in [("127.0.0.1:8080", broker), (self.listens, self.address)]:
-            if configuration.count(given) != 1:
-                raise RuntimeError(f"{given} stands {configuration.count(given)} times in {self.example}")
-            configuration = configuration.replace(given, used)
-        self.writes("broker.conf", configuration)
+            self.writes("broker.conf", self.placed(file.read(), broker))
         self.writes("around.conf", self.around)
         key, certificate = os.path.join(self.folder, "broker.key"), os.path.join(self.folder, "broker.crt")
         words = ["openssl", "req", "-x509", "-newkey", "rsa:2048", "-nodes", "-subj", "/CN=localhost", "-days", "2"]
@@ -42,6 +46,10 @@ class Proxy:
             self.writes("broker.pem", one.read() + other.read())
         self.trust = ssl.create_default_context(cafile=certificate)
         self.trust.check_hostname = False
+
+    def placed(self, configuration, broker):
+        """The example with the addresses that are used."""
+        return replaced(replaced(configuration, "127.0.0.1:8080", broker, self.calls), self.listens, self.address)
 
     def writes(self, name, text):
         with open(os.path.join(self.folder, name), "w", encoding="utf-8") as file:
@@ -110,8 +118,14 @@ http {
     chunks = 201, "{}"
     no_head = no_body = []
     away = 502, AWAY
-    # Whether requests wait in it for their turn, and for a broker that starts again.
+    # Whether requests wait in it for their turn.
     queues = False
+
+    calls = 3
+
+    def placed(self, configuration, broker):
+        placed = super().placed(configuration, broker)
+        return replaced(replaced(placed, "127.0.0.1:8442", free_address(), 11), "/var/log/nginx/", "")
 
 
 class HAProxy(Proxy):

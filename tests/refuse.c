@@ -65,6 +65,8 @@ int accept4(int listener, struct sockaddr *address, socklen_t *length, int flags
 {
     int (*next)(int, struct sockaddr *, socklen_t *, int) = dlsym(RTLD_NEXT, "accept4");
     int taken = next(listener, address, length, flags);
+    if (taken < 0)
+        return taken;
     refused = control->refused;
     control->growths = 0;
     control->answered = -1;

@@ -12,9 +12,11 @@ import os
 import subprocess
 import sys
 import tempfile
+from resource import RLIMIT_AS, RLIMIT_STACK, setrlimit
 
-from conversations import ASYNC, B, BIND, CONTEXT_UPDATED, CONVERSATIONS, I, LATER, LEAVE, SYNC, reply, request
-from serving import EXAMPLES, SETTINGS, Serving, new_database, settings_with_contexts, tell
+from conversations import ASYNC, B, BIND, CONTEXT_UPDATED, CONVERSATIONS, I, LATER, LEAVE, REFUSED_REPLY, SYNC
+from conversations import reply, request, with_parameters
+from serving import BEGUN_LINE, EXAMPLES, SETTINGS, Serving, new_database, settings_with_contexts, tell
 
 PLATFORM = {
     "X-Broker-API-Version": "2.17",
@@ -30,8 +32,8 @@ class Served(Serving):
         super().__init__(program, database, "--connections", str(connections), *more, settings=settings)
 
     def is_done(self):
-        """Whether it ended by itself, silent but for its first line."""
-        return self.ended() == (0, f"listening on {self.address}\n".encode(), b"")
+        """Whether it ended by itself, silent but for the lines of a start that begins a database."""
+        return self.ended() == (0, f"listening on {self.address}\n".encode(), BEGUN_LINE)
 
     def call(self, method, target, body=None):
         """The status and the object of a reply, by http.client."""
@@ -57,8 +59,8 @@ class Served(Serving):
     def backend(self):
         """What the example backend says that it did."""
         ended = subprocess.run(
-            [sys.executable, os.path.join(EXAMPLES, "backend.py"), "--once"]
-            + [f"http://{self.address}", "backend", "worker"],
+            [sys.executable, os.path.join(EXAMPLES, "backend.py"), "--once", f"http://{self.address}"],
+            env={**os.environ, "BACKEND_LOGIN": "backend:worker"},
             capture_output=True,
             timeout=60,
         )
@@ -83,8 +85,8 @@ def whole_life(served):
     yield served.call("GET", I + "/last_operation"), (410, {})
 
 
-# Nine calls of its own, and four backends that list once and report once.
-CONNECTIONS_OF_A_LIFE = 9 + 4 * 2
+# Nine calls of its own, and four backends that list, look whether their order runs, and report.
+CONNECTIONS_OF_A_LIFE = 9 + 4 * 3
 
 
 def try_life(program, folder):
@@ -213,6 +215,8 @@ def try_words(program, folder):
     yield "no words", ended()[0], 2
     files = ["--settings", SETTINGS, "--database", new_database(folder)]
     listen = ["--listen", "127.0.0.1:0"]
+    begun = ended(*files, "--listen", "nowhere")
+    yield "a database is begun", begun, (1, b"", BEGUN_LINE + b"osb-broker: cannot listen on nowhere\n")
     for address in ["nowhere", "127.0.0.1", "localhost:80", "192.0.2.1:80"]:
         line = f"osb-broker: cannot listen on {address}\n".encode()
         yield "an address", ended(*files, "--listen", address), (1, b"", line)
@@ -223,15 +227,61 @@ def try_words(program, folder):
     for seconds in ["1", "86400"]:
         limited = ended(*files, "--listen", "nowhere", "--time-limit", seconds)
         yield f"a time limit of {seconds}", limited, (1, b"", b"osb-broker: cannot listen on nowhere\n")
+    for number in ["0", "1025", "-1", "x", ""]:
+        yield f"{number} together", ended(*files, *listen, "--together", number)[0], 2
+    for words in [["--together", "1024"], ["--together", "1", "--per-connection", "2"]]:
+        found = ended(*files, "--listen", "nowhere", *words)
+        yield f"{words}", found, (1, b"", b"osb-broker: cannot listen on nowhere\n")
+    both = ended(*files, *listen, "--together", "2", "--per-connection", "2")
+    yield "many requests of many", (both[0], both[1], b"--per-connection" in both[2]), (2, b"", True)
     yield "no database", ended("--settings", SETTINGS, *listen)[0], 2
     yield "no settings", ended("--database", new_database(folder), *listen)[0], 2
     missing = ended("--settings", "no/such/file", *files[2:], *listen)
     yield "settings", missing, (1, b"", b"osb-broker: cannot read no/such/file\n")
 
 
+# The deepest body that is read.
+DEEPEST = with_parameters(SYNC, '{"a":' * 125 + "{}" + "}" * 125)
+
+
+def size_of(serving, name):
+    """A number of kilobytes that the system has of the process."""
+    with open(f"/proc/{serving.process.pid}/status", encoding="utf-8") as status:
+        return next(int(line.split()[1]) for line in status if line.startswith(f"{name}:"))
+
+
+def limited(program, folder, limit, kilobytes):
+    """The program with a limit of the system."""
+    bytes_each = (kilobytes * 1024,) * 2
+    return Serving(program, new_database(folder), preexec_fn=lambda: setrlimit(limit, bytes_each))
+
+
+def try_stack(program, folder):
+    """The deepest request takes no more of the stack than the start. Where the system hasn't that much, it is the start
+    that is refused."""
+    with Serving(program, new_database(folder)) as serving:
+        stack, size = size_of(serving, "VmStk"), size_of(serving, "VmPeak")
+        yield "the deepest request", serving.sends(request("PUT", I, DEEPEST)), reply(201, "{}")
+        yield "its stack", size_of(serving, "VmStk"), stack
+    for kilobytes in (128, 256, 384, 511):
+        serving = limited(program, folder, RLIMIT_STACK, kilobytes)
+        ended = False if serving.listens() else serving.ended()
+        serving.kill()
+        yield f"a stack of {kilobytes} kB", ended, (1, b"", b"osb-broker: out of memory\n")
+    with limited(program, folder, RLIMIT_STACK, 512) as serving:
+        yield "a stack of 512 kB", serving.sends(request("PUT", I, DEEPEST)), reply(201, "{}")
+    for kilobytes in range(size - 800, size + 400, 40):
+        serving = limited(program, folder, RLIMIT_AS, kilobytes)
+        if serving.listens():
+            found = serving.sends(request("PUT", I, DEEPEST))
+            yield f"{kilobytes} kB in all", found in (reply(201, "{}"), REFUSED_REPLY, b""), True
+            yield f"{kilobytes} kB in all: it goes on", serving.process.poll(), None
+        serving.kill()
+
+
 def tries(program):
     with tempfile.TemporaryDirectory() as folder:
-        for trial in (try_life, try_conversations, try_contexts, try_sockets, try_words):
+        for trial in (try_life, try_conversations, try_contexts, try_sockets, try_words, try_stack):
             yield from trial(program, folder)
 
 

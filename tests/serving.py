@@ -2,6 +2,7 @@
 
 import json
 import os
+import re
 import socket
 import subprocess
 import tempfile
@@ -9,6 +10,12 @@ import tempfile
 ROOT = os.path.join(os.path.dirname(os.path.abspath(__file__)), "..")
 EXAMPLES = os.path.join(ROOT, "examples")
 SETTINGS = os.path.join(EXAMPLES, "settings.json")
+
+
+def newest_version():
+    """The first version that CHANGELOG.md has, which is that of the program."""
+    with open(os.path.join(ROOT, "CHANGELOG.md"), encoding="utf-8") as file:
+        return re.search(r"^## ([\d.]+)", file.read(), re.MULTILINE).group(1)
 
 
 def free_address():
@@ -42,6 +49,12 @@ def settings_with_contexts(folder):
     return path
 
 
+# How many clients are connected at the same time, where a trial doesn't say it; as the program has it without that.
+TOGETHER = os.environ.get("TOGETHER")
+
+# What a start says on standard error that begins a database.
+BEGUN_LINE = b"database: new\n"
+
 # How often it is started anew where another has taken its address.
 MOST_STARTS = 10
 
@@ -51,6 +64,8 @@ class Serving:
 
     def __init__(self, program, database, *more, settings=SETTINGS, **process):
         self.words = [program, "serve", "--settings", settings, "--database", database, *more]
+        if TOGETHER and not {"--together", "--per-connection"} & set(more):
+            self.words += ["--together", TOGETHER]
         self.more = process
         self.start()
 
@@ -68,10 +83,14 @@ class Serving:
             if again:
                 self.start()
             self.first = self.process.stdout.readline()
-            taken = (1, b"", f"osb-broker: cannot listen on {self.address}\n".encode())
-            if self.first or self.ended() != taken:
+            if self.first or not self.is_address_taken():
                 break
         return self.first == f"listening on {self.address}\n".encode()
+
+    def is_address_taken(self):
+        """Whether it ended since another listens at its address."""
+        status, _, errors = self.ended()
+        return status == 1 and errors.endswith(f"osb-broker: cannot listen on {self.address}\n".encode())
 
     def kill(self):
         self.process.kill()

@@ -1,10 +1,12 @@
 """Proves the crates that the program stands on, and links it.
 
     python3 tools/build.py
+    python3 tools/build.py --linked-by COMMAND ..
 
-A line says when a crate is begun, and one when it is proved. Crates that don't stand on each other are
-proved side by side, where a processor and memory are free. What was proved before and hasn't changed is
-not proved again."""
+A line says when a crate is begun, and one when it is proved. Crates that don't stand on each other are proved side by
+side, each by its share of the processors that are idle, as far as memory reaches. What was proved before and hasn't
+changed is not proved again. The second runs a command that proves everything and links the program, as `rt ci`; the
+first then takes that program, as long as the sources are the same."""
 
 import concurrent.futures
 import os
@@ -13,196 +15,215 @@ import subprocess
 import sys
 import time
 
-from crates import LIBRARIES, ROOT, RT, below, lanes, sum_of
+from crates import LIBRARIES, ROOT, below, free_memory, has_changed, sum_of
+from proved import count_in, is_kept, made, prove, record, sum_kept
+from rattle import rlib
 
 PROGRAM = "osb_program"
-# What the largest check takes of memory.
-BYTES_EACH = 4_500_000_000
-# About how many minutes a crate takes where nothing of it is kept, on one processor (docs/GATE.md, 'What a crate costs').
+# About how many minutes a crate takes where nothing of it is kept: those of one process, and those that its jobs share;
+# where these are none it gets one job (docs/GATE.md, 'A first make' and 'What a crate costs').
 MINUTES = {
-    "osb_text": 2,
-    "osb_catalog": 6,
-    "osb_asks": 5,
-    "osb_orders": 3,
-    "osb_machine": 5,
-    "osb_audit": 2,
-    "osb_bare": 1,
-    "osb_joined": 1,
-    "osb_contexts": 3,
-    "osb_statements": 17,
-    "osb_records": 3,
-    "osb_file": 3,
-    "osb_broker": 8,
-    "osb_listen": 5,
-    "osb_cli": 5,
-    "osb_program": 6,
+    "osb_text": (0.2, 0.8),
+    "osb_frames": (0.4, 0.9),
+    "osb_replies": (0.2, 0.5),
+    "osb_tables": (0.5, 0.3),
+    "osb_rows": (0.1, 0),
+    "osb_catalog": (1.1, 3.4),
+    "osb_asks": (1.0, 4.0),
+    "osb_orders": (1.0, 2.2),
+    "osb_standing": (0.3, 1.0),
+    "osb_machine": (0.7, 2.7),
+    "osb_audit": (1.9, 0.6),
+    "osb_bare": (0.1, 0),
+    "osb_joined": (0.4, 0.5),
+    "osb_contexts": (0.6, 1.8),
+    "osb_statements": (2.6, 9.1),
+    "osb_records": (1.4, 2.0),
+    "osb_file": (2.2, 0),
+    "osb_laws": (0.1, 0),
+    "osb_broker": (2.6, 1.0),
+    "osb_listen": (3.2, 0),
+    "osb_cli": (4.3, 0.9),
+    "osb_program": (7.0, 0),
+    "osb_restart": (3.4, 0.8),
+    "tests_support": (1.3, 1.0),
 }
-
-
-def out(crate):
-    return ROOT / "crates" / crate / "out"
-
-
-def made(crate):
-    """What is made of a crate: its library, or the program."""
-    return out(crate) / (PROGRAM if crate == PROGRAM else "rlib")
-
-
-def is_kept(crate):
-    """Whether this script proved the crate as it is now."""
-    kept = out(crate) / "built"
-    return made(crate).exists() and kept.is_file() and kept.read_text() == sum_of(crate)
-
-
-def keep(crate):
-    (out(crate) / "built").write_text(sum_of(crate))
+MINUTES_OF_OTHERS = (0.1, 0.1)
+MOST_JOBS = 4
+# What a check takes of memory, and each of its jobs beyond the first.
+BYTES = {"osb_statements": 4_000_000_000, "osb_listen": 4_000_000_000, "osb_cli": 5_500_000_000, "osb_program": 7_500_000_000}
+BYTES_OF_OTHERS = 2_500_000_000
+BYTES_OF_JOB = 1_500_000_000
 
 
 def say(text):
     print(text, flush=True)
 
 
-def minutes(seconds):
+def clock(seconds):
     return f"{int(seconds) // 60} min {int(seconds) % 60:02} s" if seconds >= 60 else f"{seconds:.0f} s"
 
 
-def copy(source, target, by=shutil.copy2):
-    if source.is_dir():
-        shutil.copytree(source, target, copy_function=by)
-
-
-def run(words, folder, given=subprocess.DEVNULL):
-    """The status of a command, and all that it printed."""
-    how = {"stdin": given, "stdout": subprocess.PIPE, "stderr": subprocess.STDOUT, "text": True, "errors": "replace"}
-    ran = subprocess.run(words, cwd=folder, **how)
-    return ran.returncode, ran.stdout
-
-
-def room_for(crate):
-    """A copy of the crate and of the libraries below it. rt lets one run at a time into a crate's folder and
-    those of its libraries, so crates that are proved side by side can't share them."""
-    room = out(crate) / "room"
-    shutil.rmtree(room, ignore_errors=True)
-    room.mkdir(parents=True)
-    shutil.copy(ROOT / "HANDLES", room)
-    crates = [*below(crate), crate]
-    (room / "crates.txt").write_text("".join(f"{it}: {' '.join(LIBRARIES[it])}\n" for it in crates))
-    for name in crates:
-        for part in ("src", "specs", "proofs"):
-            copy(ROOT / "crates" / name / part, room / "crates" / name / part)
-        copy(out(name) / "rlib", room / "crates" / name / "out" / "rlib", by=os.link)
-    return room
-
-
-def move(source, target):
-    if source.is_dir():
-        shutil.rmtree(target, ignore_errors=True)
-        target.parent.mkdir(parents=True, exist_ok=True)
-        source.rename(target)
-
-
-def prove(crate, jobs):
-    """What rt says of the crate's proof, and its status. The library and the work that rt keeps go to the crate."""
-    room = room_for(crate)
-    folder = room / "crates" / crate
-    try:
-        move(out(crate) / "incremental", folder / "out" / "incremental")
-        status, said = run([RT, "lib", "--jobs", str(jobs)], folder)
-        if status == 0:
-            move(folder / "out" / "rlib", out(crate) / "rlib")
-            keep(crate)
-        return status, said
-    finally:
-        move(folder / "out" / "incremental", out(crate) / "incremental")
-        shutil.rmtree(room, ignore_errors=True)
-
-
-def proved_in(said):
-    """What rt says that it proved."""
-    words = [it for line in said.splitlines() if line.startswith("logic=proved") for it in line.split()]
-    count = next((it.partition("=")[2] for it in words if it.startswith("functions=")), None)
-    return f"{count} functions proved" if count else "proved before"
+def minutes(crate, jobs):
+    of_one, shared = MINUTES.get(crate, MINUTES_OF_OTHERS)
+    return of_one + shared / jobs
 
 
 def chain(crate, crates):
     """The minutes of the longest chain of these crates that begins with this one."""
     above = [it for it in crates if crate in LIBRARIES[it]]
-    return MINUTES.get(crate, 1) + max((chain(it, crates) for it in above), default=0)
+    return minutes(crate, MOST_JOBS) + max((chain(it, crates) for it in above), default=0)
+
+
+def bytes_of(crate, jobs):
+    return BYTES.get(crate, BYTES_OF_OTHERS) + (jobs - 1) * BYTES_OF_JOB
+
+
+class Schedule:
+    """Crates that are to be proved: those that are left, and those that are being proved, with their jobs."""
+
+    def __init__(self, left, running, processors, memory):
+        self.left, self.running = [*left], {**running}
+        self.processors, self.memory = processors, memory
+
+    def begin(self):
+        """Begins what can begin now, the longest chain first: each crate, and its jobs."""
+        unproved = {*self.left, *self.running}
+        ready = [it for it in self.left if not unproved & set(below(it))]
+        for place, crate in enumerate(ready):
+            if jobs := self.jobs_for(crate, len(ready) - place):
+                self.left.remove(crate)
+                self.running[crate] = jobs
+                yield crate, jobs
+
+    def jobs_for(self, crate, count):
+        """The jobs of a crate that is one of so many which could begin: its share of the idle processors, as far as
+        memory reaches. None where it has to wait."""
+        idle = self.processors - sum(self.running.values())
+        free = self.memory - sum(bytes_of(it, jobs) for it, jobs in self.running.items())
+        most = MOST_JOBS if MINUTES.get(crate, MINUTES_OF_OTHERS)[1] else 1
+        jobs = max(min(1, idle), min(most, idle // count))
+        while jobs and bytes_of(crate, jobs) > free:
+            jobs -= 1
+        return jobs if self.running else max(1, jobs)
+
+    def end(self, crate):
+        del self.running[crate]
+
+    def minutes_left(self, elapsed):
+        """About how long the rest takes, where these minutes have gone by for those that are being proved."""
+        plan = Schedule(self.left, self.running, self.processors, self.memory)
+        ends, now = {it: minutes(it, jobs) - elapsed[it] for it, jobs in self.running.items()}, 0
+        while plan.left or plan.running:
+            ends |= {it: now + minutes(it, jobs) for it, jobs in plan.begin()}
+            first = min(plan.running, key=ends.get)
+            now = max(now, ends[first])
+            plan.end(first)
+        return round(now)
+
+
+def schedule_of(crates):
+    """A schedule of these crates for this machine as it is."""
+    left = sorted(crates, key=lambda it: -chain(it, crates))
+    return Schedule(left, {}, len(os.sched_getaffinity(0)), free_memory())
 
 
 class Progress:
-    """The crates that aren't proved yet, and how many are to be proved in all."""
+    """What is said of a schedule as it goes on."""
 
-    def __init__(self, crates, at_once):
-        self.left, self.count, self.at_once = [*crates, PROGRAM], len(crates) + 1, at_once
+    def __init__(self, schedule):
+        self.schedule, self.count, self.begun = schedule, len(schedule.left), {}
 
     def minutes_left(self):
-        """About how long the rest takes: as long as its longest chain, or as all of it shared out."""
-        return max(chain(it, self.left) for it in self.left) if self.at_once > 1 else sum(MINUTES.get(it, 1) for it in self.left)
+        elapsed = {it: (time.monotonic() - self.begun[it]) / 60 for it in self.schedule.running}
+        return self.schedule.minutes_left(elapsed)
 
     def plan(self):
-        whole = len(below(PROGRAM)) + 1
-        say(f"osb-broker: proving {self.count} of {whole} crates and linking the program takes about {self.minutes_left()} minutes")
+        how = f"{self.schedule.processors} processor{'s' * (self.schedule.processors > 1)}"
+        say(f"osb-broker: {self.count} crates are to be proved, which takes about {self.minutes_left()} minutes on {how}")
 
-    def begin(self, crate):
-        say(f"{crate}: being proved")
+    def begin(self, crate, jobs):
+        self.begun[crate] = time.monotonic()
+        say(f"{crate}: being proved{f', by {jobs} jobs' if jobs > 1 else ''}")
 
-    def end(self, crate, proved, seconds):
-        self.left.remove(crate)
-        rest = f"about {self.minutes_left()} minutes are left" if self.left else "none is left"
-        say(f"{crate}: {proved} in {minutes(seconds)}; {self.count - len(self.left)} of {self.count} crates, {rest}")
-
-
-def prove_all(crates, progress):
-    """Proves crates, each once those below it are proved. Gives the status of the first that isn't proved."""
-    left, running, proved = sorted(crates, key=lambda it: -chain(it, [*crates, PROGRAM])), {}, set()
-    at_once = progress.at_once
-    with concurrent.futures.ThreadPoolExecutor(at_once) as pool:
-        while left or running:
-            ready = [it for it in left if not set(below(it)) & set(crates) - proved]
-            for crate in ready[: at_once - len(running)]:
-                left.remove(crate)
-                progress.begin(crate)
-                jobs = min(2, at_once) if len(ready) == 1 and not running else 1
-                running[pool.submit(prove, crate, jobs)] = crate, time.monotonic()
-            for it in concurrent.futures.wait(running, return_when=concurrent.futures.FIRST_COMPLETED).done:
-                crate, begun = running.pop(it)
-                status, said = it.result()
-                if status:
-                    say(f"{said}\n{crate}: not proved")
-                    return status
-                proved.add(crate)
-                progress.end(crate, proved_in(said), time.monotonic() - begun)
-    return 0
+    def end(self, crate, said):
+        done = self.count - len(self.schedule.left) - len(self.schedule.running)
+        rest = f"about {self.minutes_left()} minutes are left" if done < self.count else "none is left"
+        took = clock(time.monotonic() - self.begun[crate])
+        say(f"{crate}: {count_in(said)} in {took}; {done} of {self.count} crates, {rest}")
 
 
-def link_program(progress):
-    """Proves and links the program itself. Gives the status."""
-    progress.begin(PROGRAM)
-    begun = time.monotonic()
-    folder = ROOT / "crates" / PROGRAM
-    with open(folder / "stdin", "rb") as given:
-        status, said = run([RT, "run"], folder, given)
+def is_proved(crate, status, said):
+    """Whether a crate's proof was found and kept; where not, it is said why."""
     if status:
-        say(f"{said}\n{PROGRAM}: not built")
-        return status
-    keep(PROGRAM)
-    progress.end(PROGRAM, proved_in(said), time.monotonic() - begun)
-    return 0
+        say(f"{said}\n{crate}: not proved")
+    elif not is_kept(crate):
+        say(f"{crate}: its files, or a library below it, were changed meanwhile")
+    return not status and is_kept(crate)
 
 
-def main():
-    crates = [it for it in below(PROGRAM) if not is_kept(it)]
-    status = 0
-    if crates or not is_kept(PROGRAM):
-        progress = Progress(crates, lanes(BYTES_EACH))
-        progress.plan()
-        status = prove_all(crates, progress) or link_program(progress)
+def prove_all(crates):
+    """Proves crates, each once those below it are proved. Whether all are."""
+    schedule, proofs, well = schedule_of(crates), {}, True
+    progress = Progress(schedule)
+    progress.plan()
+    with concurrent.futures.ThreadPoolExecutor(schedule.processors) as pool:
+        while well and (schedule.left or schedule.running):
+            for crate, jobs in schedule.begin():
+                progress.begin(crate, jobs)
+                proofs[pool.submit(prove, crate, jobs)] = crate
+            for it in concurrent.futures.wait(proofs, return_when=concurrent.futures.FIRST_COMPLETED).done:
+                crate = proofs.pop(it)
+                schedule.end(crate)
+                if well := well and is_proved(crate, *it.result()):
+                    progress.end(crate, it.result()[1])
+    return well
+
+
+def place_program():
+    """Puts the program that was linked at the top of the repository; one that runs there goes on."""
+    new = made(PROGRAM).with_suffix(".new")
+    shutil.copy(made(PROGRAM), new)
+    os.replace(new, ROOT / "osb-broker")
+    say(f"the program is {ROOT / 'osb-broker'}")
+
+
+def take_libraries_away():
+    """Takes all libraries away where one is of other sources: `rt ci` puts those that it finds back in the end, and they
+    don't go together with its own."""
+    if any(rlib(it).exists() and not is_kept(it) for it in LIBRARIES):
+        for crate in LIBRARIES:
+            shutil.rmtree(rlib(crate).parent, ignore_errors=True)
+
+
+def take_linked(command):
+    """Runs a command that proves all crates and links the program, and keeps that program. Gives its status."""
+    # (the sums are asked for before the command begins, so that a change meanwhile is seen)
+    sum_of(PROGRAM)
+    take_libraries_away()
+    status = subprocess.run(command, cwd=ROOT).returncode
     if status == 0:
-        shutil.copy(made(PROGRAM), ROOT / "osb-broker")
-        say(f"the program is {ROOT / 'osb-broker'}")
+        if not any(map(has_changed, [*below(PROGRAM), PROGRAM])):
+            record(PROGRAM).write_text(sum_kept(PROGRAM))
+        place_program()
     return status
 
 
+def main(words):
+    if words[:1] == ["--linked-by"]:
+        return take_linked(words[1:])
+    crates = [*below(PROGRAM), PROGRAM]
+    if is_kept(PROGRAM):
+        say(f"{PROGRAM}: proved and linked before, of the same sources")
+    elif not prove_all([it for it in crates if not is_kept(it)]):
+        return 1
+    place_program()
+    return 0
+
+
 if __name__ == "__main__":
-    sys.exit(main())
+    try:
+        sys.exit(main(sys.argv[1:]))
+    except KeyboardInterrupt:
+        say("osb-broker: stopped; what was proved is kept")
+        sys.exit(130)

@@ -41,11 +41,23 @@ def toolkit():
 
 
 @functools.cache
-def sum_of(crate):
-    """A sum of all that a crate's proof reads: the toolkit, its line, its files and the crates below it."""
+def own_sum(crate):
+    """A sum of the toolkit, a crate's line and its files, as they were when it was first asked for."""
     found = hashlib.sha256(repr((toolkit(), crate, LIBRARIES[crate])).encode())
     for file in sources(crate):
         found.update(repr((str(file.relative_to(ROOT)), file.read_bytes())).encode())
+    return found.hexdigest()
+
+
+def has_changed(crate):
+    """Whether a crate's files are others than when their sum was first asked for."""
+    return own_sum.__wrapped__(crate) != own_sum(crate)
+
+
+@functools.cache
+def sum_of(crate):
+    """A sum of all that a crate's proof reads: the toolkit, its line, its files and the crates below it."""
+    found = hashlib.sha256(own_sum(crate).encode())
     for name in LIBRARIES[crate]:
         found.update(sum_of(name).encode() if name in LIBRARIES else b"")
     return found.hexdigest()

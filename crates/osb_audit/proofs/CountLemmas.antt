@@ -1,28 +1,24 @@
 -- What lives have, counted off their rows.
-use Rattle.std.proofs.Common.{◌≡◌, ℕ, ◌+◌, Bool, true, false, cond, not, ◌&&◌, T, List, [], ◌∷◌, ◌++◌, length, map, filter, bytes_eq, is_eq, is_lt, Option, Some, None, Ordering, Less, Equal, Greater, refl, sym, ◌∙◌, ap, ap₂, subst, arith, suc}
+use Rattle.std.proofs.Common.{◌≡◌, ℕ, ◌+◌, Bool, true, false, cond, not, ◌&&◌, T, List, [], ◌∷◌, ◌++◌, length, map, filter, bytes_eq, is_eq, is_lt, Some, None, Ordering, Less, Equal, Greater, refl, sym, ◌∙◌, ap, ap₂, subst, arith, suc}
 use Rattle.std.specs.Prelude.{unwrap_or, is_some}
 use Rattle.std.specs.List.{flat_map}
 use Rattle.std.specs.Option.{option_to_list}
-use Rattle.std.specs.Ordering.{nat_cmp, eq_by_cmp}
-use Rattle.std.specs.Cmp.Lexicographic.{slice_cmp, nat_list_eq_equiv}
-use Rattle.std.specs.FinMap.{find, is_sorted, get, entries, entries_sorted, get-entries}
+use Rattle.std.specs.Cmp.Lexicographic.{nat_list_eq_equiv}
+use Rattle.std.specs.FinMap.{find, is_sorted, entries, entries_sorted, get-entries}
 use Rattle.std.specs.FinMap.Entries.{below_all}
 use Rattle.std.proofs.lemmas.List.{length-append, length-map}
 use Rattle.std.proofs.lemmas.List.Elements.{filter-append}
 use Rattle.osb_orders.specs.declared.order.OrderState.TheVariants.{Running}
-use Rattle.osb_orders.specs.declared.view.BindingNow.{BindingNow}
 use Rattle.osb_orders.specs.Lists.{last_from}
 use Rattle.osb_orders.specs.Orders.{is_now}
 use Rattle.osb_orders.specs.Life.{Life, standing_of}
 use Rattle.osb_orders.specs.Lives.{Lives, life_of}
-use Rattle.osb_orders.specs.IsLife.{IsLives}
 use Rattle.osb_standing.specs.declared.row.InstanceRow.{InstanceRow}
 use Rattle.osb_standing.specs.Rows.{row_by, row_of, bindings_of}
 use Rattle.osb_audit.specs.declared.entry.BindingEntry.{BindingEntry}
-use Rattle.osb_audit.specs.declared.counting.Counts.{Counts}
 use Rattle.osb_audit.specs.Instances.{InstanceEntry, is_instance, InstancesStand}
 use Rattle.osb_audit.specs.Bindings.{binding_entry, is_bound, AllBindingsStand}
-use Rattle.osb_audit.specs.Counts.{is_there, is_busy, bindings_in, AreCounts}
+use Rattle.osb_audit.specs.Counts.{is_there, is_busy, bindings_in}
 use Rattle.osb_audit.proofs.RunLemmas.{by_bytes, same_text}
 use Rattle.osb_audit.proofs.LivesLemmas.{key_is, no_bindings}
 

@@ -10,7 +10,6 @@ use Rattle.std.specs.Cmp.Lexicographic.{nat_list_cmp_total}
 use Rattle.std.specs.FinMap.{find, is_sorted, get, entries, entries_sorted, get-entries, slice_cmp-IsAntisymmetric, nat_cmp-IsAntisymmetric}
 use Rattle.std.specs.FinMap.Entries.{below_all, same_entries}
 use Rattle.std.specs.BTreeSet.{BTreeSet}
-use Rattle.std.proofs.Math.Bool.{or-false}
 use Rattle.std.proofs.lemmas.List.{take_all}
 use Rattle.std.proofs.lemmas.List.Folds.{list_any-append}
 use Rattle.osb_text.specs.Id.{has_no_controls, is_id}
@@ -29,7 +28,7 @@ use Rattle.osb_standing.specs.Listing.{with_its_row, instance_rows}
 use Rattle.osb_audit.specs.Orders.{Entry}
 use Rattle.osb_audit.specs.Instances.{InstanceEntry, instance_cmp, is_instance, InstancesStand}
 use Rattle.osb_audit.specs.Plans.{Pair, pair_in, pair_cmp, pairs_of, plans_in_use}
-use Rattle.osb_audit.specs.Gathered.{pairs_in_row, pairs_in_order, pairs_in_rows, pairs_in_orders, Adds}
+use Rattle.osb_audit.specs.Gathered.{pairs_in_row, pairs_in_order, pairs_in_rows, pairs_in_orders, Adds, HasAdded}
 use Rattle.osb_audit.proofs.RunLemmas.{by_bytes}
 use Rattle.osb_audit.proofs.LivesLemmas.{key_is}
 use Rattle.osb_audit.proofs.StandLemmas.{first_of, first_shown}
@@ -199,14 +198,14 @@ module _ (p : Pair → Bool) where
       ∙ (λ i. sym (listed_more id last (filter_map with_last es) h.0.id) i || sym (list_any-append p (pairs_in_row row) (pairs_in_rows (filter_map with_its_row es))) i)
 
 -- what is gathered is the list of the lives
-pub gathered : (lives : Lives) (limit : ℕ) (instances : List InstanceEntry) (running : List Entry) (none standing all : BTreeSet Pair) → IsLives lives → IsStrictlySortedBy instance_cmp instances → InstancesStand lives instances → length instances ≤ limit → running ≡ listing lives [] limit →
-    none.keys ≡ [] → Adds (pairs_in_rows instances) none standing → Adds (pairs_in_orders running) standing all → IsStrictlySortedBy pair_cmp all.keys → all.keys ≡ plans_in_use lives
-gathered lives limit instances running none standing all h rises stand room listed empty first second ordered =
+pub gathered : (lives : Lives) (limit : ℕ) (instances : List InstanceEntry) (running : List Entry) (standing all : BTreeSet Pair) → IsLives lives → IsStrictlySortedBy instance_cmp instances → InstancesStand lives instances → length instances ≤ limit → running ≡ listing lives [] limit →
+    HasAdded (pairs_in_rows instances) standing → Adds (pairs_in_orders running) standing all → IsStrictlySortedBy pair_cmp all.keys → all.keys ≡ plans_in_use lives
+gathered lives limit instances running standing all h rises stand room listed first second ordered =
     let rows = rows_are lives instances h rises stand in
     let fits : length (instance_rows lives) ≤ limit = subst (λ (rows : List InstanceEntry). length rows ≤ limit) rows room in
     let orders = listed ∙ whole_listing lives limit fits in
     listed_in_order all (flat_map (λ (e : Lived). pairs_of e.1) (entries lives)) ordered (λ q.
     second q
-    ∙ ap (λ b. list_any (eq_by_cmp pair_cmp q) (pairs_in_orders running) || b) (first q ∙ ap (λ (keys : List Pair). list_any (eq_by_cmp pair_cmp q) (pairs_in_rows instances) || list_any (eq_by_cmp pair_cmp q) keys) empty ∙ or-false (list_any (eq_by_cmp pair_cmp q) (pairs_in_rows instances)))
+    ∙ ap (λ b. list_any (eq_by_cmp pair_cmp q) (pairs_in_orders running) || b) (first q)
     ∙ (λ i. list_any (eq_by_cmp pair_cmp q) (pairs_in_orders (orders i)) || list_any (eq_by_cmp pair_cmp q) (pairs_in_rows (rows i)))
     ∙ sym (all_pairs (eq_by_cmp pair_cmp q) (entries lives) (are_instances lives h)))

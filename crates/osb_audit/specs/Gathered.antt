@@ -1,4 +1,4 @@
--- The plans in use as they are gathered from rows. For contracts inside the crate.
+-- The plans in use as they are gathered from rows.
 use Rattle.std.specs.Prelude.{◌≡◌, ◌||◌, List, [], ◌∷◌, map, filter}
 use Rattle.std.specs.List.{list_any, flat_map}
 use Rattle.std.specs.Option.{option_to_list}
@@ -26,3 +26,7 @@ pairs_in_orders orders = flat_map (λ (entry : Entry). pairs_in_order entry.1) o
 -- the pairs are in the set now, beside those that were
 abbrev pub Adds : List Pair → BTreeSet Pair → BTreeSet Pair → Type 0
 Adds pairs old new = (pair : Pair) → contains pair_cmp new pair ≡ (list_any (eq_by_cmp pair_cmp pair) pairs || contains pair_cmp old pair)
+
+-- the set has these pairs and no others
+abbrev pub HasAdded : List Pair → BTreeSet Pair → Type 0
+HasAdded pairs set = (pair : Pair) → contains pair_cmp set pair ≡ list_any (eq_by_cmp pair_cmp pair) pairs

@@ -7,8 +7,8 @@ pub mod Instances
 pub mod Bindings
 -- The plans in use, and how much there is of everything.
 pub mod Plans
+pub mod Gathered
 pub mod Counts
 -- For contracts inside the crate.
-pub mod Gathered
 pub mod Life
 pub mod Runs

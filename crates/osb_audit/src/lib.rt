@@ -11,6 +11,6 @@ mod rising;
 mod valid_texts;
 
 pub use audit::are_rows_of_lives;
-pub use counting::{Counts, count};
+pub use counting::{Counts, count_busy, count_there};
 pub use entry::BindingEntry;
-pub use plans::plans_in_use;
+pub use plans::{add_standing, plans_in_use};

@@ -1,14 +1,14 @@
 //! The plans in use, read off the rows of the instances and the running orders.
 
-ghost use Rattle.std.specs.Prelude.{◌≡◌, ℕ, ◌≤◌, ◌∷◌, [], length, IfOk, OnOk};
+ghost use Rattle.std.specs.Prelude.{◌≡◌, ℕ, ◌≤◌, ◌∷◌, [], List, length, IfOk, OnOk};
 ghost use Rattle.std.specs.List.Sorted.{IsStrictlySortedBy};
 ghost use Rattle.osb_orders.specs.Lives.{Lives};
 ghost use Rattle.osb_orders.specs.Listing.{listing};
 ghost use Rattle.osb_orders.specs.IsLife.{IsLives};
-ghost use Rattle.osb_audit.specs.Instances.{instance_cmp, InstancesStand};
+ghost use Rattle.osb_audit.specs.Instances.{InstanceEntry, instance_cmp, InstancesStand};
 ghost use Rattle.osb_audit.specs.Plans as spec;
 ghost use Rattle.osb_audit.specs.Plans.{pair_cmp, pair_in};
-ghost use Rattle.osb_audit.specs.Gathered.{pairs_in_row, pairs_in_order, pairs_in_rows, pairs_in_orders, Adds};
+ghost use Rattle.osb_audit.specs.Gathered.{pairs_in_row, pairs_in_order, pairs_in_rows, pairs_in_orders, Adds, HasAdded};
 
 use osb_orders::{Attributes, Order, OrderKind, OrderState};
 use osb_standing::InstanceRow;
@@ -17,20 +17,21 @@ use std::alloc::{AllocError, Global};
 use std::collections::BTreeSet;
 
 /// The pairs of service and plan of the instances that aren't absent and of the Updates that run,
-/// each once, in the order of their bytes. `instances` are the rows of all instances, and `running`
-/// are all running orders.
+/// each once, in the order of their bytes. `standing` are those that `add_standing` has added of the
+/// rows of all instances, and `running` are all running orders.
 pub fn plans_in_use(
     alloc: Global,
-    instances: &[(Text, InstanceRow)],
+    mut standing: BTreeSet<(Text, Text)>,
     running: &[(Text, Order)],
 ) -> Result<Vec<(Text, Text)>, AllocError>
-    ensures { (lives : Lives) (limit : ℕ) → IsLives lives → IsStrictlySortedBy instance_cmp instances.now → InstancesStand lives instances.now → length instances.now ≤ limit → running.now ≡ listing lives [] limit →
+    ensures { (lives : Lives) (limit : ℕ) (instances : List InstanceEntry) → IsLives lives →
+        IsStrictlySortedBy instance_cmp instances → InstancesStand lives instances →
+        length instances ≤ limit → running.now ≡ listing lives [] limit →
+        HasAdded (pairs_in_rows instances) standing →
         IfOk result (λ plans. plans.items ≡ spec.plans_in_use lives) }
 {
-    let mut plans = BTreeSet::new(alloc);
-    add_standing(&mut plans, instances)?;
-    add_updating(&mut plans, running)?;
-    listed(alloc, plans)
+    add_updating(&mut standing, running)?;
+    listed(alloc, standing)
 }
 
 fn listed(alloc: Global, plans: BTreeSet<(Text, Text)>) -> Result<Vec<(Text, Text)>, AllocError>
@@ -41,7 +42,7 @@ fn listed(alloc: Global, plans: BTreeSet<(Text, Text)>) -> Result<Vec<(Text, Tex
 }
 
 /// Adds the plans of the instances that aren't absent.
-fn add_standing(
+pub fn add_standing(
     plans: &mut BTreeSet<(Text, Text)>,
     instances: &[(Text, InstanceRow)],
 ) -> Result<(), AllocError>

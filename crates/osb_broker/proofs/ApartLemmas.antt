@@ -10,13 +10,10 @@ use Rattle.osb_catalog.specs.Rules.{Rules}
 use Rattle.osb_asks.specs.declared.ask.Ask.{Ask}
 use Rattle.osb_asks.specs.declared.ask_fault.AskFault.{AskFault}
 use Rattle.osb_asks.specs.Asks.{ask_of}
-use Rattle.osb_orders.specs.declared.order.Change.{Change}
-use Rattle.osb_orders.specs.declared.order.Change.TheVariants.{Nothing, Append, Finish}
 use Rattle.osb_orders.specs.Lives.{Lives, life_of}
 use Rattle.osb_orders.specs.Named.{instance_in}
-use Rattle.osb_orders.specs.Changed.{changed, lives_changed, after_change}
-use Rattle.osb_machine.specs.Machine.{answer_to, after_step}
-use Rattle.osb_laws.proofs.MapLemmas.{answers_apart, others_stay, unnamed_stay, got}
+use Rattle.osb_machine.specs.Machine.{after_step}
+use Rattle.osb_laws.proofs.MapLemmas.{answers_apart, one_life, others_stay, unnamed_stay}
 use Rattle.osb_broker.specs.Machine.{Answered, reply_of}
 use Rattle.osb_broker.specs.Steps.{answer_alone, step_of, step_for, lives_after}
 use Rattle.osb_broker.specs.Connection.{ConnectionText, Run}
@@ -26,26 +23,9 @@ use Rattle.osb_broker.proofs.OneByOneLemmas.{text_of_request}
 use Rattle.osb_broker.proofs.RequestLemmas.{Kind, silent, broken, asks, Seen, view, AreValidTexts}
 use Rattle.osb_broker.proofs.RepeatLemmas.{once}
 
--- ---- the life that an ask names, after its step
-
-changed_at : (lives : Lives) (c : Change) (id : List ℕ) → life_of (lives_changed c id lives) id ≡ changed c (life_of lives id)
-changed_at lives Nothing id = refl
-changed_at lives (Append o) id = got lives id _
-changed_at lives (Finish number outcome) id = got lives id _
-
-named_after : (rules : Rules) (lives : Lives) (ask : Ask) (id : List ℕ) → instance_in ask ≡ Some id → life_of (after_step rules lives ask) id ≡ changed (answer_to rules lives ask).change (life_of lives id)
-named_after rules lives ask id e = ap (λ at. life_of (after_change (answer_to rules lives ask).change lives at) id) e ∙ changed_at lives (answer_to rules lives ask).change id
-
--- two maps with one life for the instance answer alike, and have one life for it afterwards
-same_told : (rules : Rules) (s v : Lives) (ask : Ask) (id : List ℕ) → instance_in ask ≡ Some id → life_of s id ≡ life_of v id → (step_of rules s ask).0 ≡ (step_of rules v ask).0
+-- two maps with one life for the instance answer alike
+pub same_told : (rules : Rules) (s v : Lives) (ask : Ask) (id : List ℕ) → instance_in ask ≡ Some id → life_of s id ≡ life_of v id → (step_of rules s ask).0 ≡ (step_of rules v ask).0
 same_told rules s v ask id e same = ap answer_alone (answers_apart rules s v ask id e same)
-
-pub same_after : (rules : Rules) (s v : Lives) (ask : Ask) (id : List ℕ) → instance_in ask ≡ Some id → life_of s id ≡ life_of v id → life_of (after_step rules s ask) id ≡ life_of (after_step rules v ask) id
-same_after rules s v ask id e same =
-    named_after rules s ask id e
-    ∙ ap (λ c. changed c (life_of s id)) (ap (λ r. r.change) (answers_apart rules s v ask id e same))
-    ∙ ap (changed (answer_to rules v ask).change) same
-    ∙ sym (named_after rules v ask id e)
 
 -- ---- whether a connection asks something of the instance
 
@@ -78,11 +58,11 @@ module _ (rules : Rules) (limits : Limits) (id : List ℕ) where
           let bad : true ≡ false = sym sure ∙ t in
           cc)
 
-  abbrev instance_found : Result Ask AskFault → Option (List ℕ)
+  abbrev pub instance_found : Result Ask AskFault → Option (List ℕ)
   instance_found (Ok ask) = instance_in ask
   instance_found (Err f) = None
 
-  decide : (bytes : List ℕ) → Kind limits bytes → AsksOf rules limits id bytes ⊎ (AsksOf rules limits id bytes → ⊥)
+  pub decide : (bytes : List ℕ) → Kind limits bytes → AsksOf rules limits id bytes ⊎ (AsksOf rules limits id bytes → ⊥)
   decide bytes (silent e) = inr (λ names. let same = front_unique limits bytes nothing (whole names.q names.n) e names.front in cc)
   decide bytes (broken f at) = inr (λ names. let same = front_unique limits bytes (fault f) (whole names.q names.n) at names.front in cc)
   decide bytes (asks q n at) = decide_at bytes q n at (ask_of rules q) refl (instance_found (ask_of rules q)) (λ ask e. sym (ap instance_found e))
@@ -129,7 +109,7 @@ module _ (rules : Rules) (limits : Limits) (takes : Message → Bool) (id bytes 
       let told_alike : (step_for rules s (ask_of rules q)).0 ≡ (step_for rules v (ask_of rules q)).0 =
       ap (λ r. (step_for rules s r).0) asked ∙ same_told rules s v names.ask id names.names same ∙ sym (ap (λ r. (step_for rules v r).0) asked) in
       let life_alike : life_of (step_for rules s (ask_of rules q)).1 id ≡ life_of (step_for rules v (ask_of rules q)).1 id =
-      ap (λ r. life_of (step_for rules s r).1 id) asked ∙ same_after rules s v names.ask id names.names same ∙ sym (ap (λ r. life_of (step_for rules v r).1 id) asked) in
+      ap (λ r. life_of (step_for rules s r).1 id) asked ∙ one_life rules s v names.ask id names.names same ∙ sym (ap (λ r. life_of (step_for rules v r).1 id) asked) in
       record {
         next = lives_after rules v q;
         is = subst (λ m. ConnectionText (refusing takes rules) limits 1 v bytes m texts (lives_after rules v q)) (sym a)

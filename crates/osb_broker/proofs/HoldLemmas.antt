@@ -7,20 +7,20 @@ use Rattle.std.proofs.lemmas.List.{drop-take, append_assoc, append-nil, drop-app
 use Rattle.osb_frames.specs.declared.limits.Limits.{Limits}
 use Rattle.osb_frames.specs.declared.step.StopKind.{StopKind}
 use Rattle.osb_frames.specs.Calls.{Call, all_bytes}
-use Rattle.osb_frames.specs.Cuts.{Message, closes, whole, IsFront}
+use Rattle.osb_frames.specs.Cuts.{Message, End, ended, closed, stopped, closes, whole, IsFront}
 use Rattle.osb_frames.specs.Steps.{FaultStays}
 use Rattle.osb_replies.specs.declared.write.WriteFault.{WriteFault}
 use Rattle.osb_replies.specs.Text.{reply_text}
 use Rattle.osb_broker.specs.declared.fault.ServeFault.{ServeFault}
 use Rattle.osb_broker.specs.Machine.{Machine, fault_reply}
 use Rattle.osb_broker.proofs.OneByOne.{AfterRequests, WrittenSoFar}
-use Rattle.osb_broker.specs.Served.{Served, BrokenOff}
+use Rattle.osb_broker.specs.Served.{is_fault, Served, ServedTo, BrokenOff}
 use Rattle.osb_broker.specs.Answering.{Answers}
-use Rattle.osb_broker.specs.Serving.{WritesText, ReadsMade, OfConnection, EndsAs, NothingWaits, Past, ReadBroken, RequestsPassed}
+use Rattle.osb_broker.specs.Serving.{WritesText, ReadsMade, OfConnection, EndsAs, EndsWith, NothingWaits, Past, ReadBroken, RequestsPassed}
 use Rattle.osb_broker.proofs.OneByOneLemmas.{passed}
-use Rattle.osb_broker.proofs.RunLemmas.{after_more, concat_more, served_silent, text_of_end, text_of_none, not_marked}
+use Rattle.osb_broker.proofs.RunLemmas.{after_more, concat_more, ServedWith, served_silent, text_of_end, text_of_none, not_marked}
 use Rattle.osb_broker.proofs.LoopLemmas.{AtRequest, closing, breaking, refusing}
-use Rattle.osb_broker.proofs.CallLemmas.{all_more, all_failed}
+use Rattle.osb_broker.proofs.CallLemmas.{all_more, all_failed, same_last}
 
 -- so far the texts of the requests before held were written, whatever follows it
 pub record ReadSoFar {S : Type 0} (machine : Machine S) (limits : Limits) (k : ℕ) (s : S) (got old : List ℕ) (left : ℕ) (now : List ℕ) (u : S) (held : List ℕ) : Type 0 where
@@ -28,9 +28,13 @@ pub record ReadSoFar {S : Type 0} (machine : Machine S) (limits : Limits) (k : �
   pub is : (more : List ℕ) → AfterRequests machine limits k s (got ++ more) texts left u (held ++ more)
   pub written : now ≡ old ++ concat texts
 
+-- where none was made
+no_end : {P : Type 0} → EndsWith (Some []) [] → P
+no_end ends = absurd (omega (arith, ap length ends.is, length-append ends.before (Some [] ∷ [])))
+
 pub gave_nothing : (made : List Call) (known : Option (List ℕ)) → ReadsMade made made known known []
-gave_nothing made None = record { made = sym (append-nil made); consumed = tt }
-gave_nothing made (Some all) = record { made = sym (append-nil made); consumed = refl }
+gave_nothing made None = record { made = sym (append-nil made); consumed = tt; at_end = no_end }
+gave_nothing made (Some all) = record { made = sym (append-nil made); consumed = refl; at_end = no_end }
 
 consumes_more : (a b c : Option (List ℕ)) (xs ys : List ℕ) → Consumes a b xs → Consumes b c ys → Consumes a c (xs ++ ys)
 consumes_more None b c xs ys x y = tt
@@ -44,16 +48,18 @@ consumes_kept (Some all) None c xs x y = absurd x
 consumes_kept (Some all) (Some mid) None xs x y = absurd y
 consumes_kept (Some all) (Some mid) (Some rest) xs x y = x ∙ ap (λ l. xs ++ l) (sym y)
 
-pub gave_more : (a b c : List Call) (ka kb kc : Option (List ℕ)) (calls : List Call) (piece : List ℕ) → ReadsMade a b ka kb calls → c ≡ b ++ Some piece ∷ [] → Consumes kb kc piece → ReadsMade a c ka kc (calls ++ Some piece ∷ [])
-gave_more a b c ka kb kc calls piece gave e more = record {
+pub gave_more : (a b c : List Call) (ka kb kc : Option (List ℕ)) (calls : List Call) (piece : List ℕ) → ReadsMade a b ka kb calls → c ≡ b ++ Some piece ∷ [] → Consumes kb kc piece → (piece ≡ [] → IsAtEnd kc) → ReadsMade a c ka kc (calls ++ Some piece ∷ [])
+gave_more a b c ka kb kc calls piece gave e more none = record {
   made = e ∙ ap (λ l. l ++ Some piece ∷ []) gave.made ∙ append_assoc a calls (Some piece ∷ []);
   consumed = subst (Consumes ka kc) (sym (all_more calls piece)) (consumes_more ka kb kc (all_bytes calls) piece gave.consumed more);
+  at_end = λ ends. let same = same_last calls ends.before (Some piece) (Some []) ends.is in none cc;
 }
 
 pub gave_failed : (a b c : List Call) (ka kb kc : Option (List ℕ)) (calls : List Call) → ReadsMade a b ka kb calls → c ≡ b ++ None ∷ [] → Keeps kb kc → ReadsMade a c ka kc (calls ++ None ∷ [])
 gave_failed a b c ka kb kc calls gave e keeps = record {
   made = e ∙ ap (λ l. l ++ None ∷ []) gave.made ∙ append_assoc a calls (None ∷ []);
   consumed = subst (Consumes ka kc) (sym (all_failed calls)) (consumes_kept ka kb kc (all_bytes calls) gave.consumed keeps);
+  at_end = λ ends. let same = same_last calls ends.before None (Some []) ends.is in absurd (cc);
 }
 
 pub holding_start : {S : Type 0} (machine : Machine S) (limits : Limits) (k : ℕ) (s : S) (old : List ℕ) → ReadSoFar machine limits k s [] old k old s []
@@ -108,56 +114,67 @@ holding_more machine limits k s got old left now u held q n j t before new after
   written = concat_more old now new at.holding.texts (reply_text reply) at.holding.written wrote.0;
 }
 
-at_request : {S : Type 0} (machine : Machine S) (limits : Limits) (k : ℕ) (s : S) (got old : List ℕ) (left : ℕ) (now : List ℕ) (u : S) (held : List ℕ) (q : Message) (n j : ℕ) → HoldsRequest machine limits k s got old left now u held q n j → (more : List ℕ) → AtRequest machine limits k s (got ++ more) old left now u (held ++ more) q n j
+pub at_request : {S : Type 0} (machine : Machine S) (limits : Limits) (k : ℕ) (s : S) (got old : List ℕ) (left : ℕ) (now : List ℕ) (u : S) (held : List ℕ) (q : Message) (n j : ℕ) → HoldsRequest machine limits k s got old left now u held q n j → (more : List ℕ) → AtRequest machine limits k s (got ++ more) old left now u (held ++ more) q n j
 at_request machine limits k s got old left now u held q n j at more = record {
   reached = reached_with machine limits k s got old left now u held at.holding more;
   front = at.front more;
   fewer = at.fewer;
 }
 
-pub closing_held : {S : Type 0} (machine : Machine S) (limits : Limits) (k : ℕ) (s : S) (got old : List ℕ) (left : ℕ) (now : List ℕ) (u : S) (held : List ℕ) (q : Message) (n j : ℕ) (t : S) (before : ℕ) (new : List ℕ) (after : ℕ) (close : Bool) → HoldsRequest machine limits k s got old left now u held q n j → Answers machine q (j == 0) u t now before new after (Ok close) → close ≡ true → (more : List ℕ) → Served machine limits k s (got ++ more) old new t
-closing_held machine limits k s got old left now u held q n j t before new after close at answers e more =
-    closing machine limits k s (got ++ more) old left now u (held ++ more) q n j t before new after close
-    (at_request machine limits k s got old left now u held q n j at more) answers e
+-- no framing fault was met
+ends_open : {S : Type 0} {machine : Machine S} {limits : Limits} {k : ℕ} {s : S} {bytes : List ℕ} {end : End} {old new : List ℕ} {t : S} {met_fault : Bool} → met_fault ≡ false → is_fault end ≡ false → ServedWith machine limits k s bytes end old new t → ServedTo machine limits k s bytes met_fault old new t
+ends_open met none (served, end) = (served, met ∙ sym (ap is_fault end ∙ none))
+
+pub closing_held : {S : Type 0} (machine : Machine S) (limits : Limits) (k : ℕ) (s : S) (got old : List ℕ) (left : ℕ) (now : List ℕ) (u : S) (held : List ℕ) (q : Message) (n j : ℕ) (t : S) (before : ℕ) (new : List ℕ) (after : ℕ) (close met_fault : Bool) → HoldsRequest machine limits k s got old left now u held q n j → Answers machine q (j == 0) u t now before new after (Ok close) → close ≡ true → met_fault ≡ false → (more : List ℕ) → ServedTo machine limits k s (got ++ more) met_fault old new t
+closing_held machine limits k s got old left now u held q n j t before new after close met_fault at answers e met more =
+    ends_open met refl (closing machine limits k s (got ++ more) old left now u (held ++ more) q n j t before new after close
+    (at_request machine limits k s got old left now u held q n j at more) answers e)
 
 pub breaking_held : {S : Type 0} (machine : Machine S) (limits : Limits) (k : ℕ) (s : S) (got old : List ℕ) (left : ℕ) (now : List ℕ) (u : S) (held : List ℕ) (q : Message) (n j : ℕ) (t : S) (before : ℕ) (new : List ℕ) (after : ℕ) (f : WriteFault) → HoldsRequest machine limits k s got old left now u held q n j → Answers machine q (j == 0) u t now before new after (Err f) → (more : List ℕ) → BrokenOff machine limits k s (got ++ more) old new t
 breaking_held machine limits k s got old left now u held q n j t before new after f at answers more =
     breaking machine limits k s (got ++ more) old left now u (held ++ more) q n j t before new after f
     (at_request machine limits k s got old left now u held q n j at more) answers
 
-pub refusing_ok : {S : Type 0} (machine : Machine S) (limits : Limits) (k : ℕ) (s : S) (got old : List ℕ) (left : ℕ) (now : List ℕ) (u : S) (held : List ℕ) (f : StopKind) (over : Bool) (known : Option (List ℕ)) (j : ℕ) (before : ℕ) (new : List ℕ) (after : ℕ) (x : Unit {0}) → ReadSoFar machine limits k s got old left now u held → FaultStays limits held over f → (over ≡ true → IsAtEnd known) → left ≡ suc j → WritesText now before new after (Ok x) (reply_text (fault_reply f)) → OfConnection (λ bytes. Served machine limits k s bytes old new u) got known
-refusing_ok machine limits k s got old left now u held f over known j before new after x h told end fewer wrote = by told
+pub refusing_ok : {S : Type 0} (machine : Machine S) (limits : Limits) (k : ℕ) (s : S) (calls : List Call) (old : List ℕ) (left : ℕ) (now : List ℕ) (u : S) (held : List ℕ) (f : StopKind) (over : Bool) (j : ℕ) (before : ℕ) (new : List ℕ) (after : ℕ) (x : Unit {0}) → ReadSoFar machine limits k s (all_bytes calls) old left now u held → FaultStays limits held over f → (over ≡ true → EndsWith (Some []) calls) → left ≡ suc j → WritesText now before new after (Ok x) (reply_text (fault_reply f)) → OfConnection (λ bytes. ServedTo machine limits k s bytes true old new u) calls
+refusing_ok machine limits k s calls old left now u held f over j before new after x h told end fewer wrote = by told
   where
-    by : FaultStays limits held over f → OfConnection (λ bytes. Served machine limits k s bytes old new u) got known
-    by (inl always) = inl (λ more. (refusing machine limits k s (got ++ more) old left now u (held ++ more) f j before new after (Ok x) (reached_with machine limits k s got old left now u held h more) (always more) fewer wrote).0)
-    by (inr here) = inr ((refusing machine limits k s got old left now u held f j before new after (Ok x) (reached_now machine limits k s got old left now u held h) here.0 fewer wrote).0, end here.1)
+    at_fault : {bytes : List ℕ} → ServedWith machine limits k s bytes (stopped f) old new u → ServedTo machine limits k s bytes true old new u
+    at_fault (served, end) = (served, sym (ap is_fault end))
 
-pub refusing_err : {S : Type 0} (machine : Machine S) (limits : Limits) (k : ℕ) (s : S) (got old : List ℕ) (left : ℕ) (now : List ℕ) (u : S) (held : List ℕ) (f : StopKind) (over : Bool) (known : Option (List ℕ)) (j : ℕ) (before : ℕ) (new : List ℕ) (after : ℕ) (e : WriteFault) → ReadSoFar machine limits k s got old left now u held → FaultStays limits held over f → (over ≡ true → IsAtEnd known) → left ≡ suc j → WritesText now before new after (Err e) (reply_text (fault_reply f)) → OfConnection (λ bytes. BrokenOff machine limits k s bytes old new u) got known
-refusing_err machine limits k s got old left now u held f over known j before new after e h told end fewer wrote = by told
+    by : FaultStays limits held over f → OfConnection (λ bytes. ServedTo machine limits k s bytes true old new u) calls
+    by (inl always) = inl (λ more. at_fault (refusing machine limits k s (all_bytes calls ++ more) old left now u (held ++ more) f j before new after (Ok x) (reached_with machine limits k s (all_bytes calls) old left now u held h more) (always more) fewer wrote).0)
+    by (inr here) = inr (at_fault (refusing machine limits k s (all_bytes calls) old left now u held f j before new after (Ok x) (reached_now machine limits k s (all_bytes calls) old left now u held h) here.0 fewer wrote).0, end here.1)
+
+pub refusing_err : {S : Type 0} (machine : Machine S) (limits : Limits) (k : ℕ) (s : S) (calls : List Call) (old : List ℕ) (left : ℕ) (now : List ℕ) (u : S) (held : List ℕ) (f : StopKind) (over : Bool) (j : ℕ) (before : ℕ) (new : List ℕ) (after : ℕ) (e : WriteFault) → ReadSoFar machine limits k s (all_bytes calls) old left now u held → FaultStays limits held over f → (over ≡ true → EndsWith (Some []) calls) → left ≡ suc j → WritesText now before new after (Err e) (reply_text (fault_reply f)) → OfConnection (λ bytes. BrokenOff machine limits k s bytes old new u) calls
+refusing_err machine limits k s calls old left now u held f over j before new after e h told end fewer wrote = by told
   where
-    by : FaultStays limits held over f → OfConnection (λ bytes. BrokenOff machine limits k s bytes old new u) got known
-    by (inl always) = inl (λ more. (refusing machine limits k s (got ++ more) old left now u (held ++ more) f j before new after (Err e) (reached_with machine limits k s got old left now u held h more) (always more) fewer wrote).1)
-    by (inr here) = inr ((refusing machine limits k s got old left now u held f j before new after (Err e) (reached_now machine limits k s got old left now u held h) here.0 fewer wrote).1, end here.1)
+    by : FaultStays limits held over f → OfConnection (λ bytes. BrokenOff machine limits k s bytes old new u) calls
+    by (inl always) = inl (λ more. (refusing machine limits k s (all_bytes calls ++ more) old left now u (held ++ more) f j before new after (Err e) (reached_with machine limits k s (all_bytes calls) old left now u held h more) (always more) fewer wrote).1)
+    by (inr here) = inr ((refusing machine limits k s (all_bytes calls) old left now u held f j before new after (Err e) (reached_now machine limits k s (all_bytes calls) old left now u held h) here.0 fewer wrote).1, end here.1)
 
-pub ending_held : {S : Type 0} (machine : Machine S) (limits : Limits) (k : ℕ) (s : S) (got old : List ℕ) (left : ℕ) (now : List ℕ) (u : S) (held : List ℕ) (j : ℕ) → ReadSoFar machine limits k s got old left now u held → left ≡ suc j → held ≡ [] → Served machine limits k s got old now u
-ending_held machine limits k s got old left now u held j h fewer none =
-    served_silent machine limits k s got old left now u held (reached_now machine limits k s got old left now u held h) (text_of_end machine limits left j u held fewer none)
+pub ending_held : {S : Type 0} (machine : Machine S) (limits : Limits) (k : ℕ) (s : S) (got old : List ℕ) (left : ℕ) (now : List ℕ) (u : S) (held : List ℕ) (j : ℕ) (met_fault : Bool) → ReadSoFar machine limits k s got old left now u held → left ≡ suc j → held ≡ [] → met_fault ≡ false → ServedTo machine limits k s got met_fault old now u
+ending_held machine limits k s got old left now u held j met_fault h fewer none met =
+    ends_open met refl (served_silent machine limits k s got old left now u held ended (reached_now machine limits k s got old left now u held h) (text_of_end machine limits left j u held fewer none))
 
-pub none_held : {S : Type 0} (machine : Machine S) (limits : Limits) (k : ℕ) (s : S) (got old : List ℕ) (left : ℕ) (now : List ℕ) (u : S) (held : List ℕ) → ReadSoFar machine limits k s got old left now u held → left ≡ 0 → (more : List ℕ) → Served machine limits k s (got ++ more) old now u
-none_held machine limits k s got old left now u held h none more =
-    served_silent machine limits k s (got ++ more) old left now u (held ++ more) (reached_with machine limits k s got old left now u held h more) (text_of_none machine limits left u (held ++ more) none)
+pub none_held : {S : Type 0} (machine : Machine S) (limits : Limits) (k : ℕ) (s : S) (got old : List ℕ) (left : ℕ) (now : List ℕ) (u : S) (held : List ℕ) (met_fault : Bool) → ReadSoFar machine limits k s got old left now u held → left ≡ 0 → met_fault ≡ false → (more : List ℕ) → ServedTo machine limits k s (got ++ more) met_fault old now u
+none_held machine limits k s got old left now u held met_fault h none met more =
+    ends_open met refl (served_silent machine limits k s (got ++ more) old left now u (held ++ more) closed (reached_with machine limits k s got old left now u held h more) (text_of_none machine limits left u (held ++ more) none))
 
 -- ---- where what a source will give is known
 
-known_all : (known now : Option (List ℕ)) (got : List ℕ) (P : List ℕ → Type 0) → Consumes known now got → OfConnection P got now → IfSome known P
-known_all None now got P consumed of = tt
-known_all (Some all) None got P consumed of = absurd consumed
-known_all (Some all) (Some rest) got P consumed (inl each) = subst P (sym consumed) (each rest)
-known_all (Some all) (Some rest) got P consumed (inr last) = subst P (sym (append-nil got) ∙ ap (λ l. got ++ l) (sym last.1) ∙ sym consumed) last.0
+known_all : (known now : Option (List ℕ)) (calls : List Call) (P : List ℕ → Type 0) → Consumes known now (all_bytes calls) → (EndsWith (Some []) calls → IsAtEnd now) → OfConnection P calls → IfSome known P
+known_all None now calls P consumed at_end of = tt
+known_all (Some all) None calls P consumed at_end of = absurd consumed
+known_all (Some all) (Some rest) calls P consumed at_end (inl each) = subst P (sym consumed) (each rest)
+known_all (Some all) (Some rest) calls P consumed at_end (inr last) = subst P (sym (append-nil (all_bytes calls)) ∙ ap (λ l. all_bytes calls ++ l) (sym (at_end last.1)) ∙ sym consumed) last.0
 
-pub known_ok : {S : Type 0} (result : Result (Unit {0}) ServeFault) (machine : Machine S) (limits : Limits) (k : ℕ) (s : S) (known now : Option (List ℕ)) (got old new : List ℕ) (t : S) → Consumes known now got → EndsAs result machine limits k s got now old new t → OnOk result (IfSome known (λ all. Served machine limits k s all old new t))
-known_ok (Ok x) machine limits k s known now got old new t consumed of = known_all known now got _ consumed of
-known_ok (Err fault) machine limits k s known now got old new t consumed of = tt
+if_some_weaker : {X : Type 0} (o : Option X) (P Q : X → Type 0) → ((x : X) → P x → Q x) → IfSome o P → IfSome o Q
+if_some_weaker None P Q weaker is = tt
+if_some_weaker (Some x) P Q weaker is = weaker x is
+
+pub known_ok : {S : Type 0} {made_old made_new : List Call} (result : Result (Unit {0}) ServeFault) (machine : Machine S) (limits : Limits) (k : ℕ) (s : S) (known now : Option (List ℕ)) (calls : List Call) (met_fault : Bool) (old new : List ℕ) (t : S) → ReadsMade made_old made_new known now calls → EndsAs result machine limits k s calls met_fault old new t → OnOk result (IfSome known (λ all. Served machine limits k s all old new t))
+known_ok (Ok x) machine limits k s known now calls met_fault old new t reads of = if_some_weaker known (λ bytes. ServedTo machine limits k s bytes met_fault old new t) _ (λ bytes served. served.0) (known_all known now calls _ reads.consumed reads.at_end of)
+known_ok (Err fault) machine limits k s known now calls met_fault old new t reads of = tt
 
 -- ---- how much was read
 

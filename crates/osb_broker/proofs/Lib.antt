@@ -10,11 +10,14 @@ pub mod WholeLemmas
 mod FixedLemmas
 mod TextLemmas
 mod StepLemmas
-mod StoreLemmas
+pub mod StoreLemmas
 mod ReplyLemmas
-mod ShutLemmas
+pub mod ShutLemmas
+pub mod CrashLemmas
+mod LostLemmas
 mod HandleLemmas
 mod LateLemmas
+mod GroupLemmas
 mod FailureLemmas
 mod RefusalLemmas
 mod RequestLemmas
@@ -24,4 +27,11 @@ mod OnceLemmas
 mod PatientLemmas
 mod HistoryLemmas
 mod ActsOnceLemmas
+pub mod ReportedLemmas
+mod CountLemmas
+mod ConversationLemmas
+mod RepliedLemmas
+mod ShardLemmas
+mod LoginLemmas
+mod ErrorLemmas
 mod Vectors

@@ -1,4 +1,4 @@
--- What the loops keep, and its two stages: they say the same.
+-- What the loops keep, and the two stages of a connection: they say the same.
 use Rattle.std.proofs.Common.{◌≡◌, ℕ, zero, suc, ◌+◌, ◌==◌, Bool, true, false, ◌||◌, List, [], ◌∷◌, ◌++◌, drop, length, map, sym, refl, ap, subst, ◌∙◌, arith}
 use Rattle.std.proofs.lemmas.Bool.{ne_eqb}
 use Rattle.osb_frames.specs.declared.limits.Limits.{Limits}
@@ -8,7 +8,7 @@ use Rattle.osb_replies.specs.Text.{ReplyParts, reply_text}
 use Rattle.osb_replies.specs.Parts.{refused}
 use Rattle.osb_broker.specs.Machine.{Machine, Answered, reply_of, fault_reply}
 use Rattle.osb_broker.specs.Connection.{end_replies, replies_of, AreMarks, looked_for, ConnectionText}
-use Rattle.osb_broker.proofs.OneByOne.{OneReply, Done, GoesOn, ends, faults, answers, OneByOne, AfterRequests, FirstText, of_request, of_fault}
+use Rattle.osb_broker.proofs.OneByOne.{TextTo, OneReply, GoesOn, ends, faults, answers, OneByOne, AfterRequests, FirstText, of_request, of_fault}
 use Rattle.osb_broker.specs.Served.{FirstTexts}
 use Rattle.osb_broker.specs.Serving.{Past, replies_unmarked}
 
@@ -34,80 +34,65 @@ no_replies machine (suc k) s marks = refl
 
 module _ {S : Type 0} (machine : Machine S) (limits : Limits) where
   -- one request more in front of a connection that goes on
-  in_front : (k : ℕ) (s : S) (bytes : List ℕ) (q : Message) (n : ℕ) (marks : List Bool) (texts : List (List ℕ)) (t : S) → IsFront limits bytes (whole q n) → closes q ≡ false → ConnectionText machine limits k (machine.step s q).1 (drop n bytes) marks texts t → ConnectionText machine limits (suc k) s bytes (false ∷ marks) (reply_text (reply_of q (k == 0) (machine.step s q).0) ∷ texts) t
-  in_front k s bytes q n marks texts t front stays more = record {
-    requests = q ∷ more.requests;
-    end = more.end;
-    cut = (whole q n, front, (more.requests, refl, subst (λ c. Goes c (Cuts limits (looked_for k marks) (drop n bytes)) more.requests more.end) (sym stays) more.cut));
-    marked = ((λ e. cc), more.marked);
-    printed = ap (λ l. reply_text (reply_of q (k == 0) (machine.step s q).0) ∷ l) more.printed;
-    leaves = more.leaves;
-  }
+  pub in_front : (k : ℕ) (s : S) (bytes : List ℕ) (q : Message) (n : ℕ) (marks : List Bool) (texts : List (List ℕ)) (end : End) (t : S) → IsFront limits bytes (whole q n) → closes q ≡ false → TextTo machine limits k (machine.step s q).1 (drop n bytes) marks texts end t → TextTo machine limits (suc k) s bytes (false ∷ marks) (reply_text (reply_of q (k == 0) (machine.step s q).0) ∷ texts) end t
+  in_front k s bytes q n marks texts end t front stays (more, is) = (
+    record {
+      requests = q ∷ more.requests;
+      end = more.end;
+      cut = (whole q n, front, (more.requests, refl, subst (λ c. Goes c (Cuts limits (looked_for k marks) (drop n bytes)) more.requests more.end) (sym stays) more.cut));
+      marked = ((λ e. cc), more.marked);
+      printed = ap (λ l. reply_text (reply_of q (k == 0) (machine.step s q).0) ∷ l) more.printed;
+      leaves = more.leaves;
+    },
+    is,
+  )
 
   -- a request whose reply closes
-  alone : (k : ℕ) (s : S) (bytes : List ℕ) (q : Message) (n : ℕ) → IsFront limits bytes (whole q n) → (closes q || (k == 0)) ≡ true → ConnectionText machine limits (suc k) s bytes (false ∷ []) (reply_text (reply_of q (k == 0) (machine.step s q).0) ∷ []) (machine.step s q).1
-  alone k s bytes q n front shut = record {
-    requests = q ∷ [];
-    end = closed;
-    cut = (whole q n, front, ([], refl, goes_closed limits k (closes q) (drop n bytes) shut));
-    marked = ((λ e. cc), tt);
-    printed = ap (λ r. reply_text (reply_of q (k == 0) (machine.step s q).0) ∷ map reply_text r.0) (sym (no_replies machine k (machine.step s q).1 []));
-    leaves = ap (λ r. r.1) (sym (no_replies machine k (machine.step s q).1 []));
-  }
+  pub alone : (k : ℕ) (s : S) (bytes : List ℕ) (q : Message) (n : ℕ) → IsFront limits bytes (whole q n) → (closes q || (k == 0)) ≡ true → TextTo machine limits (suc k) s bytes (false ∷ []) (reply_text (reply_of q (k == 0) (machine.step s q).0) ∷ []) closed (machine.step s q).1
+  alone k s bytes q n front shut = (
+    record {
+      requests = q ∷ [];
+      end = closed;
+      cut = (whole q n, front, ([], refl, goes_closed limits k (closes q) (drop n bytes) shut));
+      marked = ((λ e. cc), tt);
+      printed = ap (λ r. reply_text (reply_of q (k == 0) (machine.step s q).0) ∷ map reply_text r.0) (sym (no_replies machine k (machine.step s q).1 []));
+      leaves = ap (λ r. r.1) (sym (no_replies machine k (machine.step s q).1 []));
+    },
+    refl,
+  )
 
   -- a request that met a refusal
-  met : (k : ℕ) (s : S) (bytes : List ℕ) (q : Message) (n : ℕ) → IsFront limits bytes (whole q n) → machine.takes_memory q ≡ true → ConnectionText machine limits (suc k) s bytes (true ∷ []) (reply_text refused ∷ []) s
-  met k s bytes q n front takes = record {
-    requests = q ∷ [];
-    end = closed;
-    cut = (whole q n, front, ([], refl, goes_none limits (closes q) (drop n bytes)));
-    marked = ((λ e. takes), tt);
-    printed = refl;
-    leaves = refl;
-  }
+  pub met : (k : ℕ) (s : S) (bytes : List ℕ) (q : Message) (n : ℕ) → IsFront limits bytes (whole q n) → machine.takes_memory q ≡ true → TextTo machine limits (suc k) s bytes (true ∷ []) (reply_text refused ∷ []) closed s
+  met k s bytes q n front takes = (
+    record {
+      requests = q ∷ [];
+      end = closed;
+      cut = (whole q n, front, ([], refl, goes_none limits (closes q) (drop n bytes)));
+      marked = ((λ e. takes), tt);
+      printed = refl;
+      leaves = refl;
+    },
+    refl,
+  )
 
-  -- ---- from the loop to the two stages
+  -- ---- where none is cut
+
+  pub at_nothing : (k : ℕ) (s : S) (bytes : List ℕ) → IsFront limits bytes nothing → TextTo machine limits (suc k) s bytes [] [] ended s
+  at_nothing k s bytes none = (record { requests = []; end = ended; cut = (nothing, none, (refl, refl)); marked = tt; printed = refl; leaves = refl }, refl)
 
   pub text_of_nothing : (k : ℕ) (s : S) (bytes : List ℕ) → IsFront limits bytes nothing → ConnectionText machine limits (suc k) s bytes [] [] s
-  text_of_nothing k s bytes none = record { requests = []; end = ended; cut = (nothing, none, (refl, refl)); marked = tt; printed = refl; leaves = refl }
+  text_of_nothing k s bytes none = (at_nothing k s bytes none).0
+
+  pub at_stop : (k : ℕ) (s : S) (bytes : List ℕ) (f : StopKind) → IsFront limits bytes (fault f) → TextTo machine limits (suc k) s bytes [] (reply_text (fault_reply f) ∷ []) (stopped f) s
+  at_stop k s bytes f at = (record { requests = []; end = stopped f; cut = (fault f, at, (refl, refl)); marked = tt; printed = refl; leaves = refl }, refl)
 
   pub text_of_stop : (k : ℕ) (s : S) (bytes : List ℕ) (f : StopKind) → IsFront limits bytes (fault f) → ConnectionText machine limits (suc k) s bytes [] (reply_text (fault_reply f) ∷ []) s
-  text_of_stop k s bytes f at = record { requests = []; end = stopped f; cut = (fault f, at, (refl, refl)); marked = tt; printed = refl; leaves = refl }
+  text_of_stop k s bytes f at = (at_stop k s bytes f at).0
 
-  none : (s : S) (bytes : List ℕ) → ConnectionText machine limits 0 s bytes [] [] s
-  none s bytes = record { requests = []; end = closed; cut = (refl, refl); marked = tt; printed = refl; leaves = refl }
+  pub at_last : (s : S) (bytes : List ℕ) → TextTo machine limits 0 s bytes [] [] closed s
+  at_last s bytes = (record { requests = []; end = closed; cut = (refl, refl); marked = tt; printed = refl; leaves = refl }, refl)
 
-  pub in_stages : (k : ℕ) (s : S) (bytes : List ℕ) (marks : List Bool) (texts : List (List ℕ)) (t : S) → OneByOne machine limits k s bytes marks texts t → ConnectionText machine limits k s bytes marks texts t
-  in_stages zero s bytes marks texts t (a, b, c) = rw (a, b, c) (none s bytes)
-  in_stages (suc k) s bytes marks texts t (ends at (a, b, c)) = rw (a, b, c) (text_of_nothing k s bytes at)
-  in_stages (suc k) s bytes marks texts t (faults f at a b c) = rw (a, b, c) (text_of_stop k s bytes f at)
-  in_stages (suc k) s bytes marks texts t (answers true text close u later ma ta one em ex goes) =
-      let shut : close ≡ true = sym one.closed ∙ ap (λ (r : ReplyParts). r.close) one.answered.1 in
-      let done : Done u ma ta t = subst (λ b. GoesOn b (OneByOne machine limits k u later) u ma ta t) shut goes in
-      let said : text ≡ reply_text refused = one.says ∙ ap reply_text one.answered.1 in
-      let P : List Bool → List (List ℕ) → S → Type 0 = ConnectionText machine limits (suc k) s bytes in
-      subst (λ m. P m texts t) (sym (em ∙ ap (λ l. true ∷ l) done.0))
-      (subst (λ x. P (true ∷ []) x t) (sym (ex ∙ ap (λ l. text ∷ l) done.1 ∙ ap (λ x. x ∷ []) said))
-      (subst (λ w. P (true ∷ []) (reply_text refused ∷ []) w) (sym (done.2 ∙ one.answered.2)) (met k s bytes one.q one.n one.front one.answered.0)))
-  in_stages (suc k) s bytes marks texts t (answers false text close u later ma ta one em ex goes) =
-      let first : reply_of one.q (k == 0) (machine.step s one.q).0 ≡ one.reply = sym one.answered.0 in
-      let said : text ≡ reply_text (reply_of one.q (k == 0) (machine.step s one.q).0) = one.says ∙ ap reply_text one.answered.0 in
-      let P : List Bool → List (List ℕ) → Type 0 = λ m x. ConnectionText machine limits (suc k) s bytes m x t in
-      subst (λ m. P m texts) (sym em) (subst (λ x. P (false ∷ ma) x) (sym (ex ∙ ap (λ x. x ∷ ta) said))
-      (by (in_stages k u later ma ta t) close (closes one.q) refl (ap (λ (r : ReplyParts). r.close) first ∙ one.closed) goes))
-    where
-      by : (OneByOne machine limits k u later ma ta t → ConnectionText machine limits k u later ma ta t) → (close c : Bool) → closes one.q ≡ c → (c || (k == 0)) ≡ close → GoesOn close (OneByOne machine limits k u later) u ma ta t → ConnectionText machine limits (suc k) s bytes (false ∷ ma) (reply_text (reply_of one.q (k == 0) (machine.step s one.q).0) ∷ ta) t
-      by staged true c is shut (a, b, e) =
-          let it = alone k s bytes one.q one.n one.front (ap (λ x. x || (k == 0)) is ∙ shut) in
-          let P : List Bool → List (List ℕ) → S → Type 0 = λ m x w. ConnectionText machine limits (suc k) s bytes (false ∷ m) (reply_text (reply_of one.q (k == 0) (machine.step s one.q).0) ∷ x) w in
-          subst (λ m. P m ta t) (sym a) (subst (λ x. P [] x t) (sym b) (subst (λ w. P [] [] w) (sym (e ∙ one.answered.1)) it))
-      by staged false true is shut more = cc
-      by staged false false is shut more =
-          in_front k s bytes one.q one.n ma ta t one.front is
-          (subst (λ l. ConnectionText machine limits k (machine.step s one.q).1 l ma ta t) one.after
-          (subst (λ w. ConnectionText machine limits k w later ma ta t) one.answered.1 (staged more)))
-
-  -- ---- and back
+  -- ---- from the two stages to the loop
 
   no_marks : (marks : List Bool) → AreMarks machine [] marks → marks ≡ []
   no_marks [] are = refl
@@ -170,7 +155,7 @@ module _ {S : Type 0} (machine : Machine S) (limits : Limits) where
           refl a (goes_on k u (drop n bytes) marks t qs end (closes q) open_cut are.1 b (λ cut. go k u (drop n bytes) marks ta t qs end cut are.1 refl b))
 
   -- a request whose reply leaves the connection open leaves it open too
-  stays_open : {k : ℕ} {s u : S} {bytes later text : List ℕ} {j : ℕ} → (one : OneReply machine limits k s bytes false text false j u later) → closes one.q ≡ false
+  pub stays_open : {k : ℕ} {s u : S} {bytes later text : List ℕ} {j : ℕ} → (one : OneReply machine limits k s bytes false text false j u later) → closes one.q ≡ false
   stays_open {j = j} one = by (closes one.q) (sym (ap (λ (r : ReplyParts). r.close) one.answered.0) ∙ one.closed)
     where
       by : (c : Bool) → (c || (j == 0)) ≡ false → c ≡ false
@@ -263,8 +248,8 @@ module _ {S : Type 0} (machine : Machine S) (limits : Limits) where
   -- ---- one request
 
   pub text_of_request : (s : S) (bytes : List ℕ) (q : Message) (n : ℕ) (mark : Bool) (reply : ReplyParts) (t : S) → IsFront limits bytes (whole q n) → Answered machine q true mark s reply t → ConnectionText machine limits 1 s bytes (mark ∷ []) (reply_text reply ∷ []) t
-  text_of_request s bytes q n true reply t front (takes, is, same) = rw (is, same) (met 0 s bytes q n front takes)
-  text_of_request s bytes q n false reply t front (is, same) = rw (is, same) (alone 0 s bytes q n front (closes_or (closes q)))
+  text_of_request s bytes q n true reply t front (takes, is, same) = rw (is, same) (met 0 s bytes q n front takes).0
+  text_of_request s bytes q n false reply t front (is, same) = rw (is, same) (alone 0 s bytes q n front (closes_or (closes q))).0
     where
       closes_or : (c : Bool) → (c || true) ≡ true
       closes_or true = refl

@@ -7,7 +7,7 @@ use Rattle.osb_frames.specs.Calls.{Call, all_bytes, call_bytes, is_failed_or_emp
 use Rattle.osb_broker.specs.declared.fault.ServeFault.{ServeFault}
 use Rattle.osb_broker.specs.declared.fault.ServeFault.TheVariants.{Read, Write}
 use Rattle.osb_broker.specs.Serving.{EachGaveBytes, EachWasNeeded, EndsWith, IsBounded, RequestsPassed, ReadsOf, WasNeeded}
-use Rattle.osb_broker.proofs.CallLemmas.{few_reads}
+use Rattle.osb_broker.proofs.CallLemmas.{few_reads, split_last}
 use Rattle.osb_broker.proofs.HoldLemmas.{left_start, left_fed}
 
 -- so far each read gave bytes, but the one that found the end
@@ -18,6 +18,10 @@ SoFar true calls = EndsWith (Some []) calls
 pub reads_so_far : (over : Bool) (calls : List Call) → SoFar over calls → EachGaveBytes calls ⊎ EndsWith (Some []) calls
 reads_so_far false calls so = inl so
 reads_so_far true calls so = inr so
+
+pub found_end : (over : Bool) (calls : List Call) → SoFar over calls → over ≡ true → EndsWith (Some []) calls
+found_end false calls so e = cc
+found_end true calls so e = so
 
 pub fruitful_yet : (over : Bool) (calls : List Call) → over ≡ false → SoFar over calls → EachGaveBytes calls
 fruitful_yet false calls e so = so
@@ -36,22 +40,6 @@ ended_here calls piece gave_bytes none = record { before = calls; is = ap (λ p.
 
 pub failed_here : (calls : List Call) → EachGaveBytes calls → EndsWith None (calls ++ None ∷ [])
 failed_here calls gave_bytes = record { before = calls; is = refl; gave_bytes = gave_bytes }
-
--- an item of a list with one more is the last, or one of those before
-split_last : (items : List Call) (last : Call) (before : List Call) (item : Call) (after : List Call) → items ++ last ∷ [] ≡ before ++ item ∷ after
-    → ((items ≡ before) × (last ≡ item)) ⊎ ((later : List Call) × (items ≡ before ++ item ∷ later))
-split_last [] last [] item after e = inl (refl, cc)
-split_last [] last (first ∷ before) item after e = absurd (omega (arith, ap length e, length-append before (item ∷ after)))
-split_last (first ∷ items) last [] item after e = inr (items, cc)
-split_last (first ∷ items) last (one ∷ before) item after e = go (split_last items last before item after cc)
-  where
-    same : first ≡ one
-    same = cc
-
-    go : ((items ≡ before) × (last ≡ item)) ⊎ ((later : List Call) × (items ≡ before ++ item ∷ later))
-        → ((first ∷ items ≡ one ∷ before) × (last ≡ item)) ⊎ ((later : List Call) × (first ∷ items ≡ one ∷ (before ++ item ∷ later)))
-    go (inl (p, q)) = inl ((λ i. same i ∷ p i), q)
-    go (inr (later, p)) = inr (later, (λ i. same i ∷ p i))
 
 pub none_needed : (limits : Limits) (k room : ℕ) → EachWasNeeded limits k room []
 none_needed limits k room before after call e = absurd (omega (arith, ap length e, length-append before (call ∷ after)))

@@ -114,4 +114,8 @@ module _ {S : Type 0} {g : Ghosts S} (m : Machine Lives) (rules : Rules) (q : Me
   }
 
 pub worked : {S : Type 0} {g : Ghosts S} {m : Machine Lives} {rules : Rules} {q : Message} {last : Bool} {old new : Held S} {reply : ReplyParts} → Handles g m rules q last old new reply → Worked (state g old) (state g new)
-worked handles = record { works = handles.works; clean = λ clean. omega (arith, handles.crash.clean) }
+worked {g = g} {old = old} {new = new} handles = record {
+  works = handles.works;
+  clean = λ clean. omega (arith, handles.crash.clean);
+  crash = survives_weaker (state g old) (state g new) _ _ (λ _ db commits. commits.was_open) handles.crash;
+}

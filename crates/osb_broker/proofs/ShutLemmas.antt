@@ -2,6 +2,7 @@
 use Rattle.std.proofs.Common.{◌≡◌, inl, inr, Bool, true, false, not, Result, Ok, Err, sym, refl, subst, subst₂}
 use Rattle.sqlite.specs.Held.{Held, state}
 use Rattle.sqlite.specs.State.{State, HasCleanDisk}
+use Rattle.sqlite.proofs.StateLemmas.{survives_then}
 use Rattle.sqlite_trees.specs.declared.store.Store.{Ghosts}
 use Rattle.osb_frames.specs.Cuts.{Message}
 use Rattle.osb_replies.specs.Text.{ReplyParts}
@@ -15,8 +16,10 @@ use Rattle.osb_broker.specs.Inside.{Handles, Worked}
 use Rattle.osb_broker.specs.BrokerState.{IsShut, LivesGo, Works}
 use Rattle.osb_broker.specs.Machine.{Handled, Machine}
 use Rattle.osb_broker.specs.Steps.{needs_lives}
+use Rattle.osb_broker.proofs.StoreLemmas.{survives_same}
 
-is_shut : (old new : State) → (Works new → Works old) → HasCleanDisk new → IsShut old → IsShut new
+-- a store that was shut stays shut
+pub is_shut : (old new : State) → (Works new → Works old) → HasCleanDisk new → IsShut old → IsShut new
 is_shut old new works clean shut = by new.is_open refl
   where
     by : (b : Bool) → new.is_open ≡ b → IsShut new
@@ -25,12 +28,14 @@ is_shut old new works clean shut = by new.is_open refl
 
 -- a store with which nothing was done
 pub not_touched : {s : State} → Worked s s
-not_touched = record { works = λ works. works; clean = λ clean. clean }
+not_touched {s} = record { works = λ works. works; clean = λ clean. clean; crash = survives_same s _ }
 
 pub worked_then : {old mid new : State} → Worked old mid → Worked mid new → Worked old new
-worked_then first second = record {
+worked_then {old} {mid} {new} first second = record {
   works = λ works. first.works (second.works works);
   clean = λ clean. first.clean (second.clean clean);
+  crash = survives_then old mid new _ _ _ (λ clean db live. live)
+      (λ clean db live. (first.works (record { clean = second.clean clean; live = live })).live) first.crash second.crash;
 }
 
 -- then the lives stay

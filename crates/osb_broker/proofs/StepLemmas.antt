@@ -1,5 +1,5 @@
 -- The step of an ask may be made, and leads where the machine does.
-use Rattle.std.proofs.Common.{◌≡◌, ◌∙◌, ℕ, List, Option, None, Some, refl, sym, ap, subst}
+use Rattle.std.proofs.Common.{◌≡◌, ◌∙◌, ℕ, List, Option, None, Some, Ok, refl, sym, ap, subst}
 use Rattle.osb_catalog.specs.Rules.{Rules}
 use Rattle.osb_catalog.specs.Sound.{AreSound}
 use Rattle.osb_asks.specs.declared.ask.Ask.{Ask}
@@ -20,6 +20,8 @@ use Rattle.osb_laws.proofs.MapLemmas.{steps_are_allowed, steps_keep_lives}
 use Rattle.osb_broker.specs.declared.prepared.Prepared.{Prepared}
 use Rattle.osb_broker.specs.Prepared.{answer_parts, pending_for, after_pending, IsApplicable, Prepares}
 use Rattle.osb_broker.specs.Steps.{answer_alone, step_of}
+use Rattle.osb_broker.specs.Inside.{IsOfInstance}
+use Rattle.osb_records.specs.declared.change.LifeChange.{LifeChange}
 
 finishes : (life : Life) (change : Change) → IsAllowed life change → FinishesLast life change
 finishes life Nothing allowed = tt
@@ -45,3 +47,11 @@ prepares rules lives ask step prepared sound whole words is answer pending =
       allowed = subst (λ p. IsApplicable p lives) (sym same) (applicable (instance_id_of ask) _ lives (steps_keep_lives rules lives ask sound whole words) (steps_are_allowed rules lives ask sound whole words));
       lives_are = ap (λ p. after_pending p lives) same ∙ after_pending_is (instance_id_of ask) _ lives;
     }
+
+-- the change is of the instance that the ask names
+pub of_instance : (ask : Ask) (change : Change) (pending : Option LifeChange) → pending ≡ pending_for (instance_id_of ask) change → IsOfInstance (Ok ask) pending
+of_instance ask change pending is = subst (IsOfInstance (Ok ask)) (sym is) (by (instance_id_of ask) refl)
+  where
+    by : (instance : Option (List ℕ)) → instance_id_of ask ≡ instance → IsOfInstance (Ok ask) (pending_for instance change)
+    by None e = tt
+    by (Some id) e = (ask, refl, e)

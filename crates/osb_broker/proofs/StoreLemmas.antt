@@ -36,6 +36,8 @@ lacks_memory g rules asked records e late = record {
   was_open = λ clean needs. tt;
   plain = λ plain. tt;
   silent = λ plain. tt;
+  alike = λ works clean. tt;
+  names = tt;
   untouched = λ plain. refl;
   stays = record { works = λ works. works; same = λ works. refl; crash = survives_same (state g records) _ };
 }

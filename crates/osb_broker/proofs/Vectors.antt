@@ -1,13 +1,22 @@
--- What the definitions of marks, repeats, attempts and refusals say of short lists, computed.
-use Rattle.std.proofs.Common.{◌≡◌, ℕ, Bool, true, false, List, [], ◌∷◌, refl, inl, inr}
-use Rattle.std.specs.Prelude.{codes}
+-- What the definitions of marks, repeats, attempts, refusals, reports, conversations, shards and logins say of short lists, computed.
+use Rattle.std.proofs.Common.{◌≡◌, ℕ, Bool, true, false, List, [], ◌∷◌, length, None, Some, Ok, Err, refl, inl, inr, arith}
+use Rattle.std.specs.Prelude.{codes, bytes_eq}
 use Rattle.std.proofs.lemmas.Bool.{false≢true}
 use Rattle.std.proofs.lemmas.Slice.Eq.{bytes_eq-Decides}
+use Rattle.osb_asks.specs.declared.ask.Ask.TheVariants.{Catalog, Fetch, Orders}
+use Rattle.osb_asks.specs.declared.ask_fault.AskFault.TheVariants.{Auth}
+use Rattle.osb_replies.specs.Parts.{refused}
+use Rattle.osb_replies.specs.Text.{reply_text}
 use Rattle.osb_broker.specs.Connection.{looked_for}
 use Rattle.osb_broker.specs.Repeats.{without_repeats, neighbours_once}
 use Rattle.osb_broker.specs.Apart.{Chooses, picked}
 use Rattle.osb_broker.specs.Refusals.{says_500}
 use Rattle.osb_broker.specs.Attempts.{AttemptOutcome, answered, failed, lost, Attempt, that_acted, connections_of, IsPatient}
+use Rattle.osb_broker.specs.Reported.{is_reading, request_was_answered}
+use Rattle.osb_broker.specs.Conversations.{Conversation, IsNoAnswer, IsAttemptOf, AreAttemptsOf}
+use Rattle.osb_broker.specs.Replied.{SomeGotAnswer}
+use Rattle.osb_broker.specs.Shards.{asks_here, is_answerable, is_at, went_to}
+use Rattle.osb_broker.specs.Logins.{is_of_backend}
 
 abbrev a : List ℕ
 a = 97 ∷ []
@@ -102,3 +111,98 @@ goes_on (inr e, later) = absurd (false≢true ((bytes_eq-Decides b a).1 e))
 -- nor is one that gives up
 gives_up : IsPatient (made a lost ∷ []) → ⊥
 gives_up (e, later) = absurd (false≢true e)
+
+-- ---- reports in between
+
+-- the request was answered, whatever else was
+answered_once : request_was_answered a (made a lost ∷ made b (answered []) ∷ made a (answered []) ∷ []) ≡ true
+answered_once = refl
+
+-- what another request got is no answer to it
+answered_another : request_was_answered a (made a lost ∷ made b (answered []) ∷ made a failed ∷ []) ≡ false
+answered_another = refl
+
+-- a fetch may come in between
+reads_a : is_reading (Fetch (record { instance = a })) ≡ true
+reads_a = refl
+
+-- ---- conversations
+
+-- a client that sent these bytes at once, was sent those, and to which so many writes failed
+abbrev said : List ℕ → List ℕ → ℕ → Conversation
+said bytes sent count = record { calls = Some bytes ∷ []; sent = sent; failed = count; met_fault = false }
+
+-- the fixed 500 doesn't tell whether the request was carried out
+lost_or_failed : AreAttemptsOf (said a (reply_text refused) 0 ∷ said a (reply_text refused) 0 ∷ []) (made a lost ∷ made a failed ∷ [])
+lost_or_failed = (record { bytes = refl; sent = λ whole. inl refl }, (record { bytes = refl; sent = λ whole. inl refl }, tt))
+
+-- any other text is that of a request that was answered
+another_was_answered : IsAttemptOf (said a b 0) (made a lost) → ⊥
+unfolding reply_text
+another_was_answered is = by (is.sent refl)
+  where
+    by : IsNoAnswer b → ⊥
+    by (inl same) = false≢true ((bytes_eq-Decides b (reply_text refused)).1 same)
+    by (inr none) = false≢true ((bytes_eq-Decides b []).1 none)
+
+-- where a write failed, what was sent says nothing
+a_failure_says_nothing : IsAttemptOf (said a b 1) (made a lost)
+a_failure_says_nothing = record { bytes = refl; sent = λ whole. absurd (omega (arith, whole)) }
+
+-- no client's attempt is left out, and none is made up
+each_made_one : AreAttemptsOf (said a [] 0 ∷ []) [] → ⊥
+each_made_one none = none
+
+none_is_made_up : AreAttemptsOf [] (made a failed ∷ []) → ⊥
+none_is_made_up none = none
+
+-- what another request got is no answer, nor is the fixed 500
+not_of_another : SomeGotAnswer a (said b b 0 ∷ []) → ⊥
+not_of_another (inl (is, got)) = false≢true ((bytes_eq-Decides b a).1 is)
+not_of_another (inr none) = none
+
+not_the_500 : SomeGotAnswer a (said a (reply_text refused) 0 ∷ []) → ⊥
+not_the_500 (inl (is, (whole, other))) = other (inl refl)
+not_the_500 (inr none) = none
+
+-- ---- several brokers
+
+-- the broker of the instance a
+abbrev has_a : List ℕ → Bool
+has_a id = bytes_eq id a
+
+its_own : is_answerable has_a (Ok (Fetch (record { instance = a }))) ≡ true
+its_own = refl
+
+another_is_not : is_answerable has_a (Ok (Fetch (record { instance = b }))) ≡ false
+another_is_not = refl
+
+-- any broker has the catalog and the answers to faults, and none the listing of all instances
+catalog_anywhere : is_answerable has_a (Ok Catalog) ≡ true
+catalog_anywhere = refl
+
+fault_anywhere : is_answerable has_a (Err Auth) ≡ true
+fault_anywhere = refl
+
+listing_nowhere : is_answerable (λ id. true) (Ok (Orders (record { after = None }))) ≡ false
+listing_nowhere = refl
+
+-- what names no instance is asked of none
+catalog_of_none : asks_here (λ id. true) (Ok Catalog) ≡ false
+catalog_of_none = refl
+
+-- of three connections, those that went to the broker 1
+sent_on : picked (went_to 1 (0 ∷ 1 ∷ 1 ∷ [])) (a ∷ b ∷ a ∷ []) ≡ b ∷ a ∷ []
+sent_on = refl
+
+-- by the length of its id, an instance whose id has one byte belongs to the broker 1
+by_its_id : is_at (λ id. length id) 1 a ≡ true
+by_its_id = refl
+
+-- ---- logins
+
+lists_for_the_backend : is_of_backend (Orders (record { after = None })) ≡ true
+lists_for_the_backend = refl
+
+fetches_for_the_platform : is_of_backend (Fetch (record { instance = a })) ≡ false
+fetches_for_the_platform = refl

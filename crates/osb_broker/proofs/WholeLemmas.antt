@@ -5,7 +5,7 @@ use Rattle.std.proofs.lemmas.List.{map-append, append-nil, length-drop}
 use Rattle.std.proofs.Math.Seq.{take-length, take-suc}
 use Rattle.osb_frames.specs.declared.limits.Limits.{Limits}
 use Rattle.osb_frames.specs.declared.step.StopKind.{StopKind}
-use Rattle.osb_frames.specs.Cuts.{Message, fault, IsFront}
+use Rattle.osb_frames.specs.Cuts.{Message, ended, closed, stopped, fault, IsFront}
 use Rattle.osb_frames.specs.Steps.{FaultStays}
 use Rattle.osb_replies.specs.Text.{reply_text}
 use Rattle.osb_broker.specs.Machine.{Machine, fault_reply}
@@ -30,20 +30,20 @@ going_whole machine limits k s bytes old left now u rest q n j t new close at (m
 -- after a reply that closes
 pub closing_whole : {S : Type 0} (machine : Machine S) (limits : Limits) (k : ℕ) (s : S) (bytes old : List ℕ) (left : ℕ) (now : List ℕ) (u : S) (rest : List ℕ) (q : Message) (n j : ℕ) (t : S) (new : List ℕ) (close : Bool) → AtRequest machine limits k s bytes old left now u rest q n j → AnswersWhole machine q (j == 0) u t now new close → close ≡ true → Served machine limits k s bytes old new t
 closing_whole machine limits k s bytes old left now u rest q n j t new close at (mark, reply, marked, wrote, closes) e =
-    closing machine limits k s bytes old left now u rest q n j t 0 new 0 close at (mark, reply, marked, (wrote, refl, closes)) e
+    (closing machine limits k s bytes old left now u rest q n j t 0 new 0 close at (mark, reply, marked, (wrote, refl, closes)) e).0
 
 -- after the text of a fault
 pub refusing_whole : {S : Type 0} (machine : Machine S) (limits : Limits) (k : ℕ) (s : S) (bytes old : List ℕ) (left : ℕ) (now : List ℕ) (u : S) (rest : List ℕ) (f : StopKind) (j : ℕ) (new : List ℕ) → WrittenSoFar machine limits k s bytes old left now u rest → IsFront limits rest (fault f) → left ≡ suc j → new ≡ now ++ reply_text (fault_reply f) → Served machine limits k s bytes old new u
 refusing_whole machine limits k s bytes old left now u rest f j new reached at fewer wrote =
-    served_text machine limits k s bytes old left now u rest [] (reply_text (fault_reply f)) u new reached (text_of_fault machine limits left j u rest f fewer at) wrote
+    (served_text machine limits k s bytes old left now u rest [] (reply_text (fault_reply f)) (stopped f) u new reached (text_of_fault machine limits left j u rest f fewer at) wrote).0
 
 pub ending_whole : {S : Type 0} (machine : Machine S) (limits : Limits) (k : ℕ) (s : S) (bytes old : List ℕ) (left : ℕ) (now : List ℕ) (u : S) (rest : List ℕ) (j : ℕ) → WrittenSoFar machine limits k s bytes old left now u rest → left ≡ suc j → rest ≡ [] → Served machine limits k s bytes old now u
 ending_whole machine limits k s bytes old left now u rest j reached fewer none =
-    served_silent machine limits k s bytes old left now u rest reached (text_of_end machine limits left j u rest fewer none)
+    (served_silent machine limits k s bytes old left now u rest ended reached (text_of_end machine limits left j u rest fewer none)).0
 
 pub none_whole : {S : Type 0} (machine : Machine S) (limits : Limits) (k : ℕ) (s : S) (bytes old : List ℕ) (left : ℕ) (now : List ℕ) (u : S) (rest : List ℕ) → WrittenSoFar machine limits k s bytes old left now u rest → left ≡ 0 → Served machine limits k s bytes old now u
 none_whole machine limits k s bytes old left now u rest reached none =
-    served_silent machine limits k s bytes old left now u rest reached (text_of_none machine limits left u rest none)
+    (served_silent machine limits k s bytes old left now u rest closed reached (text_of_none machine limits left u rest none)).0
 
 -- ---- connections
 
@@ -96,12 +96,17 @@ going_on machine limits k s bytes old left now u rest q n j t new close at answe
 pub taken_next : {X : Type 0} (xs : List X) (i : ℕ) (x : X) → i < length xs → x ≡ get_or xs i x → take (i + 1) xs ≡ take i xs ++ x ∷ []
 taken_next xs i x low at = ap (λ n. take n xs) (add-one i) ∙ take-suc xs i x low ∙ ap (λ y. take i xs ++ y ∷ []) (sym at)
 
+-- P of the connections so far and of their outputs, and of one more each
+pub grown_on : {X : Type 0} (P : List (List ℕ) → List (List ℕ) → Type 0) (items : X → List ℕ) (connections : List X) (i : ℕ) (connection : X) (old new : List X) (output : X) → i < length connections → connection ≡ get_or connections i connection → new ≡ old ++ output ∷ []
+    → P (map items (take i connections) ++ items connection ∷ []) (map items old ++ items output ∷ []) → P (map items (take (i + 1) connections)) (map items new)
+grown_on P items connections i connection old new output low at grown is =
+    let asked = ap (map items) (taken_next connections i connection low at) ∙ map-append items (take i connections) (connection ∷ []) in
+    let told = ap (map items) grown ∙ map-append items old (output ∷ []) in
+    subst (λ l. P l (map items new)) (sym asked) (subst (λ l. P (map items (take i connections) ++ items connection ∷ []) l) (sym told) is)
+
 pub run_on : {S X : Type 0} (machine : Machine S) (limits : Limits) (k : ℕ) (s : S) (items : X → List ℕ) (connections : List X) (i : ℕ) (connection : X) (old new : List X) (output : X) (u t : S) → i < length connections → connection ≡ get_or connections i connection → new ≡ old ++ output ∷ []
     → RunServed machine limits k s (map items (take i connections)) (map items old) u → Served machine limits k u (items connection) [] (items output) t
     → RunServed machine limits k s (map items (take (i + 1) connections)) (map items new) t
 run_on machine limits k s items connections i connection old new output u t low at grown run served =
-    let asked = ap (map items) (taken_next connections i connection low at) ∙ map-append items (take i connections) (connection ∷ []) in
-    let told = ap (map items) grown ∙ map-append items old (output ∷ []) in
-    subst (λ l. RunServed machine limits k s l (map items new) t) (sym asked)
-    (subst (λ l. RunServed machine limits k s (map items (take i connections) ++ items connection ∷ []) l t) (sym told)
-    (run_served machine limits k s (map items (take i connections)) (map items old) u (items connection) (items output) t run served))
+    grown_on (λ asked told. RunServed machine limits k s asked told t) items connections i connection old new output low at grown
+    (run_served machine limits k s (map items (take i connections)) (map items old) u (items connection) (items output) t run served)

@@ -9,6 +9,8 @@ pub mod Connection
 -- What serving did: what was written, how it ended, and which reads were made.
 pub mod Served
 pub mod Serving
+-- What a crash leaves of a connection.
+pub mod Crashes
 -- What a broker keeps, how many requests of a connection it takes, its plans in use, and the room that it reads into.
 pub mod BrokerState
 pub mod PerConnection
@@ -16,7 +18,7 @@ pub mod Plans
 pub mod Room
 -- Outputs show what was refused.
 pub mod Refusals
--- A request that is sent again acts once: in runs, then over stops and starts.
+-- A request that is sent again acts once: in runs, then over stops and starts, then with reports in between.
 pub mod Repeats
 pub mod Resend
 pub mod Apart
@@ -24,7 +26,18 @@ pub mod Once
 pub mod Attempts
 pub mod Histories
 pub mod ActsOnce
+pub mod Reported
+pub mod Counted
+-- What was said with clients is such a history.
+pub mod Conversations
+pub mod Replied
+-- Several brokers are one.
+pub mod Shards
+-- A reply that reports an error has changed nothing, and who lacks the login learns nothing.
+pub mod Errors
+pub mod Logins
 -- For contracts inside the crate.
 pub mod Answering
+pub mod Groups
 pub mod Inside
 pub mod Prepared

@@ -4,13 +4,12 @@ use Rattle.sqlite.specs.Tree.{Trees}
 use Rattle.sqlite.specs.State.{State}
 use Rattle.osb_replies.specs.Body.{body_bytes}
 use Rattle.osb_orders.specs.declared.order.Change.{Change}
-use Rattle.osb_orders.specs.Lives.{Lives, life_of}
+use Rattle.osb_orders.specs.Lives.{Lives}
 use Rattle.osb_orders.specs.Changed.{lives_changed}
-use Rattle.osb_orders.specs.IsLife.{IsLives}
 use Rattle.osb_machine.specs.declared.answer_and_change.Answer as code
-use Rattle.osb_records.specs.Commit.{FinishesLast}
+use Rattle.osb_records.specs.declared.change.LifeChange.{LifeChange}
+use Rattle.osb_records.specs.Changes.{CanBeMade}
 use Rattle.osb_statements.specs.Stored.{lives_stored}
-use Rattle.osb_broker.specs.declared.prepared.Pending.{Pending}
 use Rattle.osb_broker.specs.declared.prepared.Prepared.{Prepared}
 use Rattle.osb_broker.specs.Machine.{Answer}
 
@@ -19,24 +18,23 @@ abbrev pub answer_parts : code.Answer → Answer
 answer_parts answer = record { status = answer.status; body = body_bytes answer.body }
 
 -- the change of an ask that names an instance, or none
-abbrev pub pending_for : Option (List ℕ) → Change → Option Pending
+abbrev pub pending_for : Option (List ℕ) → Change → Option LifeChange
 pending_for None change = None
 pending_for (Some id) change = Some (record { instance = id; change = change })
 
 -- the lives once the change is made
-abbrev pub after_pending : Option Pending → Lives → Lives
+abbrev pub after_pending : Option LifeChange → Lives → Lives
 after_pending None lives = lives
 after_pending (Some pending) lives = lives_changed pending.change pending.instance lives
 
 -- the change may be made: it leaves well-formed lives, and ends no order but the running last one
-abbrev pub IsApplicable : Option Pending → Lives → Type 0
+abbrev pub IsApplicable : Option LifeChange → Lives → Type 0
 IsApplicable None lives = Unit {0}
-IsApplicable (Some pending) lives =
-    IsLives (lives_changed pending.change pending.instance lives) × FinishesLast (life_of lives pending.instance) pending.change
+IsApplicable (Some pending) lives = CanBeMade pending lives
 
 -- what a crash may leave once the change is made: the lives after it, where the store was open; or what it could leave
 -- before, where there was nothing to change
-abbrev pub PendingIsDurable : State → Lives → Option Pending → Trees → Type 0
+abbrev pub PendingIsDurable : State → Lives → Option LifeChange → Trees → Type 0
 PendingIsDurable s lives pending db =
     (IsTrue s.is_open × (lives_stored db ≡ after_pending pending lives)) ⊎ (((any : Lives) → after_pending pending any ≡ any) × s.may_leave db)
 

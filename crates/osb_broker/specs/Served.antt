@@ -1,9 +1,9 @@
 -- What serving a connection did, of the bytes as a whole.
-use Rattle.std.specs.Prelude.{◌≡◌, ℕ, ◌≤◌, Bool, List, [], ◌∷◌, ◌++◌, length, map, take}
+use Rattle.std.specs.Prelude.{◌≡◌, ℕ, ◌≤◌, Bool, true, false, List, [], ◌∷◌, ◌++◌, length, map, take}
 use Rattle.std.specs.List.{concat}
 use Rattle.osb_frames.specs.declared.limits.Limits.{Limits}
 use Rattle.osb_frames.specs.declared.limits.TheConstants.{MOST_HEAD, MOST_FIELDS, MOST_BODY}
-use Rattle.osb_frames.specs.Cuts.{Message, End, Cuts}
+use Rattle.osb_frames.specs.Cuts.{Message, End, ended, closed, stopped, Cuts}
 use Rattle.osb_replies.specs.Text.{reply_text}
 use Rattle.osb_broker.specs.Machine.{Machine}
 use Rattle.osb_broker.specs.Connection.{replies_of, AreMarks, looked_for, ConnectionText, Run}
@@ -14,6 +14,17 @@ pub record Served {S : Type 0} (machine : Machine S) (limits : Limits) (k : ℕ)
   pub texts : List (List ℕ)
   pub is : ConnectionText machine limits k s bytes marks texts t
   pub written : new ≡ old ++ concat texts
+
+-- the requests of a connection ended at a framing fault
+abbrev pub is_fault : End → Bool
+is_fault ended = false
+is_fault closed = false
+is_fault (stopped f) = true
+
+-- the same, and met_fault says whether the requests ended at a framing fault
+abbrev pub ServedTo : {S : Type 0} → Machine S → Limits → ℕ → S → List ℕ → Bool → List ℕ → List ℕ → S → Type 0
+ServedTo machine limits k s bytes met_fault old new t =
+    (served : Served machine limits k s bytes old new t) × (met_fault ≡ is_fault served.is.end)
 
 -- These are the first texts of the connection, and t is the state after them: of the k requests that may come at most so
 -- many are looked for.

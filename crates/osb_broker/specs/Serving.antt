@@ -1,5 +1,5 @@
 -- What serving a connection did, of bytes that came in pieces.
-use Rattle.std.specs.Prelude.{◌≡◌, ℕ, ◌<◌, ◌≤◌, ◌+◌, ◌⊎◌, false, List, [], ◌∷◌, ◌++◌, length, map, take, drop, ⊤, Option, Some, None, Result, Ok, Err}
+use Rattle.std.specs.Prelude.{◌≡◌, ℕ, ◌<◌, ◌≤◌, ◌+◌, ◌⊎◌, Bool, false, List, [], ◌∷◌, ◌++◌, length, map, take, drop, ⊤, Option, Some, None, Result, Ok, Err}
 use Rattle.std.specs.List.{concat, AllByRecursion}
 use Rattle.std.specs.Io.KnownBytes.{Consumes, IsAtEnd}
 use Rattle.osb_frames.specs.declared.limits.Limits.{Limits}
@@ -14,7 +14,7 @@ use Rattle.osb_replies.specs.declared.write.WriteFault.{WriteFault}
 use Rattle.osb_replies.specs.Text.{ReplyParts, reply_text}
 use Rattle.osb_broker.specs.Machine.{Machine, fault_reply}
 use Rattle.osb_broker.specs.Connection.{replies_of}
-use Rattle.osb_broker.specs.Served.{Served, BrokenOff}
+use Rattle.osb_broker.specs.Served.{ServedTo, BrokenOff}
 
 -- a text was written whole and each write took bytes, or its first bytes were written and then a write failed or took
 -- nothing
@@ -38,11 +38,6 @@ abbrev pub WritesOf : Result (Unit {0}) ServeFault → ℕ → ℕ → Type 0
 WritesOf (Err Write) old new = old < new
 WritesOf _ old new = new ≡ old
 
--- which reads were made of a source from one moment to another, and what they gave
-pub record ReadsMade (made_old made_new : List Call) (known_old known_new : Option (List ℕ)) (calls : List Call) : Type 0 where
-  pub made : made_new ≡ made_old ++ calls
-  pub consumed : Consumes known_old known_new (all_bytes calls)
-
 -- each read gave bytes
 abbrev pub EachGaveBytes : List Call → Type 0
 EachGaveBytes calls = AllByRecursion (λ call. is_failed_or_empty call ≡ false) calls
@@ -53,14 +48,21 @@ pub record EndsWith (last : Call) (calls : List Call) : Type 0 where
   pub is : calls ≡ before ++ last ∷ []
   pub gave_bytes : EachGaveBytes before
 
+-- which reads were made of a source from one moment to another, and what they gave; one that found the end left nothing
+pub record ReadsMade (made_old made_new : List Call) (known_old known_new : Option (List ℕ)) (calls : List Call) : Type 0 where
+  pub made : made_new ≡ made_old ++ calls
+  pub consumed : Consumes known_old known_new (all_bytes calls)
+  pub at_end : EndsWith (Some []) calls → IsAtEnd known_new
+
 -- the reads of a connection: one that fails is the last, and serving ends so; one that finds the end is the last
 abbrev pub ReadsOf : Result (Unit {0}) ServeFault → List Call → Type 0
 ReadsOf (Err Read) calls = EndsWith None calls
 ReadsOf _ calls = EachGaveBytes calls ⊎ EndsWith (Some []) calls
 
--- P of the bytes of a connection that began with got: of all that may follow, or of got where it is all there was
-abbrev pub OfConnection : (List ℕ → Type 0) → List ℕ → Option (List ℕ) → Type 0
-OfConnection P got known = ((more : List ℕ) → P (got ++ more)) ⊎ (P got × IsAtEnd known)
+-- P of the bytes of a connection that began with what these reads gave: whatever follows, or of that only, where the last
+-- read found the end
+abbrev pub OfConnection : (List ℕ → Type 0) → List Call → Type 0
+OfConnection P calls = ((more : List ℕ) → P (all_bytes calls ++ more)) ⊎ (P (all_bytes calls) × EndsWith (Some []) calls)
 
 -- no whole request waits, and no fault that no further bytes mend; bytes that follow may make a request
 pub record NothingWaits (limits : Limits) (held : List ℕ) : Type 0 where
@@ -119,8 +121,9 @@ pub record IsBounded (limits : Limits) (k room : ℕ) (calls : List Call) : Type
   pub small : length held ≤ room
   pub few : length calls ≤ length (all_bytes calls) + 1
 
--- how serving ended
-abbrev pub EndsAs : {S : Type 0} → Result (Unit {0}) ServeFault → Machine S → Limits → ℕ → S → List ℕ → Option (List ℕ) → List ℕ → List ℕ → S → Type 0
-EndsAs (Ok x) machine limits k s got known old new t = OfConnection (λ bytes. Served machine limits k s bytes old new t) got known
-EndsAs (Err Read) machine limits k s got known old new t = ReadBroken machine limits k s got old new t
-EndsAs (Err Write) machine limits k s got known old new t = OfConnection (λ bytes. BrokenOff machine limits k s bytes old new t) got known
+-- how serving a connection ended, of which these reads were made; met_fault is said of one that ended without a fault of
+-- the reader or the writer
+abbrev pub EndsAs : {S : Type 0} → Result (Unit {0}) ServeFault → Machine S → Limits → ℕ → S → List Call → Bool → List ℕ → List ℕ → S → Type 0
+EndsAs (Ok x) machine limits k s calls met_fault old new t = OfConnection (λ bytes. ServedTo machine limits k s bytes met_fault old new t) calls
+EndsAs (Err Read) machine limits k s calls met_fault old new t = ReadBroken machine limits k s (all_bytes calls) old new t
+EndsAs (Err Write) machine limits k s calls met_fault old new t = OfConnection (λ bytes. BrokenOff machine limits k s bytes old new t) calls

@@ -10,15 +10,14 @@ ghost use Rattle.osb_broker.specs.BrokerState.{Works};
 ghost use Rattle.osb_broker.specs.Prepared.{IsApplicable};
 ghost use Rattle.osb_broker.specs.Inside.{AppliesPending};
 
-use crate::prepared::Pending;
 use crate::rooms::{Room, make_room};
-use osb_records::Records;
+use osb_records::{LifeChange, Records};
 use osb_replies::Reply;
 use sqlite::Alter;
 use std::alloc::AllocError;
 
 /// Makes a change to the life of an instance.
-fn commit<S: Alter>(records: &mut Records<S>, pending: &Pending) -> Result<(), AllocError>
+fn commit<S: Alter>(records: &mut Records<S>, pending: &LifeChange) -> Result<(), AllocError>
     requires { Works (state S.Store records.old) →
         IsApplicable (Some pending.now) (stored (state S.Store records.old)) }
     ensures { AppliesPending S.Store (Some pending.now) records.old records.new result }
@@ -32,7 +31,7 @@ fn commit<S: Alter>(records: &mut Records<S>, pending: &Pending) -> Result<(), A
 /// Makes the change that is pending. Where the records refuse it, the lives stay.
 pub(crate) fn apply_pending<S: Alter>(
     records: &mut Records<S>,
-    pending: &Option<Pending>,
+    pending: &Option<LifeChange>,
 ) -> Result<(), AllocError>
     requires { Works (state S.Store records.old) →
         IsApplicable pending.now (stored (state S.Store records.old)) }
@@ -48,7 +47,7 @@ pub(crate) fn apply_pending<S: Alter>(
 /// Makes the change that is pending, once there is room for the reply and `spare` bytes.
 pub(crate) fn apply_pending_within<S: Alter, W: Room>(
     records: &mut Records<S>,
-    pending: &Option<Pending>,
+    pending: &Option<LifeChange>,
     reply: &Reply<'_>,
     room: &mut W,
     spare: usize,

@@ -171,6 +171,9 @@ impl<'s, S: Alter> Broker<'s, S> {
         ensures handled { Works (store_of S.Store self.new) →
             Handled (capped (rules_in self.old)) (message request.now) last
             (lives_of S.Store self.old) (parts result) (lives_of S.Store self.new) }
+        ensures told { Works (store_of S.Store self.old) →
+            HasCleanDisk (store_of S.Store self.new) → MayReply (capped (rules_in self.old))
+            (message request.now) last (lives_of S.Store self.old) (parts result) }
         ensures stays { Works (store_of S.Store self.new) → is_500 (parts result).status ≡ true →
             lives_of S.Store self.new ≡ lives_of S.Store self.old }
         ensures plain { needs_lives (ask_of (rules_in self.old) (message request.now)) ≡ false →

@@ -12,6 +12,7 @@ ghost use Rattle.osb_catalog.specs.Rules as catalog;
 ghost use Rattle.osb_asks.specs.Asks.{ask_of, is_catalog, is_early};
 ghost use Rattle.osb_asks.specs.ValidTexts.{AskHasValidTexts};
 ghost use Rattle.osb_orders.specs.Lives.{Lives};
+ghost use Rattle.osb_orders.specs.IsLife.{IsLives};
 ghost use Rattle.osb_orders.specs.ViewData.{data_in, view_of};
 ghost use Rattle.osb_records.specs.CrashLeaves.{KeepsLives};
 ghost use Rattle.osb_statements.specs.Steps.{stored};
@@ -53,7 +54,7 @@ fn decide_by<'s>(
 
 impl<'s> Setup<'s> {
     ghost use Rattle.osb_broker.specs.BrokerState.{Works};
-    ghost use Rattle.osb_broker.specs.Inside.{given_rules, GivesPrepared, GivesReply, Handles, LivesStay};
+    ghost use Rattle.osb_broker.specs.Inside.{AreAnsweredAlike, given_rules, GivesPrepared, GivesReply, Handles, IsOfInstance, LivesStay};
 
     /// The facts that an ask needs.
     fn view<S: Alter>(&self, records: &mut Records<S>, ask: &Ask) -> Result<View, AllocError>
@@ -94,9 +95,14 @@ impl<'s> Setup<'s> {
         ask: &Ask,
     ) -> Result<Prepared<'s>, AllocError>
         requires { AskHasValidTexts ask.now }
-        ensures ok { Works (state S.Store records.old) → HasCleanDisk (state S.Store records.new) →
-            IfOk result (λ prepared. Prepares (stored (state S.Store records.old)) prepared
-            (step_of (given_rules self.now) (stored (state S.Store records.old)) ask.now)) }
+        ensures alike { Works (state S.Store records.old) →
+            HasCleanDisk (state S.Store records.new) → IfOk result (λ prepared. (lives : Lives) →
+            IsLives lives → AreAnsweredAlike (given_rules self.now) (Ok ask.now)
+            (stored (state S.Store records.old)) lives →
+            Prepares lives prepared (step_of (given_rules self.now) lives ask.now)) }
+        ensures whole { Works (state S.Store records.old) →
+            IsLives (stored (state S.Store records.old)) }
+        ensures names { IfOk result (λ prepared. IsOfInstance (Ok ask.now) prepared.pending) }
         ensures was_open { HasCleanDisk (state S.Store records.new) → is_catalog ask.now ≡ false →
             OnOk result (IsTrue (state S.Store records.old).is_open) }
         ensures stays { LivesStay (state S.Store records.old) (state S.Store records.new) }
@@ -138,7 +144,7 @@ impl<'s> Setup<'s> {
     }
 
     /// The answer to a request, to its ask or to the fault for which it has none, up to its change.
-    fn prepared<S: Alter>(
+    pub(crate) fn prepared<S: Alter>(
         &self,
         records: &mut Records<S>,
         request: &Request<'_>,

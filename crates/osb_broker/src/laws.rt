@@ -17,8 +17,15 @@ ghost use Rattle.osb_broker.specs.Refusals.{NeverFails, FailuresStay, MarksShow,
 ghost use Rattle.osb_broker.specs.Resend.{RepeatsActOnce, LeadsToOne, RunsKeepLives};
 ghost use Rattle.osb_broker.specs.Apart.{InstancesAreApart};
 ghost use Rattle.osb_broker.specs.ActsOnce.{AttemptsActOnce, ConnectionsLeaveOne, PatientClientsActOnce, RequestsActOnce, RequestsActAtMostOnce, StopsAreAttempts};
+ghost use Rattle.osb_broker.specs.Reported.{RequestsActOnceBeside, RequestsActAtMostOnceBeside, ReportedRequestsActOnce, ReportedRequestsActAtMostOnce};
+ghost use Rattle.osb_broker.specs.Counted.{RequestsOpenOne};
+ghost use Rattle.osb_broker.specs.Conversations.{EpisodesAreHistories, EpisodesGoOn};
+ghost use Rattle.osb_broker.specs.Replied.{RepliedRequestsActOnce, SentRequestsActAtMostOnce};
+ghost use Rattle.osb_broker.specs.Shards.{ShardsAreApart, ShardsKeepOut, UnnamedMayBeLeftOut, ShardsAreOne, HistoriesAreOne};
+ghost use Rattle.osb_broker.specs.Errors.{ErrorsStay};
+ghost use Rattle.osb_broker.specs.Logins.{UnknownLearnNothing, AsksHaveLogins, PlatformReportsNothing};
 
-use osb_asks::laws::{never_memory, valid_texts};
+use osb_asks::laws::{never_memory, one_place, valid_texts};
 use osb_laws::{asked_again, never_500};
 
 /// A connection's texts, and the lives after it, are those that the machine gives to the
@@ -116,4 +123,69 @@ pub fn histories()
     ensures stops { StopsAreAttempts }
 {
     valid_texts();
+}
+
+/// A request that is made again and again until it is answered acts once, also where the backend
+/// reports in between that the order which it opened succeeded, and where it is fetched and polled: at
+/// most once in any case, and once where it was answered. `beside` and `beside_most` say so with
+/// whatever else leaves the instance its life in between. Whatever is reported, the request opens at
+/// most one order, and one more for each failure that the backend reports.
+pub fn reported()
+    ensures answered { ReportedRequestsActOnce }
+    ensures most { ReportedRequestsActAtMostOnce }
+    ensures beside { RequestsActOnceBeside }
+    ensures beside_most { RequestsActAtMostOnceBeside }
+    ensures opens { RequestsOpenOne }
+{}
+
+/// Clients come one after the other, and between them the program stops and starts, each time from the
+/// lives that it left. With one request a client, what was read of the clients and what they were sent
+/// is that of one history of attempts. So what `histories` and `reported` say holds of it. With any
+/// number of requests a client, the lives are those that the conversations lead to, one after the other.
+pub fn episodes()
+    ensures histories { EpisodesAreHistories }
+    ensures together { EpisodesGoOn }
+{}
+
+/// A request about an instance that clients make again and again, one request each, acted once where one
+/// of them was sent an answer other than the fixed 500, and at most once in any case. So it is however
+/// the program stopped and started in between, also where the backend reported that the order which the
+/// request opened succeeded, and where the instance was fetched and polled.
+pub fn replied()
+    ensures once { RepliedRequestsActOnce }
+    ensures most { SentRequestsActAtMostOnce }
+{}
+
+/// Brokers that each have some of the instances, by any function from ids to brokers, and are sent
+/// what is asked of these, are together one broker: their texts are those of one run of all
+/// connections, and each instance has the life that its broker leaves. So are their histories, in
+/// which each stops and starts when it does. One of them serves what it is sent as it would among
+/// all others, and leaves the instances that aren't its own. The backend's listing is of the lives
+/// of one broker; like all that names no instance, it may be left out of a run.
+pub fn shards()
+    ensures apart { ShardsAreApart }
+    ensures out { ShardsKeepOut }
+    ensures unnamed { UnnamedMayBeLeftOut }
+    ensures one { ShardsAreOne }
+    ensures histories { HistoriesAreOne }
+{}
+
+/// A request that isn't answered 200, 201 or 202 leaves the lives.
+pub fn errors()
+    ensures { ErrorsStay }
+{}
+
+/// A request that names a door and lacks its login has the fixed answer 401, the same from any lives,
+/// and leaves these. It is never refused memory.
+pub fn unknown()
+    ensures { UnknownLearnNothing }
+{}
+
+/// Orders are listed and reported only with the backend's login, and all else is asked with the
+/// platform's. So with two different logins nothing that has the platform's reports an order.
+pub fn logins()
+    ensures own { AsksHaveLogins }
+    ensures platform { PlatformReportsNothing }
+{
+    one_place();
 }

@@ -11,6 +11,7 @@ mod broker;
 mod buffer;
 mod fault;
 mod filling;
+mod groups;
 mod handling;
 mod laws;
 pub mod memory;
@@ -27,7 +28,7 @@ pub use broker::Broker;
 pub use buffer::Buffer;
 pub use fault::{NewFault, ServeFault};
 pub use laws::{
-    apart, histories, never_fails, reads_are_bounded, refusals_show, resend, runs_go_on,
-    texts_are_of_the_cut,
+    apart, episodes, errors, histories, logins, never_fails, reads_are_bounded, refusals_show,
+    replied, reported, resend, runs_go_on, shards, texts_are_of_the_cut, unknown,
 };
 pub use rooms::Room;

@@ -5,7 +5,7 @@ ghost use Rattle.std.specs.Prelude.{◌≡◌, ◌≤◌, ◌<◌, ◌+◌, ◌�
 ghost use Rattle.sqlite.specs.Held.{state};
 ghost use Rattle.sqlite.specs.Steps.{over_memory};
 ghost use Rattle.osb_frames.specs.declared.limits.Limits.{Limits};
-ghost use Rattle.osb_frames.specs.Calls.{Call, all_bytes};
+ghost use Rattle.osb_frames.specs.Calls.{Call};
 ghost use Rattle.osb_frames.specs.Steps.{message};
 ghost use Rattle.osb_frames.specs.Writers.{WritesNothing};
 ghost use Rattle.osb_replies.specs.Parts.{parts, refused};
@@ -126,7 +126,7 @@ pub fn serve<R: Source, W: Sink>(
         × EachWasNeeded (limits_of buffer.old) (most_of broker.old)
         ((limits_of buffer.old).head + (limits_of buffer.old).body) calls
         × EndsAs result (machine (rules_in broker.old)) (limits_of buffer.old) (most_of broker.old)
-        (lives_of over_memory broker.old) (all_bytes calls) (R.rest source.new) (W.taken sink.old)
+        (lives_of over_memory broker.old) calls (met_fault buffer.new) (W.taken sink.old)
         (W.taken sink.new) (lives_of over_memory broker.new) }
 {
     broker.serve(buffer, source, sink)

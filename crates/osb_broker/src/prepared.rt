@@ -4,23 +4,17 @@ ghost use Rattle.std.specs.Prelude.{◌≡◌, IfOk};
 ghost use Rattle.osb_asks.specs.Subjects.{instance_id_of};
 ghost use Rattle.osb_broker.specs.Prepared.{pending_for};
 
-use osb_asks::{Ask, Id};
+use osb_asks::Ask;
 use osb_machine::Answer;
 use osb_orders::Change;
+use osb_records::LifeChange;
 use std::alloc::AllocError;
-
-/// A change that is still to be made to the life of an instance.
-#[derive(Drop)]
-pub(crate) struct Pending {
-    pub(crate) instance: Id,
-    pub(crate) change: Change,
-}
 
 /// An answer, and the change that has to be made before it is given, if any.
 #[derive(Drop)]
 pub(crate) struct Prepared<'s> {
     pub(crate) answer: Answer<'s>,
-    pub(crate) pending: Option<Pending>,
+    pub(crate) pending: Option<LifeChange>,
 }
 
 impl<'s> Prepared<'s> {
@@ -37,12 +31,12 @@ impl<'s> Prepared<'s> {
 }
 
 /// The change, as one of the instance that the ask names.
-pub(crate) fn pending_for(ask: &Ask, change: Change) -> Result<Option<Pending>, AllocError>
+pub(crate) fn pending_for(ask: &Ask, change: Change) -> Result<Option<LifeChange>, AllocError>
     ensures { IfOk result (λ pending. pending ≡ pending_for (instance_id_of ask.now) change) }
 {
     match ask.instance() {
         Some(instance) => match instance.clone() {
-            Ok(instance) => Ok(Some(Pending { instance, change })),
+            Ok(instance) => Ok(Some(LifeChange { instance, change })),
             Err(error) => {
                 drop(change);
                 Err(error)

@@ -1,9 +1,9 @@
 //! Lists of connections, served from memory into memory.
 
-ghost use Rattle.std.specs.Prelude.{◌≡◌, ◌≤◌, [], ◌++◌, false, length, map, vec_items, IfOk, OnErr};
+ghost use Rattle.std.specs.Prelude.{◌≡◌, ◌≤◌, ◌<◌, ◌+◌, [], ◌∷◌, ◌++◌, false, length, map, take, vec_items, vec_len, vec_capacity, IfOk, IsTrue, MatchResult, OnErr};
 ghost use Rattle.std.specs.List.{AllByRecursion};
 ghost use Rattle.sqlite.specs.Held.{state};
-ghost use Rattle.sqlite.specs.State.{HasCleanDisk};
+ghost use Rattle.sqlite.specs.State.{HasCleanDisk, Survives};
 ghost use Rattle.osb_frames.specs.InMemory.{bytes_of, room_of};
 ghost use Rattle.osb_frames.specs.Steps.{message};
 ghost use Rattle.osb_replies.specs.Text.{reply_text};
@@ -11,11 +11,13 @@ ghost use Rattle.osb_orders.specs.Lives.{Lives};
 ghost use Rattle.osb_statements.specs.Steps.{stored};
 ghost use Rattle.osb_broker.specs.Machine.{fault_reply};
 ghost use Rattle.osb_broker.specs.Steps.{capped};
-ghost use Rattle.osb_broker.specs.Answering.{AnswersWhole};
+ghost use Rattle.osb_broker.specs.Answering.{AnswersWhole, AnswersWholeOrLost};
+ghost use Rattle.osb_broker.specs.Crashes.{LeavesLives, RunOrLost, ServedOrLost};
 ghost use Rattle.osb_broker.specs.Served.{Served, AreStandard, RunServed};
-ghost use Rattle.osb_broker.specs.Inside.{IsBlank};
+ghost use Rattle.osb_broker.specs.Inside.{IsBlank, ServesMore};
 
 use crate::broker::Broker;
+use crate::laws::never_fails;
 use crate::refuse::refuse;
 use crate::setup::Setup;
 use osb_asks::laws::valid_texts;
@@ -50,7 +52,7 @@ fn refuse_into(output: &mut InMemory, kind: StopKind)
 
 impl Setup<'_> {
     ghost use Rattle.osb_broker.specs.BrokerState.{LivesGo, Works};
-    ghost use Rattle.osb_broker.specs.Inside.{given_most, given_rules, Worked};
+    ghost use Rattle.osb_broker.specs.Inside.{given_most, given_rules, ServesEach, Worked};
 
     /// Answers a request into an output that has room for a fixed reply. Whether the connection
     /// closes; where it doesn't, there still is that room.
@@ -68,7 +70,15 @@ impl Setup<'_> {
             (bytes_of output.old) (bytes_of output.new) result }
         ensures room { result ≡ false → 512 ≤ room_of output.new }
         ensures worked { Worked (state S.Store records.old) (state S.Store records.new) }
+        ensures leaves { Works (state S.Store records.old) →
+            HasCleanDisk (state S.Store records.new) →
+            LeavesLives (state S.Store records.new) (λ lives.
+            AnswersWholeOrLost (capped (given_rules self.now)) (message request.now) last
+            (stored (state S.Store records.old)) lives
+            (bytes_of output.old) (bytes_of output.new) result) }
     {
+        never_fails();
+        records.lives_are_whole();
         let reply = self.answer_in(records, request, last, output, RESERVE);
         let _ = write_reply(output, &reply);
         reply.close
@@ -89,7 +99,14 @@ impl Setup<'_> {
             bytes.now
             (bytes_of output.old) (bytes_of output.new) after }
         ensures worked { Worked (state S.Store records.old) (state S.Store records.new) }
+        ensures leaves { Works (state S.Store records.old) →
+            HasCleanDisk (state S.Store records.new) →
+            LeavesLives (state S.Store records.new) (λ lives.
+            ServedOrLost (capped (given_rules self.now)) limits.now (given_most self.now)
+            (stored (state S.Store records.old)) bytes.now
+            (bytes_of output.old) (bytes_of output.new) lives) }
     {
+        records.lives_are_whole();
         let mut rest = bytes;
         let mut left = self.per_connection.number;
         while left > 0 {
@@ -127,10 +144,133 @@ impl Setup<'_> {
             bytes.now
             [] result.items after }
         ensures worked { Worked (state S.Store records.old) (state S.Store records.new) }
+        ensures leaves { Works (state S.Store records.old) →
+            HasCleanDisk (state S.Store records.new) →
+            LeavesLives (state S.Store records.new) (λ lives.
+            ServedOrLost (capped (given_rules self.now)) limits.now (given_most self.now)
+            (stored (state S.Store records.old)) bytes.now [] result.items lives) }
     {
         let mut output = InMemory::new(blank);
         self.serve_into(records, limits, bytes, &mut output);
         output.into_bytes()
+    }
+
+    /// Serves a connection into one of the blank outputs, of which there is one, and keeps it where there is
+    /// room for it.
+    fn serve_alone<S: Alter>(
+        &self,
+        records: &mut Records<S>,
+        limits: &Limits,
+        connection: &[u8],
+        blanks: &mut Vec<Vec<u8>>,
+        outputs: &mut Vec<Vec<u8>>,
+    )
+        requires blank { AllByRecursion IsBlank blanks.old.items }
+        requires some { 0 < length blanks.old.items }
+        requires room { vec_len outputs.old < vec_capacity outputs.old }
+        ensures blank { AllByRecursion IsBlank blanks.new.items }
+        ensures fewer { length blanks.new.items + 1 ≡ length blanks.old.items }
+        ensures count { vec_len outputs.new ≡ vec_len outputs.old + 1 }
+        ensures room { vec_capacity outputs.old ≤ vec_capacity outputs.new }
+        ensures serves { ServesMore S.Store (capped (given_rules self.now)) limits.now
+            (given_most self.now) (connection.now ∷ []) outputs.old.items outputs.new.items
+            records.old records.new }
+    {
+        if let Some(blank) = blanks.pop() {
+            let output = self.output_of(records, limits, connection, blank);
+            let _ = outputs.push(output);
+        }
+    }
+
+    /// Serves connections one after the other, each with its own transaction.
+    fn serve_singly<S: Alter>(
+        &self,
+        records: &mut Records<S>,
+        limits: &Limits,
+        connections: &[Vec<u8>],
+        blanks: &mut Vec<Vec<u8>>,
+        outputs: &mut Vec<Vec<u8>>,
+    )
+        requires blank { AllByRecursion IsBlank blanks.old.items }
+        requires enough { length connections.now ≤ length blanks.old.items }
+        requires room { vec_len outputs.old + length connections.now ≤ vec_capacity outputs.old }
+        ensures blank { AllByRecursion IsBlank blanks.new.items }
+        ensures fewer { length blanks.new.items + length connections.now ≡
+            length blanks.old.items }
+        ensures count { vec_len outputs.new ≡ vec_len outputs.old + length connections.now }
+        ensures room { vec_capacity outputs.old ≤ vec_capacity outputs.new }
+        ensures serves { ServesMore S.Store (capped (given_rules self.now)) limits.now
+            (given_most self.now) (map vec_items connections.now)
+            outputs.old.items outputs.new.items records.old records.new }
+    {
+        records.lives_are_whole();
+        for connection in connections {
+            self.serve_alone(records, limits, connection, blanks, outputs);
+        }
+    }
+
+    /// Serves the first so many connections, of which there is at least one: as a group, or one after the
+    /// other where they can't be a group.
+    fn serve_some<S: Alter>(
+        &self,
+        records: &mut Records<S>,
+        limits: &Limits,
+        connections: &[Vec<u8>],
+        blanks: &mut Vec<Vec<u8>>,
+        outputs: &mut Vec<Vec<u8>>,
+    ) -> usize
+        requires one { given_most self.now ≡ 1 }
+        requires some { 0 < length connections.now }
+        requires blank { AllByRecursion IsBlank blanks.old.items }
+        requires enough { length connections.now ≤ length blanks.old.items }
+        requires room { vec_len outputs.old + length connections.now ≤ vec_capacity outputs.old }
+        ensures some { 0 < result }
+        ensures inside { result ≤ length connections.now }
+        ensures blank { AllByRecursion IsBlank blanks.new.items }
+        ensures fewer { length blanks.old.items ≤ length blanks.new.items + result }
+        ensures count { vec_len outputs.new ≡ vec_len outputs.old + result }
+        ensures room { vec_capacity outputs.old ≤ vec_capacity outputs.new }
+        ensures serves { ServesMore S.Store (capped (given_rules self.now)) limits.now 1
+            (map vec_items (take result connections.now))
+            outputs.old.items outputs.new.items records.old records.new }
+    {
+        records.lives_are_whole();
+        match self.serve_group(records, limits, connections) {
+            Ok(mut made) => {
+                let count = made.len();
+                let _ = outputs.append(&mut made);
+                count
+            }
+            Err(count) => {
+                self.serve_singly(records, limits, &connections[..count], blanks, outputs);
+                count
+            }
+        }
+    }
+
+    /// Serves connections of one request each, those that can be as groups.
+    fn serve_groups<S: Alter>(
+        &self,
+        records: &mut Records<S>,
+        limits: &Limits,
+        connections: &[Vec<u8>],
+        blanks: &mut Vec<Vec<u8>>,
+        outputs: &mut Vec<Vec<u8>>,
+    )
+        requires one { given_most self.now ≡ 1 }
+        requires blank { AllByRecursion IsBlank blanks.old.items }
+        requires enough { length connections.now ≤ length blanks.old.items }
+        requires room { vec_len outputs.old + length connections.now ≤ vec_capacity outputs.old }
+        ensures { ServesMore S.Store (capped (given_rules self.now)) limits.now 1
+            (map vec_items connections.now)
+            outputs.old.items outputs.new.items records.old records.new }
+    {
+        records.lives_are_whole();
+        let mut rest = connections;
+        while !rest.is_empty() {
+            let count = self.serve_some(records, limits, rest, blanks, outputs);
+            (_, rest) = rest.split_at(count);
+        }
     }
 
     /// As `serve_all`, within any limits.
@@ -140,22 +280,22 @@ impl Setup<'_> {
         limits: &Limits,
         connections: &[Vec<u8>],
     ) -> Result<Vec<Vec<u8>>, AllocError>
-        ensures ok { (before after : Lives) →
-            LivesGo (state S.Store records.old) (state S.Store records.new) before after →
-            IfOk result (λ outputs.
-            RunServed (capped (given_rules self.now)) limits.now (given_most self.now) before
-            (map vec_items connections.now) (map vec_items outputs.items) after) }
-        ensures err { Works (state S.Store records.new) → OnErr result
-            (stored (state S.Store records.new) ≡ stored (state S.Store records.old)) }
+        ensures ok { IfOk result (λ outputs. ServesEach S.Store (capped (given_rules self.now))
+            limits.now (given_most self.now) (map vec_items connections.now)
+            (map vec_items outputs.items) records.old records.new) }
+        ensures err { OnErr result (records.new ≡ records.old) }
         ensures worked { Worked (state S.Store records.old) (state S.Store records.new) }
+        ensures kept { Works (state S.Store records.old) →
+            LeavesLives (state S.Store records.old)
+            (λ lives. lives ≡ stored (state S.Store records.old)) }
     {
+        records.lives_are_whole();
         let mut blanks = blank_outputs(self.alloc, connections.len())?;
         let mut outputs = Vec::with_capacity(self.alloc, connections.len())?;
-        for connection in connections {
-            if let Some(blank) = blanks.pop() {
-                let output = self.output_of(records, limits, connection, blank);
-                outputs.push(output)?;
-            }
+        if self.per_connection.number == 1 {
+            self.serve_groups(records, limits, connections, &mut blanks, &mut outputs);
+        } else {
+            self.serve_singly(records, limits, connections, &mut blanks, &mut outputs);
         }
         Ok(outputs)
     }
@@ -168,12 +308,17 @@ impl<S: Alter> Broker<'_, S> {
     /// Serves connections whose bytes are all there, one after the other and within
     /// [`Limits::STANDARD`], and gives the output of each.
     ///
+    /// Where a connection has one request, the changes of several are made in one transaction.
+    ///
     /// What is said of outputs and lives is said where the store works still. Where a fault of the disk
     /// had shut it before the call, the outputs are as from any lives, and the lives stay (`shut`).
     ///
     /// Each output first gets room for a fixed reply, and only there want of memory is an error,
     /// with nothing changed. Later each reply asks for its room before its change is made; where
     /// that is refused it is the fixed 500, whatever the request is, and the connection ends.
+    ///
+    /// Whatever a crash leaves then holds lives that these connections lead to; of each connection the last
+    /// request may have been carried out though its output ends with the 500 (`leaves`).
     ///
     /// Where a connection has one request, a request that is sent again acts once, whatever is refused,
     /// and what is asked about one instance doesn't touch another (`once`).
@@ -197,6 +342,16 @@ impl<S: Alter> Broker<'_, S> {
             (map vec_items connections.now) (map vec_items outputs.items) lives) }
         ensures err { Works (store_of S.Store self.new) →
             OnErr result (lives_of S.Store self.new ≡ lives_of S.Store self.old) }
+        ensures leaves { Works (store_of S.Store self.old) →
+            HasCleanDisk (store_of S.Store self.new) →
+            LeavesLives (store_of S.Store self.new) (λ lives. MatchResult result
+            (λ outputs. (limits : Limits) × AreStandard limits
+            × RunOrLost (capped (rules_in self.old)) limits (most_of self.old)
+            (lives_of S.Store self.old) (map vec_items connections.now)
+            (map vec_items outputs.items) lives)
+            (λ _. lives ≡ lives_of S.Store self.old)) }
+        ensures crash { Survives (store_of S.Store self.old) (store_of S.Store self.new)
+            (λ _. IsTrue (store_of S.Store self.old).is_open) }
         ensures works { Works (store_of S.Store self.new) → Works (store_of S.Store self.old) }
         ensures most { most_of self.new ≡ most_of self.old }
         ensures rules { rules_in self.new ≡ rules_in self.old }

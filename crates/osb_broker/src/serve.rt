@@ -1,14 +1,16 @@
 //! One connection after another, each read in pieces.
 
-ghost use Rattle.std.specs.Prelude.{◌≡◌, ◌<◌, ◌≤◌, ◌+◌, ℕ, List, length, false, IfOk, OnOk, OnErr, IfSome, IsFalse, IsTrue};
+ghost use Rattle.std.specs.Prelude.{◌≡◌, ◌<◌, ◌≤◌, ◌+◌, ℕ, List, length, false, IfOk, OnOk, OnErr, IfSome, IsTrue};
 ghost use Rattle.sqlite.specs.Held.{state};
-ghost use Rattle.sqlite.specs.State.{HasCleanDisk};
-ghost use Rattle.osb_frames.specs.Calls.{Call, all_bytes};
+ghost use Rattle.sqlite.specs.State.{HasCleanDisk, Survives};
+ghost use Rattle.osb_frames.specs.Calls.{Call};
 ghost use Rattle.osb_frames.specs.Cuts.{closes};
 ghost use Rattle.osb_frames.specs.Steps.{message};
 ghost use Rattle.osb_orders.specs.Lives.{Lives};
+ghost use Rattle.osb_statements.specs.Steps.{stored};
 ghost use Rattle.osb_broker.specs.Steps.{machine};
-ghost use Rattle.osb_broker.specs.Answering.{Answers};
+ghost use Rattle.osb_broker.specs.Answering.{Answers, AnswersOrLost};
+ghost use Rattle.osb_broker.specs.Crashes.{EndsAsOrLost, LeavesLives};
 ghost use Rattle.osb_broker.specs.Served.{Served};
 ghost use Rattle.osb_broker.specs.Serving.{HasCause, EachWasNeeded, EndsAtFault, ReadsMade, EndsAs, ReadsOf, WritesOf};
 
@@ -16,6 +18,7 @@ use crate::broker::Broker;
 use crate::buffer::Buffer;
 use crate::fault::ServeFault;
 use crate::filling::{fill, shift};
+use crate::laws::never_fails;
 use crate::refuse::refuse;
 use crate::setup::Setup;
 use osb_frames::{Limits, Request, Sink, Source, Step, next_at_once};
@@ -24,7 +27,7 @@ use osb_replies::{WriteFault, write_reply};
 use sqlite::Alter;
 
 impl Setup<'_> {
-    ghost use Rattle.osb_broker.specs.BrokerState.{LivesGo};
+    ghost use Rattle.osb_broker.specs.BrokerState.{LivesGo, Works};
     ghost use Rattle.osb_broker.specs.Inside.{given_most, given_rules, Worked};
 
     /// Handles a request and writes its reply. Whether the connection closes.
@@ -42,11 +45,20 @@ impl Setup<'_> {
             (W.taken sink.new) (W.failed_or_empty sink.new)
             result }
         ensures worked { Worked (state S.Store records.old) (state S.Store records.new) }
+        ensures leaves { Works (state S.Store records.old) →
+            HasCleanDisk (state S.Store records.new) →
+            LeavesLives (state S.Store records.new) (λ lives.
+            AnswersOrLost (machine (given_rules self.now)) (message request.now) last
+            (stored (state S.Store records.old)) lives
+            (W.taken sink.old) (W.failed_or_empty sink.old)
+            (W.taken sink.new) (W.failed_or_empty sink.new) result) }
         ensures ok { OnOk result (W.failed_or_empty sink.new ≡ W.failed_or_empty sink.old) }
         ensures err { OnErr result (W.failed_or_empty sink.old < W.failed_or_empty sink.new) }
         ensures closes { IfOk result (λ close. close ≡ false →
             closes (message request.now) ≡ false) }
     {
+        never_fails();
+        records.lives_are_whole();
         let reply = self.handled(records, request, last);
         let close = reply.close;
         write_reply(sink, &reply)?;
@@ -64,8 +76,7 @@ impl Setup<'_> {
         sink: &mut W,
     ) -> Result<(), ServeFault>
         requires { limits.now.head + limits.now.body ≤ length room.old }
-        ensures met_fault { IsFalse met_fault.old →
-            OnOk result (IsTrue met_fault.new → EndsAtFault (W.taken sink.new)) }
+        ensures met_fault { OnOk result (IsTrue met_fault.new → EndsAtFault (W.taken sink.new)) }
         ensures cause { HasCause result (R.failures source.old < R.failures source.new)
             (W.failed_or_empty sink.old < W.failed_or_empty sink.new) }
         ensures worked { Worked (state S.Store records.old) (state S.Store records.new) }
@@ -78,8 +89,15 @@ impl Setup<'_> {
             × ((before after : Lives) →
             LivesGo (state S.Store records.old) (state S.Store records.new) before after →
             EndsAs result (machine (given_rules self.now)) limits.now (given_most self.now) before
-            (all_bytes calls) (R.rest source.new) (W.taken sink.old) (W.taken sink.new) after) }
+            calls met_fault.new (W.taken sink.old) (W.taken sink.new) after)
+            × (Works (state S.Store records.old) → HasCleanDisk (state S.Store records.new) →
+            LeavesLives (state S.Store records.new) (λ lives. EndsAsOrLost result
+            (machine (given_rules self.now)) limits.now (given_most self.now)
+            (stored (state S.Store records.old)) calls met_fault.new (W.taken sink.old)
+            (W.taken sink.new) lives)) }
     {
+        records.lives_are_whole();
+        *met_fault = false;
         let mut filled = 0;
         let mut ended = false;
         let mut left = self.per_connection.number;
@@ -129,6 +147,10 @@ impl<S: Alter> Broker<'_, S> {
     /// It takes no memory of its own. After a fault of the sink the text of one reply may have been
     /// written in part; the lives are those after that request. Where a fault of the disk had shut the
     /// store before the call, what needs the lives is answered by the fixed 500, and the rest as ever.
+    ///
+    /// Whatever a crash leaves then holds the lives that the texts show, or those after one request more:
+    /// the last, which was carried out though its client got the 500, or the first bytes of it.
+    #[tactic(auto, unfolding(crate::specs::BrokerState::lives_of))]
     pub fn serve<R: Source, W: Sink>(
         &mut self,
         buffer: &mut Buffer,
@@ -166,8 +188,17 @@ impl<S: Alter> Broker<'_, S> {
             × ((before after : Lives) →
             LivesGo (store_of S.Store self.old) (store_of S.Store self.new) before after →
             EndsAs result (machine (rules_in self.old)) (limits_of buffer.old)
-            (most_of self.old) before (all_bytes calls) (R.rest source.new) (W.taken sink.old)
-            (W.taken sink.new) after) }
+            (most_of self.old) before calls (met_fault buffer.new) (W.taken sink.old)
+            (W.taken sink.new) after)
+            × (Works (store_of S.Store self.old) → HasCleanDisk (store_of S.Store self.new) →
+            LeavesLives (store_of S.Store self.new) (λ lives. EndsAsOrLost result
+            (machine (rules_in self.old)) (limits_of buffer.old) (most_of self.old)
+            (lives_of S.Store self.old) calls (met_fault buffer.new) (W.taken sink.old)
+            (W.taken sink.new) lives)) }
+
+        // A crash leaves what it left before, or lives that the conversation leads to (`outcome`).
+        ensures crash { Survives (store_of S.Store self.old) (store_of S.Store self.new)
+            (λ _. IsTrue (store_of S.Store self.old).is_open) }
     {
         let limits = buffer.limits;
         let mut met_fault = false;

@@ -5,3 +5,4 @@ pub mod FaultOrder
 pub mod Soundness
 pub mod SoundRead
 pub mod PlaceLemmas
+mod FoundLemmas

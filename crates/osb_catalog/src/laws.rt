@@ -1,10 +1,13 @@
 //! Laws of the definitions that the contracts of this crate cite.
 
-ghost use Rattle.std.specs.Prelude.{◌≡◌, ℕ, List, Ok};
+ghost use Rattle.std.specs.Prelude.{◌≡◌, ◌≢◌, ℕ, List, Ok, Err, IsSome};
 ghost use Rattle.osb_catalog.specs.Faults.{settings_of};
+ghost use Rattle.osb_catalog.specs.Found.{place_of};
 ghost use Rattle.osb_catalog.specs.Order.{Stands, IsJudged};
 ghost use Rattle.osb_catalog.specs.Sound.{IsSettings};
 ghost use Rattle.osb_catalog.specs.SettingsData.{SettingsData};
+ghost use Rattle.osb_catalog.specs.declared.fault.SettingsFault.{SettingsFault as TheFault};
+ghost use Rattle.osb_catalog.specs.declared.fault.SettingsFault.TheVariants.{Text};
 
 /// A file has settings only where no fault stands anywhere in it, and otherwise the fault that is
 /// named stands, and none of a lower number does.
@@ -18,4 +21,10 @@ pub fn lowest()
 /// bindings can be fetched, and the limit of orders is from 1 to 1,000,000.
 pub fn sound()
     ensures { (bytes : List ℕ) (settings : SettingsData) → settings_of bytes ≡ Ok settings → IsSettings settings }
+{}
+
+/// Where a file has a fault, some object in it has that fault, unless no object is read from it at all.
+pub fn placed()
+    ensures { (bytes : List ℕ) (fault : TheFault) → settings_of bytes ≡ Err fault → fault ≢ Text
+        → IsSome (place_of fault bytes) }
 {}

@@ -1,14 +1,16 @@
 -- What a command has done.
-use Rattle.std.proofs.Common.{◌≡◌, ◌≢◌, ◌∙◌, refl, sym, ap, subst, Bor, true, bytes_eq, ℕ, List, [], ◌∷◌, map, length, codes, Option, None, option_map, unwrap_or, Result, Ok, Err, IsOk, OnOk, IfErr}
+use Rattle.std.proofs.Common.{◌≡◌, ◌≢◌, ◌∙◌, ◌++◌, refl, sym, ap, subst, Bor, true, bytes_eq, ℕ, List, [], ◌∷◌, map, codes, Option, None, option_map, unwrap_or, Result, Ok, Err, IsOk, OnOk, IfErr}
 use Rattle.std.proofs.lemmas.Bool.{false≢true}
-use Rattle.std.proofs.lemmas.List.{length-map}
 use Rattle.clap.specs.Words.{subcommand_of, takes}
 use Rattle.clap.proofs.OnLiterals.{clap_on_literals}
 use Rattle.osb_cli.specs.Done.{AreChecked, AreConnections, IsDone, IsReplayedBy}
-use Rattle.osb_cli.specs.Inside.{IsReplayedFor, AsksCheck, AsksReplay}
+use Rattle.osb_listen.specs.Listen.{listening_line}
+use Rattle.osb_cli.specs.Files.{AreBytesOfAll, Contents}
+use Rattle.osb_cli.specs.Inside.{IsReplayedFor, AsksCheck, AsksReplay, AsksServe}
 use Rattle.osb_cli.specs.Grammar.{osb_broker}
 use Rattle.osb_cli.specs.Words.{FoundCommand, Names}
 use Rattle.osb_cli.specs.declared.words.Check.{Check}
+use Rattle.osb_cli.specs.declared.words.Listen.{Listen}
 use Rattle.osb_cli.specs.declared.words.Replay.{Replay}
 
 -- without words there is no command
@@ -21,9 +23,10 @@ unfolding clap_on_literals
 nothing_taken = refl
 
 -- each file is one where some are
-pub of_files : (names : List (Bor (List ℕ))) (input : Option (List ℕ)) (files : List (List ℕ)) → names ≢ [] → length files ≡ length names → AreConnections (map (λ it. it.now) names) input files
-of_files [] input files some same = absurd (some refl)
-of_files (name ∷ names) input files some same = same ∙ sym (length-map (name ∷ names) (λ it. it.now))
+pub of_files : (contents : Contents) (names : List (Bor (List ℕ))) (input : Option (List ℕ)) (files : List (List ℕ)) → names ≢ []
+    → AreBytesOfAll contents (map (λ it. it.now) names) files → AreConnections contents (map (λ it. it.now) names) input files
+of_files contents [] input files some are = absurd (some refl)
+of_files contents (name ∷ names) input files some are = are
 
 -- no words name two commands
 pub not_both : (found : FoundCommand) → Names (codes "check") found → Names (codes "serve") found → ⊥
@@ -43,35 +46,38 @@ pub if_failed : {A E : Type 0} (done : Result A E) (P : E → Type 0) → ((faul
 if_failed (Ok x) P known = tt
 if_failed (Err fault) P known = known fault
 
-module _ (found : FoundCommand) (input : Option (List ℕ)) (old new : List ℕ) where
+module _ (contents : Contents) (found : FoundCommand) (input : Option (List ℕ)) (old new : List ℕ) where
   pub is_checked : (asked : Check) → AsksCheck found asked
-      → AreChecked (option_map (λ it. it.now) asked.settings) (option_map (λ it. it.now) asked.database) old new
-      → IsDone found input old new
+      → AreChecked contents (option_map (λ it. it.now) asked.settings) (option_map (λ it. it.now) asked.database) old new
+      → IsDone contents found input old new
   is_checked asked asks checked = record {
     check = λ _. rw (asks.settings, asks.database) at checked;
+    serve = λ is. absurd (not_both found asks.named is);
     replay = λ other another. absurd (other asks.named);
   }
 
   pub is_replayed : (asked : Replay) → AsksReplay found asked
-      → IsReplayedFor asked input old new
-      → IsDone found input old new
+      → IsReplayedFor contents asked input old new
+      → IsDone contents found input old new
   is_replayed asked asks replayed = record {
     check = λ is. absurd (asks.no_check is);
+    serve = λ is. absurd (asks.no_serve is);
     replay = λ _ _. (asked.per_connection.number, asks.per_connection, rw (asks.settings, asks.connections) at replayed);
   }
 
-  -- nothing is said of what `serve` writes to standard output
-  pub is_neither : Names (codes "serve") found → IsDone found input old new
-  is_neither is = record {
-    check = λ checks. absurd (not_both found checks is);
-    replay = λ other another. absurd (another is);
+  pub is_listened : (asked : Listen) → AsksServe found asked → new ≡ old ++ listening_line asked.place.address.now
+      → IsDone contents found input old new
+  is_listened asked asks told = record {
+    check = λ checks. absurd (not_both found checks asks.named);
+    serve = λ _. rw asks.address at told;
+    replay = λ other another. absurd (another asks.named);
   }
 
   -- without words the input is replayed
-  pub is_plain : found ≡ None → IsDone found input old new → IsReplayedBy None 1 [] input old new
-  is_plain none done = plain (subst (λ it. IsDone it input old new) none done)
+  pub is_plain : found ≡ None → IsDone contents found input old new → IsReplayedBy contents None 1 [] input old new
+  is_plain none done = plain (subst (λ it. IsDone contents it input old new) none done)
     where
-      plain : IsDone None input old new → IsReplayedBy None 1 [] input old new
+      plain : IsDone contents None input old new → IsReplayedBy contents None 1 [] input old new
       plain it =
           let replay = it.replay (λ is. cc) (λ is. cc) in
-          subst (λ most. IsReplayedBy None most [] input old new) replay.1 replay.2
+          subst (λ most. IsReplayedBy contents None most [] input old new) replay.1 replay.2

@@ -1,4 +1,7 @@
 mod DoneLemmas
+mod FilesLemmas
+mod LineLemmas
+mod ReportedLemmas
 mod ServeLemmas
 mod StatusLemmas
 mod WordLemmas

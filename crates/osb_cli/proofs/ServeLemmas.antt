@@ -1,58 +1,70 @@
 -- What `serve` leaves of a database file.
-use Rattle.std.proofs.Common.{◌≡◌, refl, ℕ, List, sym, subst, arith, Option, None, Some, IfNone, IfSome, IsSome, Result, Ok, Err, IsErr, OnOk, IfErr}
+use Rattle.std.proofs.Common.{◌≡◌, ◌≤◌, ◌∙◌, refl, ℕ, Bool, List, sym, subst, arith, Option, None, Some, IfNone, IfSome, IsSome, Result, Ok, Err, IsErr, IsErrAnd, IsOk, OnOk, OnErr, IfErr}
 use Rattle.std.proofs.lemmas.Option.{IfSome_then}
 use Rattle.sqlite.specs.Tree.{Trees}
+use Rattle.sqlite.specs.State.{State}
 use Rattle.osb_catalog.specs.Rules.{rules_of}
 use Rattle.osb_catalog.specs.SettingsData.{SettingsData}
 use Rattle.osb_orders.specs.Lives.{Lives}
 use Rattle.osb_listen.specs.declared.fault.ListenFault.{ListenFault}
 use Rattle.osb_listen.specs.declared.fault.ListenFault.TheVariants as listen
-use Rattle.osb_listen.specs.Held.{ServesFrom, IsInUse, LeavesOf}
+use Rattle.osb_listen.specs.Held.{IsInUse, LeavesFile, LeavesOf, LeavesWith, Serving}
 use Rattle.osb_cli.specs.declared.fault.Unserved.{Unserved}
 use Rattle.osb_cli.specs.declared.fault.Unserved.TheVariants.{Fault, PlanInUse}
-use Rattle.osb_cli.specs.Settings.{AreAccepted}
+use Rattle.osb_cli.specs.Files.{Contents}
+use Rattle.osb_cli.specs.Settings.{AreOfFile}
 use Rattle.osb_cli.specs.Words.{FoundCommand}
 use Rattle.osb_cli.specs.declared.words.Listen.{Listen}
-use Rattle.osb_cli.specs.Serve.{IsServed, IsServedAs, LacksPlan, NamesSome}
+use Rattle.osb_cli.specs.Serve.{LacksPlan, Leaves, LeavesAs, NamesSome, settings_name}
 use Rattle.osb_cli.specs.Inside.{IsPlan, NameOne, NamesInUse, AsksServe}
 
-module _ (settings : SettingsData) (accepted : AreAccepted settings) (k count : ℕ) (db : Trees) (new : Lives) (told_old told_new : List ℕ) where
-  pub is_served : ServesFrom (rules_of settings) k count db new told_old told_new → IsServed k count db new told_old told_new
-  is_served served = record { settings = settings; accepted = accepted; served = served }
+pub is_left : (contents : Contents) (name : List ℕ) (settings : SettingsData) → AreOfFile contents name settings → (k : ℕ) (existing : Bool) (db : Trees) (serving : Serving) (now : State)
+    → LeavesFile (rules_of settings) k existing db serving now → Leaves contents name k existing db serving now
+is_left contents name settings are k existing db serving now leaves = record { settings = settings; are = are; leaves = leaves }
 
-  lacking : (service plan found named : List ℕ) → found ≡ service → named ≡ plan → IsInUse (rules_of settings) db service plan → LacksPlan db found named
+module _ (contents : Contents) (name : List ℕ) (settings : SettingsData) (are : AreOfFile contents name settings) (k : ℕ) (existing : Bool) (db : Trees) (serving : Serving) (new : Lives) where
+  lacking : (service plan found named : List ℕ) → found ≡ service → named ≡ plan → IsInUse (rules_of settings) db service plan → LacksPlan contents name db found named
   lacking service plan found named is_service is_plan lacks = record {
     settings = settings;
-    accepted = accepted;
+    are = are;
     lacks = subst (λ (text : List ℕ). IsInUse (rules_of settings) db text named) (sym is_service)
         (subst (λ (text : List ℕ). IsInUse (rules_of settings) db service text) (sym is_plan) lacks);
   }
 
-  pub names_in_use : (fault : ListenFault) (told : Unserved) → NameOne fault told → LeavesOf (rules_of settings) k count db new told_old told_new fault → NamesInUse db told
-  names_in_use fault (Fault other) one leaves = tt
-  names_in_use (listen.PlanInUse service plan) (PlanInUse found named) one leaves = lacking service plan found named one.0 one.1 leaves
-  names_in_use (listen.Database fault) (PlanInUse found named) one leaves = absurd one
-  names_in_use listen.Memory (PlanInUse found named) one leaves = absurd one
-  names_in_use listen.CannotListen (PlanInUse found named) one leaves = absurd one
-  names_in_use listen.CannotWrite (PlanInUse found named) one leaves = absurd one
-  names_in_use listen.CannotAccept (PlanInUse found named) one leaves = absurd one
-  names_in_use listen.FileTaken (PlanInUse found named) one leaves = absurd one
+  names_it : (fault : ListenFault) (told : Unserved) → NameOne fault told → LeavesWith (rules_of settings) k existing db serving new (Err fault) → NamesInUse contents name db told
+  names_it fault (Fault other) one leaves = tt
+  names_it (listen.PlanInUse service plan) (PlanInUse found named) one leaves = lacking service plan found named one.0 one.1 leaves
+  names_it (listen.Database fault) (PlanInUse found named) one leaves = absurd one
+  names_it listen.Memory (PlanInUse found named) one leaves = absurd one
+  names_it listen.CannotListen (PlanInUse found named) one leaves = absurd one
+  names_it listen.CannotWrite (PlanInUse found named) one leaves = absurd one
+  names_it listen.CannotAccept (PlanInUse found named) one leaves = absurd one
+  names_it listen.FileTaken (PlanInUse found named) one leaves = absurd one
 
--- as many connections as the words say
-pub served_as : (found : FoundCommand) (asked : Listen) (db : Trees) (new : Lives) (told_old told_new : List ℕ) → AsksServe found asked
-    → IsServed asked.per_connection.number asked.place.connections db new told_old told_new → IsServedAs found db new told_old told_new
-served_as found asked db new told_old told_new asks served = record {
+  pub names_in_use : (result : Result (Unit {0}) ListenFault) (fault : ListenFault) (told : Unserved) → serving.ended ≡ result → result ≡ Err fault → NameOne fault told → LeavesOf (rules_of settings) k existing db serving new
+      → NamesInUse contents name db told
+  names_in_use result fault told is failed one leaves =
+      names_it fault told one (subst (λ (ended : Result (Unit {0}) ListenFault). LeavesWith (rules_of settings) k existing db serving new ended) (is ∙ failed) leaves)
+
+-- where all went well, serving did
+pub ended_well : (ended result : Result (Unit {0}) ListenFault) (x : Unit {0}) → ended ≡ result → result ≡ Ok x → IsOk ended
+ended_well ended result x is well = subst (λ (r : Result (Unit {0}) ListenFault). IsOk r) (sym (is ∙ well)) refl
+
+-- as the words say
+pub left_as : (contents : Contents) (found : FoundCommand) (asked : Listen) (db : Trees) (serving : Serving) (now : State) → AsksServe found asked
+    → Leaves contents asked.settings.now asked.per_connection.number asked.place.existing db serving now → LeavesAs contents found db serving now
+left_as contents found asked db serving now asks left = record {
   per_connection = asked.per_connection.number;
   of_each = asks.per_connection;
-  connections = asked.place.connections;
-  of_all = asks.connections;
-  served = served;
+  existing = asked.place.existing;
+  of_file = asks.existing;
+  left = subst (λ name. Leaves contents name asked.per_connection.number asked.place.existing db serving now) asks.settings left;
 }
 
 -- a fault that names a plan names one that is lacking
-pub names_some : (db : Trees) (fault : Unserved) → IsPlan fault → NamesInUse db fault → NamesSome db
-names_some db (PlanInUse service plan) is lacks = (service, plan, lacks)
-names_some db (Fault fault) is lacks = absurd is
+pub names_some : (contents : Contents) (found : FoundCommand) (db : Trees) (fault : Unserved) → IsPlan fault → NamesInUse contents (settings_name found) db fault → NamesSome contents found db
+names_some contents found db (PlanInUse service plan) is lacks = (service, plan, lacks)
+names_some contents found db (Fault fault) is lacks = absurd is
 
 -- a fault of status 4 says what it says of the connection
 pub fault_if_4 : {A C : Type 0} (done : Result A Unserved) (status : ℕ) (conn : Option C) (P : Unserved → C → Type 0) (Q : C → Type 0)
@@ -67,11 +79,22 @@ serves_if_4 (Ok x) status zero is plan serves = absurd (omega (arith, is, zero))
 serves_if_4 (Err fault) status zero is plan serves = serves plan
 
 -- what was done well opened the file, where only a fault leaves it
-pub is_opened : {A E C : Type 0} (done : Result A E) (conn : Option C) (fault : E) (x : A) → done ≡ Ok x → IfNone conn (done ≡ Err fault) → IsSome conn
-is_opened done None fault x is leaves = cc
-is_opened done (Some c) fault x is leaves = refl
+pub is_opened : {A E C : Type 0} (done : Result A E) (conn : Option C) (P : E → Type 0) (x : A) → done ≡ Ok x → IfNone conn (IsErrAnd done P) → IsSome conn
+is_opened (Ok y) None P x is leaves = absurd leaves
+is_opened (Err fault) None P x is leaves = cc
+is_opened done (Some c) P x is leaves = refl
 
 -- nothing is asked of what was done in vain
 pub in_vain : {A E : Type 0} (done : Result A E) (P : Type 0) → IsErr done → OnOk done P
 in_vain (Ok x) P is = cc
 in_vain (Err fault) P is = tt
+
+-- a fault is what a status other than 0 comes of
+pub fault_if_some : {A E C : Type 0} (done : Result A E) (status : ℕ) (conn : Option C) (P Q : C → Type 0) → OnOk done (status ≡ 0) → 1 ≤ status
+    → OnErr done (IfSome conn P) → ((c : C) → P c → Q c) → IfSome conn Q
+fault_if_some (Ok x) status conn P Q zero some known f = absurd (omega (arith, some, zero))
+fault_if_some (Err fault) status conn P Q zero some known f = IfSome_then conn known f
+
+pub if_none_then : {C Q R : Type 0} (conn : Option C) → IfNone conn Q → (Q → R) → IfNone conn R
+if_none_then None known f = f known
+if_none_then (Some c) known f = tt

@@ -1,11 +1,11 @@
 -- What clap finds in the words.
-use Rattle.std.proofs.Common.{◌≡◌, ◌∙◌, ◌≤◌, ◌<◌, ◌^◌, refl, sym, ap, ap₂, arith, ℕ, Bool, true, false, not, ◌&&◌, List, [], Bor, Option, Some, None, option_map, unwrap_or, Result, Ok, Err}
+use Rattle.std.proofs.Common.{◌≡◌, ◌∙◌, ◌≤◌, ◌<◌, ◌^◌, refl, sym, ap, ap₂, arith, codes, ℕ, Bool, true, false, not, ◌&&◌, List, [], Bor, Option, Some, None, option_map, unwrap_or, Result, Ok, Err}
 use Rattle.std.specs.Str.Parse.{IsNumeral, ParsesUnsigned, digits_value, without_leading_plus}
 use Rattle.clap.specs.Words.{App, HasMatchesOf, ReadsOne, Row, Text, is_simple, subcommand_name_of, subcommand_of, subcommand_rows_of}
 use Rattle.clap.specs.declared.parser.matches.ArgMatches.{ArgMatches}
 use Rattle.clap.proofs.OnLiterals.{clap_on_literals}
 use Rattle.osb_cli.specs.Grammar.{osb_broker}
-use Rattle.osb_cli.specs.Words.{HasNumber}
+use Rattle.osb_cli.specs.Words.{HasFlag, HasNumber}
 
 -- a command that is plain has no argument that is global
 pub has_no_globals : (a b c rest : Bool) → (a && (not b && (not c && rest))) ≡ true → c ≡ false
@@ -19,6 +19,11 @@ pub text_or : (o : Option (Bor (List ℕ))) (result other : Bor (List ℕ)) (tex
     → result ≡ unwrap_or o other → option_map (λ it. it.now) o ≡ text → result.now ≡ unwrap_or text other.now
 text_or None result other text is found = ap (λ it. it.now) is ∙ ap (λ o. unwrap_or o other.now) found
 text_or (Some s) result other text is found = ap (λ it. it.now) is ∙ ap (λ o. unwrap_or o other.now) found
+
+-- what clap reads of a flag
+pub flag_given : (found text : Option (List ℕ)) (given : Bool) → found ≡ text → (found ≡ None → given ≡ false) → (found ≡ Some (codes "true") → given ≡ true) → HasFlag text given
+flag_given found None given same none some = none same
+flag_given found (Some text) given same none some = λ is. some (same ∙ ap Some is)
 
 -- the words are read as those of a simple command
 simple : is_simple osb_broker ≡ true

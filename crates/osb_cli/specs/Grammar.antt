@@ -46,9 +46,11 @@ replay_command = with_rule (with_rule (with_rule (new_app (codes "replay"))
     (text_option (codes "settings"))) per_connection_option) files_word
 
 abbrev pub serve_command : App
-serve_command = with_rule (with_rule (with_rule (with_rule (with_rule (with_rule (new_app (codes "serve"))
-    (required_option (codes "settings"))) (required_option (codes "database"))) (required_option (codes "listen")))
-    per_connection_option) (number_option (codes "connections") 1000000)) (number_option (codes "time-limit") 86400)
+serve_command = with_rule (with_rule (with_rule (with_rule (with_rule (with_rule (with_rule (with_rule (new_app (codes "serve"))
+    (required_option (codes "settings"))) (required_option (codes "database"))) (flag_option (codes "existing")))
+    (required_option (codes "listen"))) per_connection_option)
+    (number_option (codes "connections") 1000000)) (number_option (codes "time-limit") 86400))
+    (number_option (codes "together") 1024)
 
 -- the words come without the program's name, and `help` is no command
 abbrev pub osb_broker : App

@@ -1,13 +1,18 @@
 -- What the words ask for, and what was done of it. For contracts inside the crate.
 use Rattle.std.specs.Prelude.{ℕ, List, map, Option, option_map, ◌≡◌, ⊤, ◌*◌, [], codes, unwrap_or}
 use Rattle.osb_cli.specs.declared.words.Replay.{Replay}
+use Rattle.osb_cli.specs.Files.{Contents}
 use Rattle.osb_cli.specs.Done.{IsReplayedBy}
 use Rattle.sqlite.specs.Tree.{Trees}
 use Rattle.osb_listen.specs.declared.fault.ListenFault.{ListenFault}
 use Rattle.osb_listen.specs.declared.fault.ListenFault.TheVariants as listen
+use Rattle.osb_catalog.specs.declared.fault.SettingsFault.{SettingsFault}
+use Rattle.osb_cli.specs.declared.fault.Fault.TheVariants as fault
+use Rattle.osb_cli.specs.declared.fault.Fault as faults
+use Rattle.osb_cli.specs.Reported.{HasPlace}
 use Rattle.osb_cli.specs.declared.fault.Unserved.{Unserved}
 use Rattle.osb_cli.specs.declared.fault.Unserved.TheVariants.{Fault, PlanInUse}
-use Rattle.osb_cli.specs.Serve.{LacksPlan}
+use Rattle.osb_cli.specs.Serve.{LacksPlan, settings_name}
 use Rattle.std.specs.Duration.{as_nanos}
 use Rattle.clap.specs.Words.{all_of, found_of, one_of, rows_of}
 use Rattle.clap.specs.declared.parser.matches.ArgMatches.{ArgMatches}
@@ -15,17 +20,17 @@ use Rattle.osb_cli.specs.declared.words.Check.{Check}
 use Rattle.osb_cli.specs.declared.words.Listen.{Listen}
 use Rattle.osb_cli.specs.declared.words.Job.{Job}
 use Rattle.osb_cli.specs.declared.words.Job.TheVariants as order
-use Rattle.osb_cli.specs.Words.{FoundCommand, Names, text_in, texts_in, number_text_in, HasNumber, HasPerConnection, HasConnections}
+use Rattle.osb_cli.specs.Words.{FoundCommand, Names, text_in, texts_in, one_text_in, HasNumber, HasPerConnection, HasConnections, HasExisting, HasTogether}
 
 -- as a replay was asked for
-abbrev pub IsReplayedFor : Replay → Option (List ℕ) → List ℕ → List ℕ → Type 0
-IsReplayedFor asked = IsReplayedBy (option_map (λ it. it.now) asked.settings) asked.per_connection.number
+abbrev pub IsReplayedFor : Contents → Replay → Option (List ℕ) → List ℕ → List ℕ → Type 0
+IsReplayedFor contents asked = IsReplayedBy contents (option_map (λ it. it.now) asked.settings) asked.per_connection.number
     (map (λ it. it.now) asked.connections.items)
 
 -- a plan that is named as in use is one
-abbrev pub NamesInUse : Trees → Unserved → Type 0
-NamesInUse db (PlanInUse service plan) = LacksPlan db service plan
-NamesInUse db (Fault fault) = ⊤
+abbrev pub NamesInUse : Contents → List ℕ → Trees → Unserved → Type 0
+NamesInUse contents name db (PlanInUse service plan) = LacksPlan contents name db service plan
+NamesInUse contents name db (Fault fault) = ⊤
 
 -- a fault of serving and the one that the command has for it name the same plan, or none
 abbrev pub NameOne : ListenFault → Unserved → Type 0
@@ -39,14 +44,14 @@ IsPlan (PlanInUse service plan) = ⊤
 IsPlan (Fault fault) = ⊥
 
 -- the same of what clap found behind the command's name
-abbrev pub number_text_of : List ℕ → ArgMatches → Option (List ℕ)
-number_text_of id found = one_of id (rows_of (found_of found))
+abbrev pub one_text_of : List ℕ → ArgMatches → Option (List ℕ)
+one_text_of id found = one_of id (rows_of (found_of found))
 
 abbrev pub option_texts_of : List ℕ → ArgMatches → List (List ℕ)
 option_texts_of id found = unwrap_or (all_of id (rows_of (found_of found))) []
 
 abbrev pub HasTimeLimit : FoundCommand → ℕ → Type 0
-HasTimeLimit found = HasNumber 86400 10 (number_text_in (codes "time-limit") found)
+HasTimeLimit found = HasNumber 86400 10 (one_text_in (codes "time-limit") found)
 
 pub record AsksReplay (found : FoundCommand) (asked : Replay) : Type 0 where
   pub no_check : ¬ Names (codes "check") found
@@ -57,14 +62,16 @@ pub record AsksReplay (found : FoundCommand) (asked : Replay) : Type 0 where
 
 pub record AsksServe (found : FoundCommand) (asked : Listen) : Type 0 where
   pub named : Names (codes "serve") found
-  pub settings : asked.settings.now ≡ unwrap_or (text_in (codes "settings") found) []
+  pub settings : asked.settings.now ≡ settings_name found
   pub database : asked.place.database.now ≡ unwrap_or (text_in (codes "database") found) []
+  pub existing : HasExisting found asked.place.existing
   pub address : asked.place.address.now ≡ unwrap_or (text_in (codes "listen") found) []
   pub connections : HasConnections found asked.place.connections
   pub per_connection : HasPerConnection found asked.per_connection.number
   pub seconds : ℕ
   pub time_limit : as_nanos asked.place.time_limit ≡ seconds * 1000000000
   pub limit : HasTimeLimit found seconds
+  pub together : HasTogether found asked.per_connection.number asked.place.together
 
 pub record AsksCheck (found : FoundCommand) (asked : Check) : Type 0 where
   pub named : Names (codes "check") found
@@ -76,3 +83,19 @@ abbrev pub Asks : FoundCommand → Job → Type 0
 Asks found (order.Check asked) = AsksCheck found asked
 Asks found (order.Replay asked) = AsksReplay found asked
 Asks found (order.Serve asked) = AsksServe found asked
+
+-- the fault isn't one of settings
+abbrev pub IsOther : faults.Fault → Type 0
+IsOther (fault.Settings found) = ⊥
+IsOther (fault.Placed found place) = ⊥
+IsOther _ = ⊤
+
+abbrev pub IsOtherUnserved : Unserved → Type 0
+IsOtherUnserved (Fault other) = IsOther other
+IsOtherUnserved (PlanInUse service plan) = ⊤
+
+-- the same fault of settings, at its place where one was found
+abbrev pub IsPlacedBy : (List ℕ → Type 0) → SettingsFault → faults.Fault → Type 0
+IsPlacedBy IsText of (fault.Settings found) = found ≡ of
+IsPlacedBy IsText of (fault.Placed found place) = (found ≡ of) × HasPlace IsText of place
+IsPlacedBy IsText of _ = ⊤

@@ -8,9 +8,13 @@ pub mod Done
 pub mod Replay
 -- What `serve` leaves of a database file.
 pub mod Serve
--- The settings that a command is given.
+-- The settings and the files that a command is given.
+pub mod Files
 pub mod Settings
 pub mod BuiltIn
+-- The status and the lines of each fault.
+pub mod Lines
+pub mod Reported
 -- For contracts inside the crate.
 pub mod Inside
 pub mod Input

@@ -1,33 +1,47 @@
--- What `serve` leaves of a database file, of which is supposed what it held.
-use Rattle.std.specs.Prelude.{ℕ, List}
+-- What `serve` did, and what it leaves of a database file, of which is supposed what it held.
+use Rattle.std.specs.Prelude.{ℕ, Bool, List, [], codes, unwrap_or}
 use Rattle.sqlite.specs.Tree.{Trees}
+use Rattle.sqlite.specs.State.{State}
 use Rattle.osb_catalog.specs.Rules.{rules_of}
 use Rattle.osb_catalog.specs.SettingsData.{SettingsData}
-use Rattle.osb_orders.specs.Lives.{Lives}
-use Rattle.osb_listen.specs.Held.{ServesFrom, IsInUse}
-use Rattle.osb_cli.specs.Settings.{AreAccepted}
-use Rattle.osb_cli.specs.Words.{FoundCommand, HasConnections, HasPerConnection}
+use Rattle.osb_broker.specs.Conversations.{Conversation}
+use Rattle.osb_listen.specs.Held.{HasServed, IsInUse, LeavesFile, Serving}
+use Rattle.osb_cli.specs.Files.{Contents}
+use Rattle.osb_cli.specs.Settings.{AreOfFile}
+use Rattle.osb_cli.specs.Words.{FoundCommand, HasConnections, HasExisting, HasPerConnection, text_in}
 
--- so many connections were served, by accepted settings, from the lives that stand in these trees
-pub record IsServed (per_connection connections : ℕ) (db : Trees) (new : Lives) (told_old told_new : List ℕ) : Type 0 where
+-- the settings file that the words name
+abbrev pub settings_name : FoundCommand → List ℕ
+settings_name found = unwrap_or (text_in (codes "settings") found) []
+
+-- what serving by the settings of a file leaves, where the database file held these trees
+pub record Leaves (contents : Contents) (name : List ℕ) (per_connection : ℕ) (existing : Bool) (db : Trees) (serving : Serving) (now : State) : Type 0 where
   pub settings : SettingsData
-  pub accepted : AreAccepted settings
-  pub served : ServesFrom (rules_of settings) per_connection connections db new told_old told_new
+  pub are : AreOfFile contents name settings
+  pub leaves : LeavesFile (rules_of settings) per_connection existing db serving now
 
--- as many as the words say
-pub record IsServedAs (found : FoundCommand) (db : Trees) (new : Lives) (told_old told_new : List ℕ) : Type 0 where
+-- by the settings that the words name, with as many requests of each client as they say, and from an existing database
+-- where they ask for one
+pub record LeavesAs (contents : Contents) (found : FoundCommand) (db : Trees) (serving : Serving) (now : State) : Type 0 where
   pub per_connection : ℕ
   pub of_each : HasPerConnection found per_connection
+  pub existing : Bool
+  pub of_file : HasExisting found existing
+  pub left : Leaves contents (settings_name found) per_connection existing db serving now
+
+-- as many clients as the words say were served, or fewer
+pub record HasServedAs (found : FoundCommand) (serving : Serving) (journal_old journal_new : List Conversation) (said_old said_new : List ℕ) (failed_old failed_new : ℕ) : Type 0 where
   pub connections : ℕ
   pub of_all : HasConnections found connections
-  pub served : IsServed per_connection connections db new told_old told_new
+  pub served : HasServed connections serving journal_old journal_new said_old said_new failed_old failed_new
 
--- accepted settings lack this plan, which the lives in these trees have in use
-pub record LacksPlan (db : Trees) (service plan : List ℕ) : Type 0 where
+-- the settings of a file lack this plan, which the lives in these trees have in use
+pub record LacksPlan (contents : Contents) (name : List ℕ) (db : Trees) (service plan : List ℕ) : Type 0 where
   pub settings : SettingsData
-  pub accepted : AreAccepted settings
+  pub are : AreOfFile contents name settings
   pub lacks : IsInUse (rules_of settings) db service plan
 
 -- some plan that the lives in these trees have in use is lacking
-abbrev pub NamesSome : Trees → Type 0
-NamesSome db = (service plan : List ℕ) × LacksPlan db service plan
+abbrev pub NamesSome : Contents → FoundCommand → Trees → Type 0
+NamesSome contents found db =
+    (service plan : List ℕ) × LacksPlan contents (settings_name found) db service plan

@@ -1,5 +1,5 @@
 -- What the words ask for.
-use Rattle.std.specs.Prelude.{◌≡◌, ◌≤◌, ℕ, true, List, [], codes, Option, None, Some, option_map, option_and_then, unwrap_or}
+use Rattle.std.specs.Prelude.{◌≡◌, ◌≤◌, ◌==◌, if◌then◌else◌, ℕ, Bool, true, false, List, [], codes, Option, None, Some, option_map, option_and_then, unwrap_or}
 use Rattle.std.specs.Str.Parse.{IsNumeral, digits_value, without_leading_plus}
 use Rattle.clap.specs.Words.{Row, Text, all_of, first_of, one_of, subcommand_of, takes}
 use Rattle.osb_cli.specs.Grammar.{osb_broker}
@@ -27,9 +27,9 @@ text_in id = option_and_then (λ it. first_of id it.1)
 abbrev pub texts_in : List ℕ → FoundCommand → List (List ℕ)
 texts_in id found = unwrap_or (option_and_then (λ it. all_of id it.1) found) []
 
--- the text of an option that is a number
-abbrev pub number_text_in : List ℕ → FoundCommand → Option (List ℕ)
-number_text_in id = option_and_then (λ it. one_of id it.1)
+-- the text of an option that has one value
+abbrev pub one_text_in : List ℕ → FoundCommand → Option (List ℕ)
+one_text_in id = option_and_then (λ it. one_of id it.1)
 
 -- the number of this text, if it is one from 1 to the most, as clap demands; without a text another
 abbrev pub HasNumber : ℕ → ℕ → Option (List ℕ) → ℕ → Type 0
@@ -37,8 +37,23 @@ HasNumber most other None n = n ≡ other
 HasNumber most other (Some text) n = let digits = without_leading_plus text in
     IsNumeral 10 digits → 1 ≤ digits_value 10 digits → digits_value 10 digits ≤ most → n ≡ digits_value 10 digits
 
+-- whether a flag of this text is given: clap has the text `true` where it is, and none where it isn't
+abbrev pub HasFlag : Option (List ℕ) → Bool → Type 0
+HasFlag None given = given ≡ false
+HasFlag (Some text) given = text ≡ codes "true" → given ≡ true
+
 abbrev pub HasPerConnection : FoundCommand → ℕ → Type 0
-HasPerConnection found = HasNumber 1000 1 (number_text_in (codes "per-connection") found)
+HasPerConnection found = HasNumber 1000 1 (one_text_in (codes "per-connection") found)
 
 abbrev pub HasConnections : FoundCommand → ℕ → Type 0
-HasConnections found = HasNumber 1000000 1000000 (number_text_in (codes "connections") found)
+HasConnections found = HasNumber 1000000 1000000 (one_text_in (codes "connections") found)
+
+abbrev pub HasExisting : FoundCommand → Bool → Type 0
+HasExisting found = HasFlag (one_text_in (codes "existing") found)
+
+-- how many clients may be connected at the same time where nothing is asked for, by how many requests each may make
+abbrev pub default_together : ℕ → ℕ
+default_together per_connection = if per_connection == 1 then 64 else 1
+
+abbrev pub HasTogether : FoundCommand → ℕ → ℕ → Type 0
+HasTogether found per_connection = HasNumber 1024 (default_together per_connection) (one_text_in (codes "together") found)

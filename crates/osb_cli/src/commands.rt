@@ -1,20 +1,23 @@
 //! What the words ask for, done.
 
-ghost use Rattle.std.specs.Prelude.{◌≡◌, ◌≤◌, [], codes, map, string_bytes, None, IfSome, IsSome};
-ghost use Rattle.std.specs.Prelude.{IsErr, IsOk, IfErr, OnOk, OnErr};
+ghost use Rattle.std.specs.Prelude.{◌≡◌, ◌≤◌, ℕ, List, [], codes, map, string_bytes, None, IfNone, IfSome, IsSome};
+ghost use Rattle.std.specs.Prelude.{IsErr, IsErrAnd, IsOk, IfErr, OnOk, OnErr, option_map};
 ghost use Rattle.clap.specs.Words.{kind_of};
 ghost use Rattle.sqlite.specs.Tree.{Trees};
-ghost use Rattle.sqlite_wal.specs.Files.{image_at};
-ghost use Rattle.sqlite.specs.Files.{file_state, HoldsDatabase};
-ghost use Rattle.osb_statements.specs.Steps.{stored};
+ghost use Rattle.sqlite.specs.Held.{state};
+ghost use Rattle.osb_file.specs.File.{HasTrees};
 ghost use Rattle.osb_broker.specs.BrokerState.{Works};
 ghost use Rattle.osb_cli.specs.Done.{IsDone, IsReplayedBy};
-ghost use Rattle.osb_cli.specs.Inside.{IsReplayedFor, IsPlan, NamesInUse};
-ghost use Rattle.osb_cli.specs.Serve.{IsServedAs, NamesSome};
+ghost use Rattle.osb_cli.specs.Inside.{IsOther, IsReplayedFor, IsPlan, NamesInUse};
+ghost use Rattle.osb_cli.specs.Reported.{IsOfText, IsReported, IsSettingsText, IsStatusOf, IsTextOf, IsUnservedOf, Reports};
+ghost use Rattle.osb_cli.specs.declared.fault.Unserved.TheVariants as Unserved;
+ghost use Rattle.osb_listen.specs.Held.{Serving};
+ghost use Rattle.osb_cli.specs.Serve.{HasServedAs, LeavesAs, NamesSome, settings_name};
 ghost use Rattle.osb_cli.specs.Words.{AreTaken, Names, found_by};
 
 use crate::check::check;
 use crate::fault::{Fault, Unserved};
+use crate::files::NamedFiles;
 use crate::listen::listen;
 use crate::output::write;
 use crate::replay::{replay_files, replay_input};
@@ -22,15 +25,16 @@ use crate::settings::settings_or_built_in;
 use crate::words::{Job, Replay, read};
 use clap::Error;
 use clap::error::ErrorKind;
-use osb_file::Opened;
+use osb_file::{Database, Opened};
 use osb_frames::{Sink, Source};
-use sqlite::Start;
+use osb_listen::Entrance;
 use std::alloc::Global;
 
 /// The text of clap's answer to words that aren't those of a command: an error, or the help or the
 /// version that was asked for.
 fn answer_words<W: Sink>(alloc: Global, error: &Error, output: &mut W) -> Result<(), Fault<'static>>
-    ensures { kind_of error.now ≡ ErrorKind.OutOfMemory → IsErr result }
+    ensures memory { kind_of error.now ≡ ErrorKind.OutOfMemory → IsErr result }
+    ensures other { IfErr result IsOther }
 {
     if error.kind() == ErrorKind::OutOfMemory {
         return Err(Fault::OutOfMemory);
@@ -43,29 +47,36 @@ fn answer_words<W: Sink>(alloc: Global, error: &Error, output: &mut W) -> Result
 }
 
 /// Serves the connections that the words name, or standard input.
-fn replay<'a, R: Source, W: Sink>(
-    rt: &HostRuntime,
+fn replay<'a, F: NamedFiles, R: Source, W: Sink>(
+    alloc: Global,
+    files: &F,
     asked: &Replay<'a>,
     input: &mut R,
     output: &mut W,
 ) -> Result<(), Fault<'a>>
-    ensures { OnOk result (IsReplayedFor asked.now (R.rest input.old)
-        (W.taken output.old) (W.taken output.new)) }
+    ensures replayed { OnOk result (IsReplayedFor (F.contents files.now) asked.now
+        (R.rest input.old) (W.taken output.old) (W.taken output.new)) }
+    ensures fault { IfErr result (IsOfText (IsTextOf (F.contents files.now)
+        (option_map (λ it. it.now) asked.now.settings))) }
 {
-    let settings = settings_or_built_in(rt, asked.settings)?;
+    let settings = settings_or_built_in(alloc, files, asked.settings)?;
     let names = asked.connections.as_slice();
     if names.is_empty() {
-        replay_input(rt.alloc(), &settings, asked.per_connection, input, output)
+        replay_input(alloc, &settings, asked.per_connection, input, output)
     } else {
-        replay_files(rt, &settings, asked.per_connection, names, output)
+        replay_files(alloc, files, &settings, asked.per_connection, names, output)
     }
 }
 
 /// What was done without a database file.
-fn without_file<'a, S: Start>(done: Result<(), Fault<'a>>) -> (Result<(), Unserved<'a>>, Opened<S>)
+fn without_file<'a, D: Database>(
+    done: Result<(), Fault<'a>>,
+) -> (Result<(), Unserved<'a>>, Opened<D::Store>)
     ensures none { result.1 ≡ None }
     ensures well { OnOk result.0 (IsOk done.entry) }
     ensures other { IfErr result.0 (λ fault. ¬ IsPlan fault) }
+    ensures same { IfErr result.0 (λ told.
+        IsErrAnd done.entry (λ fault. told ≡ Unserved.Fault fault)) }
 {
     match done {
         Ok(()) => (Ok(()), None),
@@ -74,37 +85,52 @@ fn without_file<'a, S: Start>(done: Result<(), Fault<'a>>) -> (Result<(), Unserv
 }
 
 /// Does what the words ask for, and hands out the connection to the database file that it opened.
-fn perform<'a, S: Start, R: Source, W: Sink, E: Sink>(
+fn perform<'a, D: Database, F: NamedFiles, L: Entrance, R: Source, W: Sink, E: Sink>(
     rt: &HostRuntime,
+    files: &F,
     words: &'a [String],
-    start: S,
+    database: D,
+    entrance: &mut L,
     input: &mut R,
     output: &mut W,
     errors: &mut E,
-) -> (Result<(), Unserved<'a>>, Opened<S>)
+) -> (Result<(), Unserved<'a>>, Opened<D::Store>)
     ensures done { AreTaken (map string_bytes words.now) →
-        OnOk result.0 (IsDone (found_by (map string_bytes words.now)) (R.rest input.old)
-        (W.taken output.old) (W.taken output.new)) }
-    ensures served { OnOk result.0 (IfSome result.1 (λ conn. Works (file_state conn) →
-        (db : Trees) → HoldsDatabase (image_at S.Start) db →
-        IsServedAs (found_by (map string_bytes words.now)) db (stored (file_state conn))
-        (E.taken errors.old) (E.taken errors.new))) }
+        OnOk result.0 (IsDone (F.contents files.now) (found_by (map string_bytes words.now))
+        (R.rest input.old) (W.taken output.old) (W.taken output.new)) }
+    ensures served { IfSome result.1 (λ conn. (serving : Serving)
+        × OnOk result.0 (IsOk serving.ended)
+        × HasServedAs (found_by (map string_bytes words.now)) serving
+        (L.journal entrance.old) (L.journal entrance.new) (E.taken errors.old) (E.taken errors.new)
+        (E.failed_or_empty errors.old) (E.failed_or_empty errors.new)
+        × ((db : Trees) → HasTrees (D.held database) db →
+        LeavesAs (F.contents files.now) (found_by (map string_bytes words.now)) db serving
+        (state D.Store.Store conn))) }
     ensures opened { AreTaken (map string_bytes words.now) →
         Names (codes "serve") (found_by (map string_bytes words.now)) →
         OnOk result.0 (IsSome result.1) }
+    ensures untouched { IfNone result.1 (errors.new ≡ errors.old) }
+    ensures unasked { IfNone result.1 (entrance.new ≡ entrance.old) }
+    ensures fault { IfErr result.0 (IsUnservedOf
+        (IsSettingsText (F.contents files.now) (found_by (map string_bytes words.now)))) }
+    ensures unopened { ¬ Names (codes "serve") (found_by (map string_bytes words.now)) →
+        result.1 ≡ None }
     ensures serves { IfErr result.0 (λ fault. IsPlan fault →
         Names (codes "serve") (found_by (map string_bytes words.now))) }
-    ensures lacks { IfErr result.0 (λ fault. IfSome result.1 (λ conn. Works (file_state conn) →
-        (db : Trees) → HoldsDatabase (image_at S.Start) db → NamesInUse db fault)) }
+    ensures lacks { IfErr result.0 (λ fault. IfSome result.1 (λ conn.
+        Works (state D.Store.Store conn) →
+        (db : Trees) → HasTrees (D.held database) db →
+        NamesInUse (F.contents files.now) (settings_name (found_by (map string_bytes words.now)))
+        db fault)) }
 {
     let order = match read(rt.alloc(), words) {
         Ok(order) => order,
-        Err(error) => return without_file(answer_words(rt.alloc(), &error, output)),
+        Err(error) => return without_file::<D>(answer_words(rt.alloc(), &error, output)),
     };
     match order {
-        Job::Check(asked) => without_file(check(rt, &asked, output)),
-        Job::Replay(asked) => without_file(replay(rt, &asked, input, output)),
-        Job::Serve(asked) => listen(rt, &asked, start, output, errors),
+        Job::Check(asked) => without_file::<D>(check(rt.alloc(), files, &asked, output)),
+        Job::Replay(asked) => without_file::<D>(replay(rt.alloc(), files, &asked, input, output)),
+        Job::Serve(asked) => listen(rt, files, &asked, database, entrance, output, errors),
     }
 }
 
@@ -115,6 +141,9 @@ fn status_of<E: Sink>(done: Result<(), Unserved<'_>>, errors: &mut E) -> u8
     ensures fails { OnErr done.entry (1 ≤ result) }
     ensures quiet { OnOk done.entry (E.taken errors.new ≡ E.taken errors.old) }
     ensures plan { result ≡ 4 → IfErr done.entry IsPlan }
+    ensures reports { IfErr done.entry (λ fault. IsReported fault result
+        (E.taken errors.old) (E.taken errors.new)
+        (E.failed_or_empty errors.old) (E.failed_or_empty errors.new)) }
 {
     let Err(fault) = done else {
         return 0;
@@ -130,40 +159,60 @@ fn status_of<E: Sink>(done: Result<(), Unserved<'_>>, errors: &mut E) -> u8
 /// standard output failed, the database can't be used or its file is taken away, the address can't be
 /// listened at or a connection can't be taken, 2 where the words aren't those of a command, 3 where
 /// settings aren't accepted, and 4 where the catalog lacks a plan that the database has in use. A status
-/// other than 0 has a line on `errors`; a failed write there is passed over. While `serve` goes on, a
-/// fault of a connection is a line there, and the next connection is taken.
+/// other than 0 has its line on `errors`, behind all that `serve` wrote there; a failed write there is
+/// passed over. While `serve` goes on, a fault of a connection is a line there, and the next connection
+/// is taken.
 ///
 /// Where the words are those of a command, so no help was asked for, what was written with status 0 is
-/// the lines of `check`, or exactly the replies of `replay`; of files nothing is said but that each is a
-/// connection. Without any words it replays the whole input with the built-in settings, one request.
+/// the lines of `check`, the listening line of `serve`, or exactly the replies of `replay`. Without any
+/// words it replays the whole input with the built-in settings, one request.
 ///
-/// `start` stands for what the file of `serve`'s database holds. What is said of lives is said of each
-/// database that it may hold, of the connection to it.
-pub fn run<S: Start, R: Source, W: Sink, E: Sink>(
+/// `files` are the files that the words name, but for the database of `serve`, which is `database`: what
+/// is said of lives is said of each database that it may have, of the connection to it, which is there
+/// where the file was opened. `entrance` is where the clients of `serve` come from, and its journal has
+/// what was said with them.
+pub fn run<D: Database, F: NamedFiles, L: Entrance, R: Source, W: Sink, E: Sink>(
     rt: &HostRuntime,
+    files: &F,
     words: &[String],
-    start: S,
+    database: D,
+    entrance: &mut L,
     input: &mut R,
     output: &mut W,
     errors: &mut E,
-) -> (u8, Opened<S>)
+) -> (u8, Opened<D::Store>)
     ensures most { result.0 ≤ 4 }
     ensures done { AreTaken (map string_bytes words.now) → result.0 ≡ 0 →
-        IsDone (found_by (map string_bytes words.now)) (R.rest input.old)
+        IsDone (F.contents files.now) (found_by (map string_bytes words.now)) (R.rest input.old)
         (W.taken output.old) (W.taken output.new) }
     ensures plain { words.now ≡ [] → result.0 ≡ 0 →
-        IsReplayedBy None 1 [] (R.rest input.old) (W.taken output.old) (W.taken output.new) }
-    ensures served { result.0 ≡ 0 → IfSome result.1 (λ conn. Works (file_state conn) →
-        (db : Trees) → HoldsDatabase (image_at S.Start) db →
-        IsServedAs (found_by (map string_bytes words.now)) db (stored (file_state conn))
-        (E.taken errors.old) (E.taken errors.new)) }
+        IsReplayedBy (F.contents files.now) None 1 [] (R.rest input.old)
+        (W.taken output.old) (W.taken output.new) }
+    ensures served { IfSome result.1 (λ conn. (serving : Serving) × (said : List ℕ) × (failed : ℕ)
+        × HasServedAs (found_by (map string_bytes words.now)) serving
+        (L.journal entrance.old) (L.journal entrance.new) (E.taken errors.old) said
+        (E.failed_or_empty errors.old) failed
+        × IsStatusOf (F.contents files.now) (found_by (map string_bytes words.now)) serving.ended
+        result.0 said (E.taken errors.new) failed (E.failed_or_empty errors.new)
+        × ((db : Trees) → HasTrees (D.held database) db →
+        LeavesAs (F.contents files.now) (found_by (map string_bytes words.now)) db serving
+        (state D.Store.Store conn))) }
+    ensures unasked { IfNone result.1 (entrance.new ≡ entrance.old) }
+    ensures quiet { result.0 ≡ 0 → IfNone result.1 (E.taken errors.new ≡ E.taken errors.old) }
+    ensures reports { 1 ≤ result.0 → IfNone result.1 (Reports
+        (F.contents files.now) (found_by (map string_bytes words.now)) result.0
+        (E.taken errors.old) (E.taken errors.new)
+        (E.failed_or_empty errors.old) (E.failed_or_empty errors.new)) }
+    ensures unopened { ¬ Names (codes "serve") (found_by (map string_bytes words.now)) →
+        result.1 ≡ None }
     ensures opened { AreTaken (map string_bytes words.now) → result.0 ≡ 0 →
         Names (codes "serve") (found_by (map string_bytes words.now)) → IsSome result.1 }
     ensures serves { result.0 ≡ 4 →
         Names (codes "serve") (found_by (map string_bytes words.now)) }
-    ensures lacks { result.0 ≡ 4 → IfSome result.1 (λ conn. Works (file_state conn) →
-        (db : Trees) → HoldsDatabase (image_at S.Start) db → NamesSome db) }
+    ensures lacks { result.0 ≡ 4 → IfSome result.1 (λ conn. Works (state D.Store.Store conn) →
+        (db : Trees) → HasTrees (D.held database) db →
+        NamesSome (F.contents files.now) (found_by (map string_bytes words.now)) db) }
 {
-    let (done, conn) = perform(rt, words, start, input, output, errors);
+    let (done, conn) = perform(rt, files, words, database, entrance, input, output, errors);
     (status_of(done, errors), conn)
 }

@@ -1,10 +1,14 @@
 //! Why a command ends with another status than 0.
 
-ghost use Rattle.std.specs.Prelude.{◌≡◌, ◌≤◌};
+ghost use Rattle.std.specs.Prelude.{◌≡◌, ◌≤◌, ◌∷◌, [], map};
+ghost use Rattle.std.specs.List.{concat};
+ghost use Rattle.osb_catalog.specs.FaultNames.{field_in};
+ghost use Rattle.osb_listen.specs.Lines.{Says};
+ghost use Rattle.osb_cli.specs.Lines.{database_fault_line, place_line, settings_line, unseen_lines};
 
 use itoa::Buffer;
 use osb_catalog::{Place, SettingsFault};
-use osb_file::Unseen;
+use osb_file::{FileFault, Unseen};
 use osb_frames::{Sink, send_all};
 use osb_records::StoreFault;
 use osb_text::Text;
@@ -20,7 +24,7 @@ pub(crate) enum Fault<'a> {
     /// Memory was refused.
     OutOfMemory,
     /// The database can't be used.
-    Database(StoreFault),
+    Database(FileFault),
     /// Standard output doesn't take what is written.
     CannotWrite,
     /// Connections can't be taken at that address.
@@ -70,23 +74,33 @@ impl From<Unseen> for Fault<'_> {
 
 impl From<StoreFault> for Fault<'_> {
     ghost use Rattle.std.specs.Prelude.{◌≡◌};
+    ghost use Rattle.osb_file.specs.Faults.{file_fault_of};
     ghost use Rattle.osb_cli.specs.declared.fault.Fault.TheVariants.{Database};
 
-    ghost from_gives = { λ store fault. fault ≡ Database store };
+    ghost from_gives = { λ store fault. fault ≡ Database (file_fault_of store) };
 
     fn from(store: StoreFault) -> Self {
-        Fault::Database(store)
+        Fault::Database(FileFault::from(store))
     }
 }
 
 impl<'a> From<Fault<'a>> for Unserved<'a> {
+    ghost use Rattle.std.specs.Prelude.{◌≡◌};
+    ghost use Rattle.osb_cli.specs.declared.fault.Unserved.TheVariants.{Fault};
+
+    ghost from_gives = { λ fault unserved. unserved ≡ Fault fault };
+
     fn from(fault: Fault<'a>) -> Self {
         Unserved::Fault(fault)
     }
 }
 
 /// Writes the pieces, one behind the other. A failed write is passed over.
-pub(crate) fn say<E: Sink>(errors: &mut E, pieces: &[&str]) {
+pub(crate) fn say<E: Sink>(errors: &mut E, pieces: &[&str])
+    ensures { Says (concat (map (λ it. it.now) pieces.now) ∷ [])
+        (E.taken errors.old) (E.taken errors.new)
+        (E.failed_or_empty errors.old) (E.failed_or_empty errors.new) }
+{
     for piece in pieces {
         if send_all(errors, piece.as_bytes()).is_err() {
             return;
@@ -95,7 +109,11 @@ pub(crate) fn say<E: Sink>(errors: &mut E, pieces: &[&str]) {
 }
 
 /// Writes the line of a settings fault: its number, its name and, where it has one, its field.
-fn print_settings_fault<E: Sink>(fault: SettingsFault, errors: &mut E) {
+fn print_settings_fault<E: Sink>(fault: SettingsFault, errors: &mut E)
+    ensures { Says (settings_line fault (field_in fault) ∷ [])
+        (E.taken errors.old) (E.taken errors.new)
+        (E.failed_or_empty errors.old) (E.failed_or_empty errors.new) }
+{
     let mut digits = Buffer::new();
     let number = digits.format(fault.number());
     match fault.field() {
@@ -116,7 +134,11 @@ fn print_settings_fault<E: Sink>(fault: SettingsFault, errors: &mut E) {
 }
 
 /// Writes where in the settings a fault is.
-fn tell_place<E: Sink>(place: &Place, errors: &mut E) {
+fn print_place<E: Sink>(place: &Place, errors: &mut E)
+    ensures { Says (place_line place.now ∷ [])
+        (E.taken errors.old) (E.taken errors.new)
+        (E.failed_or_empty errors.old) (E.failed_or_empty errors.new) }
+{
     let (mut digits, mut more) = (Buffer::new(), Buffer::new());
     match place {
         Place::File => say(errors, &["at the top\n"]),
@@ -139,26 +161,38 @@ fn tell_place<E: Sink>(place: &Place, errors: &mut E) {
 }
 
 /// Writes the line of a database file that can't be looked at, and behind it the cause.
-fn tell_unseen<E: Sink>(unseen: Unseen, errors: &mut E) {
-    print_database_fault(unseen.store_fault(), errors);
+fn print_unseen<E: Sink>(unseen: Unseen, errors: &mut E)
+    ensures { Says (unseen_lines unseen)
+        (E.taken errors.old) (E.taken errors.new)
+        (E.failed_or_empty errors.old) (E.failed_or_empty errors.new) }
+{
+    print_database_fault(unseen.fault(), errors);
     if unseen != Unseen::NotOurs {
         say(errors, &[unseen.text(), "\n"]);
     }
 }
 
 /// Writes the line of a fault of the database: its number and its name.
-fn print_database_fault<E: Sink>(fault: StoreFault, errors: &mut E) {
+fn print_database_fault<E: Sink>(fault: FileFault, errors: &mut E)
+    ensures { Says (database_fault_line fault ∷ [])
+        (E.taken errors.old) (E.taken errors.new)
+        (E.failed_or_empty errors.old) (E.failed_or_empty errors.new) }
+{
     match fault {
-        StoreFault::Refused => say(errors, &["database: 1 Refused\n"]),
-        StoreFault::NotOurs => say(errors, &["database: 2 NotOurs\n"]),
+        FileFault::Refused => say(errors, &["database: 1 Refused\n"]),
+        FileFault::NotOurs => say(errors, &["database: 2 NotOurs\n"]),
+        FileFault::Missing => say(errors, &["database: 3 Missing\n"]),
     }
 }
 
 impl Fault<'_> {
+    ghost use Rattle.osb_cli.specs.Lines.{fault_lines, fault_status};
+
     /// The status that the process ends with.
     pub(crate) fn status(&self) -> u8
         ensures some { 1 ≤ result }
         ensures most { result ≤ 3 }
+        ensures is { result ≡ fault_status self.now }
     {
         match self {
             Fault::CannotRead(_)
@@ -175,7 +209,11 @@ impl Fault<'_> {
     }
 
     /// Writes the line that reports it. It takes no memory.
-    pub(crate) fn print_line<E: Sink>(&self, errors: &mut E) {
+    pub(crate) fn print_line<E: Sink>(&self, errors: &mut E)
+        ensures { Says (fault_lines self.now)
+            (E.taken errors.old) (E.taken errors.new)
+            (E.failed_or_empty errors.old) (E.failed_or_empty errors.new) }
+    {
         match self {
             Fault::CannotRead(file) => say(errors, &["osb-broker: cannot read ", file, "\n"]),
             Fault::TooLarge(file) => say(errors, &["osb-broker: too large ", file, "\n"]),
@@ -191,21 +229,23 @@ impl Fault<'_> {
             Fault::Settings(fault) => print_settings_fault(*fault, errors),
             Fault::Placed(fault, place) => {
                 print_settings_fault(*fault, errors);
-                tell_place(place, errors);
+                print_place(place, errors);
             }
-            Fault::Unseen(unseen) => tell_unseen(*unseen, errors),
+            Fault::Unseen(unseen) => print_unseen(*unseen, errors),
         }
     }
 }
 
 impl Unserved<'_> {
     ghost use Rattle.osb_cli.specs.Inside.{IsPlan};
+    ghost use Rattle.osb_cli.specs.Lines.{unserved_lines, unserved_status};
 
     /// The status that the process ends with.
     pub(crate) fn status(&self) -> u8
         ensures some { 1 ≤ result }
         ensures most { result ≤ 4 }
         ensures plan { result ≡ 4 → IsPlan self.now }
+        ensures is { result ≡ unserved_status self.now }
     {
         match self {
             Unserved::Fault(fault) => fault.status(),
@@ -214,7 +254,11 @@ impl Unserved<'_> {
     }
 
     /// Writes the line that reports it. It takes no memory.
-    pub(crate) fn print_line<E: Sink>(&self, errors: &mut E) {
+    pub(crate) fn print_line<E: Sink>(&self, errors: &mut E)
+        ensures { Says (unserved_lines self.now)
+            (E.taken errors.old) (E.taken errors.new)
+            (E.failed_or_empty errors.old) (E.failed_or_empty errors.new) }
+    {
         match self {
             Unserved::Fault(fault) => fault.print_line(errors),
             Unserved::PlanInUse(service, plan) => say(

@@ -17,9 +17,10 @@ const STATUS: &str = "With no command it does `replay`.
 
 Status:
   0  all went well, or help or the version was asked for
-  1  a file can't be read or is too large, the database is refused or isn't
-     one of this broker, its file is taken away, memory is refused, standard
-     output doesn't take what is written, or connections can't be taken
+  1  a file can't be read or is too large, the database is refused, isn't one
+     of this broker or is missing, its file is taken away, memory is refused,
+     standard output doesn't take what is written, or connections can't be
+     taken
   2  the words are not those of a command
   3  the settings are not accepted
   4  the settings lack a plan that the database has in use
@@ -33,7 +34,7 @@ settings, as `settings: 2 Missing id`, and with `--explain` where it is, as
 `at catalog.services[0].plans[1]`. docs/SETTINGS.md lists the fields and the
 faults.
 Of a database file it prints what it has, as `instances 2, bindings 1, running
-0`; or on standard error why `serve` wouldn't open it, as `database: 1 Refused`
+0`, or `new` where it has no tables yet; or on standard error why `serve` wouldn't open it, as `database: 1 Refused`
 and behind it `in use`. It reads the file and its log into memory and changes
 neither, so it may look at a backup, or at the file of a broker that runs.";
 
@@ -48,17 +49,21 @@ long as it runs.";
 const SERVE: &str = "Serve connections at an address";
 
 const SERVE_MORE: &str =
-    "Prints `listening on ADDR`, and then takes one connection after the other. A
-connection that fails, or isn't done in time, is a line on standard error,
-`connection: read` or `connection: write`, and the next one is taken. The
+    "Prints `listening on ADDR`, and then serves clients. Many are connected at the
+same time, and each is served as soon as its request is whole. One that fails,
+or isn't done in time, is a line on standard error, `connection: read` or
+`connection: write`. With `--together 1` they are taken one after the other, and
+so they are where more than one request of a connection is answered. The
 broker keeps its orders in the database: a change is there before its request
 is answered, and stays there however the program ends. A file that isn't there
-is made, for its owner alone. What has not been copied into it yet stands in a
-second file, its name with `-wal` behind. Once the file is taken away, no
-connection is answered, and the program ends.";
+is made, and only its owner may read it. A database that is begun is a line on
+standard error, `database: new`; with `--existing` none is begun, and the
+program ends with `database: 3 Missing`. What has not been copied into the file
+yet is in a second one, its name with `-wal` behind. Once one of the two is
+taken away, no connection is answered, and the program ends.";
 
 const SERVE_USAGE: &str =
-    "osb-broker serve --settings FILE --database FILE --listen ADDR [--per-connection N] [--connections N] [--time-limit SECONDS]";
+    "osb-broker serve --settings FILE --database FILE [--existing] --listen ADDR [--per-connection N] [--connections N] [--time-limit SECONDS] [--together N]";
 
 /// `--ID VALUE`, which may be left out.
 fn text_option<'a>(alloc: Global, id: &'a str, value: &'a str, help: &'a str) -> Arg<'a>
@@ -78,15 +83,15 @@ fn settings_word<'a>(alloc: Global) -> Arg<'a>
     )
 }
 
-/// `--explain`.
-fn explain_option<'a>(alloc: Global) -> Arg<'a>
-    ensures rule { rule_of result ≡ flag_option (codes "explain") }
+/// `--ID`.
+fn flag_option<'a>(alloc: Global, id: &'a str, help: &'a str) -> Arg<'a>
+    ensures rule { rule_of result ≡ flag_option id.now }
     ensures local { result.global ≡ false }
 {
-    Arg::new(alloc, "explain")
-        .long("explain")
+    Arg::new(alloc, id)
+        .long(id)
         .action(ArgAction::SetTrue)
-        .help("Says where in the settings a fault is")
+        .help(help)
 }
 
 /// `--ID VALUE`, which has to be there.
@@ -133,6 +138,20 @@ fn time_limit_option<'a>(alloc: Global) -> Arg<'a>
         .value_parser(value_parser!(u32).range(1..=86_400))
 }
 
+/// `--together` and its number.
+fn together_option<'a>(alloc: Global) -> Arg<'a>
+    ensures rule { rule_of result ≡ number_option (codes "together") 1024 }
+    ensures local { result.global ≡ false }
+{
+    Arg::new(alloc, "together")
+        .long("together")
+        .value_name("N")
+        .help(
+            "How many clients are connected at the same time, 1 to 1024; without it 64, or 1 with more than one request of a connection",
+        )
+        .value_parser(value_parser!(u32).range(1..=1024))
+}
+
 /// The files of `replay`.
 fn files_word<'a>(alloc: Global) -> Arg<'a>
     ensures rule { rule_of result ≡ files_word }
@@ -167,11 +186,12 @@ fn check_command<'a>(alloc: Global) -> Result<Command<'a>, Error>
     ensures err { IfErr result (λ error. kind_of error ≡ ErrorKind.OutOfMemory) }
 {
     let usage = "osb-broker check [--explain] [--database FILE] [FILE]";
+    let place = "Says where in the settings a fault is";
     let path = "A database file to look at";
     Ok(
         begun(alloc, "check", CHECK, CHECK_MORE, usage)
             .arg(settings_word(alloc))?
-            .arg(explain_option(alloc))?
+            .arg(flag_option(alloc, "explain", place))?
             .arg(text_option(alloc, "database", "FILE", path))?,
     )
 }
@@ -197,15 +217,18 @@ fn serve_command<'a>(alloc: Global) -> Result<Command<'a>, Error>
     ensures err { IfErr result (λ error. kind_of error ≡ ErrorKind.OutOfMemory) }
 {
     let made = "The database file; it is made where there is none";
+    let existing = "Begins no database: one has to be there";
     let address = "An IP address and a port, as 127.0.0.1:8080";
     Ok(
         begun(alloc, "serve", SERVE, SERVE_MORE, SERVE_USAGE)
             .arg(required_option(alloc, "settings", "FILE", "The settings file"))?
             .arg(required_option(alloc, "database", "FILE", made))?
+            .arg(flag_option(alloc, "existing", existing))?
             .arg(required_option(alloc, "listen", "ADDR", address))?
             .arg(per_connection_option(alloc))?
             .arg(connections_option(alloc))?
-            .arg(time_limit_option(alloc))?,
+            .arg(time_limit_option(alloc))?
+            .arg(together_option(alloc))?,
     )
 }
 

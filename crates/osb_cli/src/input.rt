@@ -1,12 +1,14 @@
 //! Files and standard input, read whole up to a limit.
 
-ghost use Rattle.std.specs.Prelude.{◌≡◌, ◌≤◌, ◌<◌, ◌++◌, length, ◌+◌, IfOk, IfErr, IfSome};
+ghost use Rattle.std.specs.Prelude.{◌≡◌, ◌≤◌, ◌<◌, ◌++◌, length, map, vec_items, ◌+◌, IfOk, IfErr, IfSome};
+ghost use Rattle.osb_cli.specs.Files.{AreBytesOf, AreBytesOfAll};
 ghost use Rattle.osb_cli.specs.Input.{HasReadCause};
+ghost use Rattle.osb_cli.specs.Inside.{IsOther};
 
 use crate::fault::Fault;
-use osb_frames::{Counted, Source};
+use crate::files::NamedFiles;
+use osb_frames::Source;
 use std::alloc::{AllocError, Global};
-use std::fs::File;
 
 /// The most bytes that a file or standard input may have.
 pub(crate) const MOST_BYTES: usize = 16_777_216;
@@ -15,7 +17,7 @@ const PIECE: usize = 4096;
 
 /// Why an input wasn't read.
 #[derive(Clone, Copy, Debug, PartialEq, Eq)]
-pub(crate) enum ReadFault {
+pub enum ReadFault {
     /// A read failed.
     Failed,
     /// It has more bytes than the limit.
@@ -26,7 +28,9 @@ pub(crate) enum ReadFault {
 
 impl ReadFault {
     /// The fault, with the name of what was read.
-    fn of(self, name: &str) -> Fault<'_> {
+    fn of(self, name: &str) -> Fault<'_>
+        ensures { IsOther result }
+    {
         match self {
             ReadFault::Failed => Fault::CannotRead(name),
             ReadFault::TooLarge => Fault::TooLarge(name),
@@ -76,7 +80,8 @@ pub(crate) fn read_whole<R: Source>(alloc: Global, source: &mut R) -> Result<Vec
 
 /// Reads standard input, or what stands in its place.
 pub(crate) fn read_input<R: Source>(alloc: Global, input: &mut R) -> Result<Vec<u8>, Fault<'static>>
-    ensures { IfOk result (λ bytes. IfSome (R.rest input.old) (λ all. all ≡ bytes.items)) }
+    ensures read { IfOk result (λ bytes. IfSome (R.rest input.old) (λ all. all ≡ bytes.items)) }
+    ensures other { IfErr result IsOther }
 {
     match read_whole(alloc, input) {
         Ok(bytes) => Ok(bytes),
@@ -85,24 +90,35 @@ pub(crate) fn read_input<R: Source>(alloc: Global, input: &mut R) -> Result<Vec<
 }
 
 /// Reads a file.
-pub(crate) fn read_file<'a>(rt: &HostRuntime, name: &'a str) -> Result<Vec<u8>, Fault<'a>> {
-    let Ok(file) = File::open(rt, name) else {
-        return Err(Fault::CannotRead(name));
-    };
-    match read_whole(rt.alloc(), &mut Counted::new(file)) {
+pub(crate) fn read_file<'a, F: NamedFiles>(
+    alloc: Global,
+    files: &F,
+    name: &'a str,
+) -> Result<Vec<u8>, Fault<'a>>
+    ensures read { IfOk result (λ bytes.
+        AreBytesOf (F.contents files.now) name.entry.now bytes.items) }
+    ensures other { IfErr result IsOther }
+{
+    match files.read(alloc, name) {
         Ok(bytes) => Ok(bytes),
         Err(fault) => Err(fault.of(name)),
     }
 }
 
 /// Reads files, in the order of their names.
-pub(crate) fn read_files<'a>(rt: &HostRuntime, names: &[&'a str]) -> Result<Vec<Vec<u8>>, Fault<'a>>
-    ensures { IfOk result (λ files. length files.items ≡ length names.now) }
+pub(crate) fn read_files<'a, F: NamedFiles>(
+    alloc: Global,
+    files: &F,
+    names: &[&'a str],
+) -> Result<Vec<Vec<u8>>, Fault<'a>>
+    ensures read { IfOk result (λ read. AreBytesOfAll (F.contents files.now)
+        (map (λ it. it.now) names.now) (map vec_items read.items)) }
+    ensures other { IfErr result IsOther }
 {
-    let mut files = Vec::with_capacity(rt.alloc(), names.len())?;
+    let mut read = Vec::with_capacity(alloc, names.len())?;
     for name in names {
-        let bytes = read_file(rt, name)?;
-        files.push(bytes).map_err(AllocError::from)?;
+        let bytes = read_file(alloc, files, name)?;
+        read.push(bytes).map_err(AllocError::from)?;
     }
-    Ok(files)
+    Ok(read)
 }

@@ -5,6 +5,7 @@
 mod check;
 mod commands;
 mod fault;
+mod files;
 mod grammar;
 mod input;
 mod listen;
@@ -12,8 +13,11 @@ mod output;
 mod per_connection;
 mod replay;
 mod settings;
+mod stack;
 mod unread;
 mod words;
 
 pub use commands::run;
+pub use files::{HostFiles, NamedFiles};
+pub use input::ReadFault;
 pub use unread::words_unread;

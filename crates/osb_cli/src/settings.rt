@@ -1,17 +1,21 @@
 //! The settings that a command is given.
 
-ghost use Rattle.std.specs.Prelude.{◌≡◌, Ok, IfOk, option_map};
+ghost use Rattle.std.specs.Prelude.{◌≡◌, Ok, IfErr, IfOk, option_map};
 ghost use Rattle.osb_catalog.specs.Faults.{settings_of};
-ghost use Rattle.osb_cli.specs.Settings.{AreAccepted, AreSettingsOf, built_in};
+ghost use Rattle.osb_cli.specs.Files.{AreBytesOf};
+ghost use Rattle.osb_cli.specs.Reported.{IsOfText, IsTextOf};
+ghost use Rattle.osb_cli.specs.Settings.{AreOfFile, AreSettingsOf, built_in};
 
 use crate::fault::Fault;
+use crate::files::NamedFiles;
 use crate::input::read_file;
 use osb_catalog::{BUILT_IN, Settings, SettingsFault};
 use std::alloc::Global;
 
 /// Reads settings from their text.
 fn settings_of(alloc: Global, text: &[u8]) -> Result<Settings, Fault<'static>>
-    ensures { IfOk result (λ settings. settings_of text.now ≡ Ok settings) }
+    ensures is { IfOk result (λ settings. settings_of text.now ≡ Ok settings) }
+    ensures fault { IfErr result (IsOfText (λ it. it ≡ text.now)) }
 {
     match Settings::read(alloc, text) {
         Ok(settings) => Ok(settings),
@@ -21,11 +25,16 @@ fn settings_of(alloc: Global, text: &[u8]) -> Result<Settings, Fault<'static>>
 }
 
 /// Reads the settings of a file.
-pub(crate) fn read_settings<'a>(rt: &HostRuntime, file: &'a str) -> Result<Settings, Fault<'a>>
-    ensures { IfOk result AreAccepted }
+pub(crate) fn read_settings<'a, F: NamedFiles>(
+    alloc: Global,
+    files: &F,
+    name: &'a str,
+) -> Result<Settings, Fault<'a>>
+    ensures are { IfOk result (AreOfFile (F.contents files.now) name.entry.now) }
+    ensures fault { IfErr result (IsOfText (AreBytesOf (F.contents files.now) name.entry.now)) }
 {
-    let text = read_file(rt, file)?;
-    settings_of(rt.alloc(), text.as_slice())
+    let text = read_file(alloc, files, name)?;
+    settings_of(alloc, text.as_slice())
 }
 
 /// The text of the built-in settings.
@@ -36,14 +45,18 @@ fn built_in() -> &'static str
 }
 
 /// Reads the settings of a file, or the built-in ones where none is named.
-pub(crate) fn settings_or_built_in<'a>(
-    rt: &HostRuntime,
+pub(crate) fn settings_or_built_in<'a, F: NamedFiles>(
+    alloc: Global,
+    files: &F,
     file: Option<&'a str>,
 ) -> Result<Settings, Fault<'a>>
-    ensures { IfOk result (AreSettingsOf (option_map (λ it. it.now) file.entry)) }
+    ensures are { IfOk result (AreSettingsOf (F.contents files.now)
+        (option_map (λ it. it.now) file.entry)) }
+    ensures fault { IfErr result (IsOfText (IsTextOf (F.contents files.now)
+        (option_map (λ it. it.now) file.entry))) }
 {
     match file {
-        Some(file) => read_settings(rt, file),
-        None => settings_of(rt.alloc(), built_in().as_bytes()),
+        Some(name) => read_settings(alloc, files, name),
+        None => settings_of(alloc, built_in().as_bytes()),
     }
 }

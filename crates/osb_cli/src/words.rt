@@ -3,8 +3,8 @@
 ghost use Rattle.std.specs.Prelude.{◌≡◌, ◌≢◌, ◌*◌, ℕ, List, map, true, IfOk, IfErr, string_bytes, Some, None, [], codes, unwrap_or};
 ghost use Rattle.std.specs.Duration.{as_nanos};
 ghost use Rattle.clap.specs.Words.{kind_of, found_of, rows_of};
-ghost use Rattle.osb_cli.specs.Words.{AreTaken, HasNumber, found_by};
-ghost use Rattle.osb_cli.specs.Inside.{Asks, number_text_of, option_texts_of};
+ghost use Rattle.osb_cli.specs.Words.{AreTaken, HasNumber, default_together, found_by};
+ghost use Rattle.osb_cli.specs.Inside.{Asks, one_text_of, option_texts_of};
 
 use crate::grammar::osb_broker;
 use crate::per_connection::PerConnection;
@@ -58,11 +58,15 @@ pub(crate) enum Job<'a> {
 /// The most connections that one run takes.
 const MOST_CONNECTIONS: u32 = 1_000_000;
 
+/// How many clients may be connected at the same time where nothing is asked for and each may make one
+/// request.
+const TOGETHER: u32 = 64;
+
 /// How many seconds a connection may take where nothing is asked for.
 const TIME_LIMIT: u32 = 10;
 
 fn per_connection_of(found: &ArgMatches<'_>) -> PerConnection
-    ensures { HasNumber 1000 1 (number_text_of (codes "per-connection") found.now) result.number }
+    ensures { HasNumber 1000 1 (one_text_of (codes "per-connection") found.now) result.number }
 {
     match found.get_one::<u32>("per-connection") {
         Some(number) => PerConnection::of(number).unwrap_or(PerConnection::ONE),
@@ -71,7 +75,7 @@ fn per_connection_of(found: &ArgMatches<'_>) -> PerConnection
 }
 
 fn connections_of(found: &ArgMatches<'_>) -> u32
-    ensures { HasNumber 1000000 1000000 (number_text_of (codes "connections") found.now) result }
+    ensures { HasNumber 1000000 1000000 (one_text_of (codes "connections") found.now) result }
 {
     found
         .get_one::<u32>("connections")
@@ -80,9 +84,23 @@ fn connections_of(found: &ArgMatches<'_>) -> u32
 
 /// The time limit, in seconds.
 fn time_limit_of(found: &ArgMatches<'_>) -> u32
-    ensures { HasNumber 86400 10 (number_text_of (codes "time-limit") found.now) result }
+    ensures { HasNumber 86400 10 (one_text_of (codes "time-limit") found.now) result }
 {
     found.get_one::<u32>("time-limit").unwrap_or(TIME_LIMIT)
+}
+
+/// How many clients may be connected at the same time where nothing is asked for, by how many requests
+/// each may make.
+fn default_together(per_connection: u32) -> u32
+    ensures { result ≡ default_together per_connection }
+{
+    if per_connection == 1 { TOGETHER } else { 1 }
+}
+
+fn together_of(found: &ArgMatches<'_>, otherwise: u32) -> u32
+    ensures { HasNumber 1024 otherwise (one_text_of (codes "together") found.now) result }
+{
+    found.get_one::<u32>("together").unwrap_or(otherwise)
 }
 
 /// The files that the words after `replay` name.
@@ -124,15 +142,19 @@ fn replay_order<'a>(alloc: Global, found: &ArgMatches<'a>) -> Result<Job<'a>, Al
 fn serve_order<'a>(found: &ArgMatches<'a>) -> Job<'a>
     ensures { Asks (Some (codes "serve", rows_of (found_of found.now))) result }
 {
+    let per_connection = per_connection_of(found);
+    let otherwise = default_together(per_connection.number());
     Job::Serve(Listen {
         settings: found.get_str("settings").unwrap_or(""),
         place: ListenOptions {
             database: found.get_str("database").unwrap_or(""),
+            existing: found.get_flag("existing"),
             address: found.get_str("listen").unwrap_or(""),
             connections: connections_of(found),
             time_limit: Duration::from_secs(u64::from(time_limit_of(found))),
+            together: together_of(found, otherwise),
         },
-        per_connection: per_connection_of(found),
+        per_connection,
     })
 }
 

@@ -6,6 +6,7 @@ pub mod SchemaLemmas
 pub mod ContextLemmas
 pub mod ReadLemmas
 pub mod WholeLemmas
+pub mod PieceLemmas
 pub mod TableReads
 pub mod FormatLemmas
 pub mod MigrationLemmas

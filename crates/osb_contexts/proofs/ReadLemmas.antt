@@ -1,6 +1,8 @@
 -- Loops over rows.
-use Rattle.std.proofs.Common.{◌≡◌, ℕ, zero, suc, ◌+◌, ◌<◌, add-one, List, [], ◌∷◌, ◌++◌, length, map, take, get_or, refl, sym, ap, ◌∙◌, arith}
-use Rattle.std.proofs.lemmas.List.{map-append}
+use Rattle.std.proofs.Common.{◌≡◌, ℕ, zero, suc, ◌+◌, ◌<◌, ◌≤◌, add-one, List, [], ◌∷◌, ◌++◌, length, map, take, drop, get_or, refl, sym, ap, subst, ◌∙◌, arith}
+use Rattle.std.specs.Prelude.{◌↔◌}
+use Rattle.std.specs.List.{AllByRecursion}
+use Rattle.std.proofs.lemmas.List.{map-append, drop_more, drop_all}
 
 pub told_next : {R A : Type 0} (told : R → A) (rows : List R) (i : ℕ) (row : R) → i < length rows → row ≡ get_or rows i row → map told (take (suc i) rows) ≡ map told (take i rows) ++ told row ∷ []
 told_next told [] i row low is = absurd (omega (arith, low))
@@ -17,3 +19,23 @@ pub told_more : {R A B : Type 0} (shown : A → B) (told : R → B) (rows : List
     → next ≡ found ++ item ∷ [] → map shown next ≡ map told (take (at + 1) rows)
 told_more shown told rows at row found next item low is were tells grown =
     ap (map shown) grown ∙ map-append shown found (item ∷ []) ∙ told_push told rows at row (map shown found) (map shown found ++ shown item ∷ []) (shown item) low is were refl tells
+
+-- ---- whether all rows pass a test
+
+-- all do exactly where those that are left do
+abbrev pub AreLeft : {R : Type 0} → (R → Type 0) → List R → ℕ → Type 0
+AreLeft Passes rows at = AllByRecursion Passes rows ↔ AllByRecursion Passes (drop at rows)
+
+module _ {R : Type 0} (Passes : R → Type 0) (rows : List R) (at : ℕ) (left : AreLeft Passes rows at) where
+  module _ (row : R) (low : at < length rows) (is : row ≡ get_or rows at row) where
+    front : drop at rows ≡ row ∷ drop (at + 1) rows
+    front = drop_more rows at row low ∙ ap (λ first. first ∷ drop (at + 1) rows) (sym is)
+
+    pub one_passes : AllByRecursion Passes rows → Passes row
+    one_passes all = (subst (AllByRecursion Passes) front (left.0 all)).0
+
+    pub next_left : Passes row → AreLeft Passes rows (at + 1)
+    next_left passes = (λ all. (subst (AllByRecursion Passes) front (left.0 all)).1, λ rest. left.1 (subst (AllByRecursion Passes) (sym front) (passes, rest)))
+
+  pub all_passed : length rows ≤ at → AllByRecursion Passes rows
+  all_passed high = left.1 (subst (AllByRecursion Passes) (sym (drop_all at rows high)) tt)

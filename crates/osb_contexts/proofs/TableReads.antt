@@ -1,32 +1,42 @@
--- What is read of the whole table of contexts, and of the rowids of the format.
-use Rattle.std.proofs.Common.{◌≡◌, [], List, map, refl, ap, subst, ◌∙◌}
-use Rattle.sqlite.specs.declared.types.Value.TheVariants.{Null}
-use Rattle.sqlite.specs.Order.{Row}
-use Rattle.sqlite.specs.Effect.{Database}
-use Rattle.sqlite.specs.Program.{overlay}
-use Rattle.sqlite.specs.Query.{IsAnswer}
+-- What is read of the table of contexts, and of the rowids of the format.
+use Rattle.std.proofs.Common.{◌≡◌, ℕ, pos, [], ◌∷◌, List, map, refl, sym, ap, ◌∙◌}
+use Rattle.std.specs.Prelude.{◌↔◌}
+use Rattle.std.specs.List.{AllByRecursion}
+use Rattle.sqlite.specs.declared.types.Value.{Value}
+use Rattle.sqlite.specs.declared.types.Value.TheVariants.{Null, Int, Text}
+use Rattle.sqlite.specs.Order.{Row, column}
 use Rattle.sqlite.specs.State.{State, Shown}
 use Rattle.sqlite.proofs.Callers.{reads_as}
+use Rattle.sqlite_keyed.proofs.ListLemmas.{map_back}
 use Rattle.osb_tables.specs.Tables.{second_schema}
 use Rattle.osb_joined.specs.declared.entry.ContextEntry.{ContextEntry}
 use Rattle.osb_joined.specs.Contexts.{context_cmp}
 use Rattle.osb_contexts.specs.Contexts.{context_row, context_cells, context_decoded, AreContextsOf}
+use Rattle.osb_contexts.specs.Pieces.{piece, AreNamed}
 use Rattle.osb_contexts.specs.Read.{AreRowids, HaveRowids, context_columns}
-use Rattle.osb_rows.proofs.AnswerLemmas.{over}
-use Rattle.osb_contexts.proofs.SortLemmas.{context_total, context_back}
+use Rattle.osb_contexts.proofs.PieceLemmas.{named_rowids, are_named as names_all, piece_read}
+use Rattle.osb_contexts.proofs.SortLemmas.{context_back}
 use Rattle.osb_contexts.proofs.TestLemmas.{by_both}
-use Rattle.osb_contexts.proofs.Texts.{all_cells, by_key, every, context_rowids, context_rowids_is, select_contexts, select_contexts_is, version_rowids, version_rowids_is}
-use Rattle.osb_contexts.proofs.WholeLemmas.{is_list, rowids_shown}
+use Rattle.osb_contexts.proofs.Texts.{all_cells, by_key, named_contexts, named_contexts_is, select_contexts, select_contexts_is, version_rowids, version_rowids_is}
+use Rattle.osb_contexts.proofs.WholeLemmas.{rowids_shown}
 
-pub contexts_read : (old mid new : State) (ids rows : List Row) (entries : List ContextEntry) → old.now.schema ≡ second_schema → mid.now ≡ old.now → Shown context_rowids [] old mid ids → Shown select_contexts [] mid new rows → AreRowids ids → map context_row entries ≡ map context_columns rows
-    → AreContextsOf old.now.trees entries
-contexts_read old mid new ids rows entries has same first second are is =
-    let found = reads_as context_rowids [] old mid second_schema has _ context_rowids_is.0 context_rowids_is.2 context_rowids_is.1 ids first in
-    let read = reads_as select_contexts [] mid new second_schema (ap (λ (d : Database). d.schema) same ∙ has) _ select_contexts_is.0 select_contexts_is.2 select_contexts_is.1 rows second in
-    let answer = subst (λ (d : Database). IsAnswer (over 7 [] all_cells by_key every) (overlay d.trees []) [] rows) same (read.answer Null) in
-    let list = is_list 7 old.now.trees refl context_cells context_row context_cmp context_total context_decoded context_back all_cells by_key (λ _. refl) (λ _. refl) (λ _. refl) (λ a b less. by_both a b ∙ less) context_columns (λ _. refl) (λ _. refl) rows entries answer
-    (rowids_shown 7 old.now.trees refl ids (found.answer Null) are) is in
-    record { held = list.0; only = list.1 }
+module _ (old new : State) (has : old.now.schema ≡ second_schema) (rows : List Row) where
+  pub contexts_named : Shown named_contexts [] old new rows → AreRowids rows → HaveRowids (old.now.trees 7) × (AllByRecursion (λ row. column row 1 ≡ Int (pos 1)) rows ↔ AreNamed (old.now.trees 7))
+  contexts_named shown are =
+      let read = reads_as named_contexts [] old new second_schema has _ named_contexts_is.0 named_contexts_is.2 named_contexts_is.1 rows shown in
+      let answer = read.answer Null in
+      (named_rowids 7 old.now.trees refl rows answer are, names_all 7 old.now.trees refl rows answer)
+
+  pub contexts_read : (after : List ℕ) (to : Value) (entries : List ContextEntry) → Shown select_contexts (Text after ∷ to ∷ []) old new rows → map context_row entries ≡ map context_columns rows → HaveRowids (old.now.trees 7)
+      → AreContextsOf (piece after to old.now.trees) entries
+  contexts_read after to entries shown is have =
+      let params = Text after ∷ to ∷ [] in
+      let read = reads_as select_contexts params old new second_schema has _ select_contexts_is.0 select_contexts_is.2 select_contexts_is.1 rows shown in
+      let list = piece_read 7 old.now.trees after to refl all_cells by_key rows (read.answer Null) context_cells context_row context_cmp (λ _. refl) (λ _. refl) (λ _. refl) (λ a b less. by_both a b ∙ less) context_columns (λ _. refl) (λ _. refl) entries have is in
+      record { held = list.0; only = λ others stores. same_contexts others entries (list.1 others stores) }
+    where
+      same_contexts : (es others : List ContextEntry) → map context_row es ≡ map context_row others → es ≡ others
+      same_contexts es others is = sym (map_back context_row context_decoded context_back es) ∙ ap (map context_decoded) is ∙ map_back context_row context_decoded context_back others
 
 pub format_rowids : (old new : State) (ids : List Row) → old.now.schema ≡ second_schema → Shown version_rowids [] old new ids → AreRowids ids → HaveRowids (old.now.trees 0)
 format_rowids old new ids has shown are =

@@ -1,14 +1,14 @@
 -- What the texts of the statements mean.
 use Rattle.std.proofs.Common.{◌≡◌, ℕ, pos, negsuc, List, [], ◌∷◌, codes, false, Ok, refl}
-use Rattle.sqlite.specs.declared.types.Value.TheVariants.{Null, Int}
+use Rattle.sqlite.specs.declared.types.Value.TheVariants.{Null, Int, Text}
 use Rattle.sqlite.specs.Query.{Query}
 use Rattle.sqlite.specs.Term.{Term, lit, col}
 use Rattle.sqlite.specs.Source.TheVariants.{Values}
 use Rattle.sqlite.specs.Command.TheVariants.{Insert, Select, Update, Delete, CreateTable, CreateIndex, DropIndex}
 use Rattle.sqlite.specs.Compile.{table_defined_by, index_defined_by}
 use Rattle.sqlite_sql.specs.Term.{op2}
-use Rattle.sqlite_sql.specs.declared.ops.BinaryOp.TheVariants.{Compare}
-use Rattle.sqlite_sql.specs.declared.ops.CompareOp.TheVariants.{Eq, Ne}
+use Rattle.sqlite_sql.specs.declared.ops.BinaryOp.TheVariants.{And, Compare}
+use Rattle.sqlite_sql.specs.declared.ops.CompareOp.TheVariants.{Eq, Ne, Gt, Le}
 use Rattle.sqlite_value.specs.declared.keys.Collation.TheVariants.{Binary}
 use Rattle.sqlite_value.specs.declared.keys.Key.{Key}
 use Rattle.sqlite_value.specs.Keys.{ascending}
@@ -22,6 +22,7 @@ use Rattle.sqlite_schema.specs.declared.schema.Index.{Index}
 use Rattle.osb_tables.specs.Tables.{instances_table, orders_table, busy_index, subject_index, tables_schema, five_tables, second_listed, second_schema, plain_table, columns_of_contexts}
 use Rattle.osb_tables.specs.Inside.{listed_schema, record_schema}
 use Rattle.osb_rows.proofs.AnswerLemmas.{over}
+use Rattle.osb_contexts.specs.Pieces.{beyond}
 
 -- no LIMIT
 abbrev pub every : Term
@@ -170,17 +171,32 @@ pub select_context_is : IsQuery select_context (over 7 (is_at 1 0 ∷ is_at 2 1 
 unfolding understood everything
 select_context_is = (refl, refl, (refl, refl))
 
-abbrev pub context_rowids : List ℕ
-context_rowids = codes "SELECT rowid FROM contexts ORDER BY rowid"
+-- the id of the instance is above one term and up to another
+abbrev pub between : Term → Term → List Term
+between after to = op2 (Compare Gt Binary) (col 1 1) after ∷ op2 (Compare Le Binary) (col 1 1) to ∷ []
 
-pub context_rowids_is : IsQuery context_rowids (rowids_of 7) (codes "rowid" ∷ [])
+-- as the parameters say
+abbrev pub between_tests : List Term
+between_tests = between (col 0 0) (col 0 1)
+
+-- whether the row is named, in a column beside its rowid
+abbrev pub named_test : Term
+named_test = op2 And (op2 (Compare Gt Binary) (col 1 1) (lit (Text []))) (op2 (Compare Le Binary) (col 1 1) (lit beyond))
+
+abbrev pub named_rows : ℕ → Query
+named_rows tree = over tree [] (col 1 0 ∷ named_test ∷ []) by_rowid every
+
+abbrev pub named_contexts : List ℕ
+named_contexts = codes "SELECT rowid, instance_id > '' AND instance_id <= x'' AS named FROM contexts ORDER BY rowid"
+
+pub named_contexts_is : IsQuery named_contexts (named_rows 7) (codes "rowid" ∷ codes "named" ∷ [])
 unfolding understood everything
-context_rowids_is = (refl, refl, (refl, refl))
+named_contexts_is = (refl, refl, (refl, refl))
 
 abbrev pub select_contexts : List ℕ
-select_contexts = codes "SELECT instance_id, seq, context FROM contexts ORDER BY instance_id, seq"
+select_contexts = codes "SELECT instance_id, seq, context FROM contexts WHERE instance_id > ?1 AND instance_id <= ?2 ORDER BY instance_id, seq"
 
-pub select_contexts_is : IsQuery select_contexts (over 7 [] all_cells by_key every) (codes "instance_id" ∷ codes "seq" ∷ codes "context" ∷ [])
+pub select_contexts_is : IsQuery select_contexts (over 7 between_tests all_cells by_key every) (codes "instance_id" ∷ codes "seq" ∷ codes "context" ∷ [])
 unfolding understood everything
 select_contexts_is = (refl, refl, (refl, refl))
 

@@ -1,16 +1,14 @@
 -- What is read of a whole table.
-use Rattle.std.proofs.Common.{◌≡◌, ℕ, List, [], ◌∷◌, map, filter, Bool, true, false, Ordering, Less, is_eq, nat_cmp, nat_lt, refl, arith, sym, ap, subst, subst₂, ◌∙◌, IsPermutation}
+use Rattle.std.proofs.Common.{◌≡◌, ℕ, List, [], ◌∷◌, map, filter, Bool, true, false, Less, is_eq, nat_cmp, nat_lt, refl, arith, sym, ap, subst, subst₂, ◌∙◌, IsPermutation}
 use Rattle.std.specs.List.{AllByRecursion, IsAllAdjacentAnswer}
 use Rattle.std.specs.List.Sorted.{IsStrictlySortedBy}
-use Rattle.std.specs.Cmp.{IsTotalOrder}
 use Rattle.std.proofs.lemmas.Bool.Decides.{nat_tests}
 use Rattle.std.proofs.lemmas.Cmp.{nat_cmp_total}
 use Rattle.std.proofs.lemmas.Map.Keys.{sorted_from_all_adjacent}
 use Rattle.std.proofs.lemmas.List.Sorted.{IsPermutation-sym, IsPermutation-map}
-use Rattle.sqlite.specs.declared.types.Value.TheVariants.{Null}
 use Rattle.sqlite.specs.Order.{Row}
 use Rattle.sqlite.specs.Program.{overlay}
-use Rattle.sqlite.specs.Query.{Output, IsAnswer, output_cmp}
+use Rattle.sqlite.specs.Query.{Output, IsAnswer}
 use Rattle.sqlite.specs.Term.{Term, col}
 use Rattle.sqlite.specs.Tree.{Trees}
 use Rattle.sqlite_value.specs.Order.{value_cmp}
@@ -19,10 +17,9 @@ use Rattle.sqlite_value.proofs.OrderLemmas.{value_cmp_total}
 use Rattle.sqlite_trees.specs.Tree.{rowid, IsAscending}
 use Rattle.sqlite_trees.specs.View.{is_int}
 use Rattle.sqlite_trees.proofs.ListLemmas.{all-permutation}
-use Rattle.sqlite_keyed.proofs.ListLemmas.{map-map, map_same, map_back, ascending_from_map, all_unmap}
-use Rattle.osb_rows.specs.Rows.{AreRows, Stores}
+use Rattle.sqlite_keyed.proofs.ListLemmas.{map-map, ascending_from_map, all_unmap}
 use Rattle.osb_contexts.specs.Read.{AreRowids, HaveRowids, rowid_shown}
-use Rattle.osb_rows.proofs.AnswerLemmas.{over, out, answered, one_answer}
+use Rattle.osb_rows.proofs.AnswerLemmas.{over, out, answered}
 use Rattle.osb_rows.proofs.RowLemmas.{ascending_permuted, untied_back}
 use Rattle.osb_contexts.proofs.TestLemmas.{number_cmp}
 use Rattle.osb_contexts.proofs.Texts.{every, rowids_of, by_rowid}
@@ -55,10 +52,10 @@ pub all_ints : (ids : List ℕ) → AllByRecursion (λ value. is_int value ≡ t
 all_ints [] = tt
 all_ints (id ∷ ids) = (refl, all_ints ids)
 
--- the rows of the table have the rowids that were read
-pub have_rowids : (rows read : List Row) → IsPermutation (map (λ row. rowid row ∷ []) rows) read → AreRowids read → HaveRowids rows
-have_rowids rows read same are =
-    let ids = subst₂ IsPermutation (map-map rowid (λ row. rowid row ∷ []) rows) (sym are.shown) (IsPermutation-map rowid _ _ same) in
+-- the rows of the table have the rowids that were read, beside other columns
+pub have_rowids : (more : Row → Row) (rows read : List Row) → IsPermutation (map (λ row. rowid row ∷ more row) rows) read → AreRowids read → HaveRowids rows
+have_rowids more rows read same are =
+    let ids = subst₂ IsPermutation (map-map rowid (λ row. rowid row ∷ more row) rows) (sym are.shown) (IsPermutation-map rowid _ _ same) in
     let back = IsPermutation-sym _ _ ids in
     record {
       apart = ascending_from_map (λ a b. is_eq (value_cmp a b) ≡ false) rowid rows (ascending_permuted (λ a b. is_eq (value_cmp a b) ≡ false) (untied_back value_cmp value_cmp_total) _ _ back (apart_ids are.ids are.rising));
@@ -79,31 +76,4 @@ module _ (tree : ℕ) (db : Trees) where
         subst₂ IsPermutation (map-map (λ (o : Output). o.1) (out tree [] project order every seen []) (db tree)) (sym a.shown) (IsPermutation-map (λ (o : Output). o.1) _ _ whole)
 
     pub rowids_shown : (rows : List Row) → IsAnswer (rowids_of tree) seen [] rows → AreRowids rows → HaveRowids (db tree)
-    rowids_shown rows a are = have_rowids (db tree) rows (all_shown (col 1 0 ∷ []) by_rowid rows a) are
-
-    module _ {E : Type 0} (cells : Row → Row) (shown : E → Row) (cmp : E → E → Ordering) (total : IsTotalOrder cmp) (told : Row → E) (back : (e : E) → told (shown e) ≡ e) (project : List Term) (order : List (Term × Key))
-        (out_shows : (row : Row) → (out tree [] project order every seen [] row).1 ≡ cells row) (out_cells : (row : Row) → out tree [] project order every seen [] row ≡ out tree [] project order every seen [] (Null ∷ cells row))
-        (shows : (e : E) → (out tree [] project order every seen [] (Null ∷ shown e)).1 ≡ shown e)
-        (ordered : (a b : E) → cmp a b ≡ Less → output_cmp (over tree [] project order every) (out tree [] project order every seen [] (Null ∷ shown a)) (out tree [] project order every seen [] (Null ∷ shown b)) ≡ Less)
-        (columns : Row → Row) (columns_cells : (row : Row) → columns (cells row) ≡ cells row) (columns_shown : (e : E) → columns (shown e) ≡ shown e) where
-      -- where the table stores entries, the rows that were read show them
-      pub are_shown : (rows : List Row) (others : List E) → IsAnswer (over tree [] project order every) seen [] rows → Stores cells shown cmp (db tree) others → rows ≡ map shown others
-      are_shown rows others a stores =
-          let stored = subst (λ own. Stores cells shown cmp own others) (sym sees) stores in
-          one_answer tree [] project order every seen [] cells shown cmp total (λ _. true) (λ _. refl) out_cells (λ _. refl) ordered others rows stored a
-          ∙ ap (map _) (none_left others) ∙ map_same _ shown shows others
-
-      same_shown : (es others : List E) → map shown es ≡ map shown others → es ≡ others
-      same_shown es others is = sym (map_back shown told back es) ∙ ap (map told) is ∙ map_back shown told back others
-
-      pub is_list : (rows : List Row) (entries : List E) → IsAnswer (over tree [] project order every) seen [] rows → HaveRowids (db tree) → map shown entries ≡ map columns rows → AreRows cells (db tree) (map shown entries) × ((others : List E) → Stores cells shown cmp (db tree) others → others ≡ entries)
-      is_list rows entries a have is = (
-        record {
-          apart = have.apart;
-          keyed = have.keyed;
-          same =
-              let all = subst (λ list. IsPermutation list rows) (map_same _ cells out_shows (db tree)) (all_shown project order rows a) in
-              subst₂ IsPermutation (map-map columns cells (db tree) ∙ map_same _ cells columns_cells (db tree)) (sym is) (IsPermutation-map columns _ _ all);
-        },
-        λ others stores. same_shown others entries (sym (is ∙ ap (map columns) (are_shown rows others a stores) ∙ map-map columns shown others ∙ map_same _ shown columns_shown others)),
-      )
+    rowids_shown rows a are = have_rowids (λ _. []) (db tree) rows (all_shown (col 1 0 ∷ []) by_rowid rows a) are

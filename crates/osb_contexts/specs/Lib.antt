@@ -8,6 +8,8 @@ pub mod Steps
 pub mod Contexts
 pub mod Format
 pub mod Ended
+-- Tables that are read in pieces.
+pub mod Pieces
 -- For contracts inside the crate.
 pub mod Made
 pub mod Read

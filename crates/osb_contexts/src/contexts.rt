@@ -1,21 +1,25 @@
 //! The table of contexts: its rows, and the statements on it.
 
-ghost use Rattle.std.specs.Prelude.{◌≡◌, [], ◌∷◌, IsTrue, List, map, filter, IfOk};
+ghost use Rattle.std.specs.Prelude.{◌≡◌, ◌↔◌, true, [], ◌∷◌, IsTrue, List, map, filter, IfOk};
 ghost use Rattle.sqlite.specs.State.{HasCleanDisk};
+ghost use Rattle.sqlite.specs.Values.{bound_value};
+ghost use Rattle.sqlite_value.specs.Value.{owned};
 ghost use Rattle.sqlite_keyed.specs.Lists.{insert_sorted, update_where};
 ghost use Rattle.osb_tables.specs.Tables.{tables_schema, second_schema};
 ghost use Rattle.osb_joined.specs.Contexts.{context_entry, context_cmp, is_context, with_context, AreRising};
 ghost use Rattle.osb_contexts.specs.Contexts.{context_row, AreContextsOf};
-ghost use Rattle.osb_contexts.specs.Read.{context_columns, context_shown};
+ghost use Rattle.osb_contexts.specs.Pieces.{piece, AreNamed};
+ghost use Rattle.osb_contexts.specs.Read.{HaveRowids, context_columns, context_shown};
 ghost use Rattle.osb_contexts.specs.Inside.{ShowsSchema};
 ghost use Rattle.osb_contexts.specs.Made.{MakesContexts};
 ghost use Rattle.osb_contexts.specs.Steps.{contexts, ShowsContexts, ContextSteps};
 ghost use Rattle.osb_contexts.specs.Reads.{Reads, Finds, behind, StaysInside, Does};
 
-use crate::cells::{check_rowids, number_in, text_in};
+use crate::cells::{are_named, check_rowids, number_in, text_in};
 use crate::sql::{execute, select};
 use osb_joined::ContextEntry;
 use osb_text::Text;
+use sqlite::types::ValueRef;
 use sqlite::{Alter, Error, Row, Transaction, params};
 use std::alloc::Global;
 
@@ -134,22 +138,41 @@ fn entries_in(alloc: Global, rows: &[Row]) -> Result<Vec<ContextEntry>, Error>
     Ok(entries)
 }
 
-/// The rows of the contexts, by their keys.
+/// Whether each row of a context has the id of an instance. Rows without rowids of their own are refused.
+pub fn are_contexts_named<S: Alter>(
+    tx: &mut Transaction<'_, S>,
+    alloc: Global,
+) -> Result<bool, Error>
+    requires { ShowsSchema second_schema (behind S.Store tx.old) }
+    ensures ok { Finds S.Store tx.old tx.new result (λ s yes.
+        HaveRowids (s.now.trees 7) × ((yes ≡ true) ↔ AreNamed (s.now.trees 7))) }
+    ensures reads { Reads S.Store tx.old tx.new result }
+{
+    let rows = select(
+        tx,
+        "SELECT rowid, instance_id > '' AND instance_id <= x'' AS named FROM contexts ORDER BY rowid",
+        &[],
+    )?;
+    check_rowids(alloc, &rows)?;
+    are_named(&rows)
+}
+
+/// The rows of the contexts of the instances with ids above the first and up to the second, by their keys.
 pub fn read_contexts<S: Alter>(
     tx: &mut Transaction<'_, S>,
     alloc: Global,
+    after: &str,
+    to: ValueRef<'_>,
 ) -> Result<Vec<ContextEntry>, Error>
     requires { ShowsSchema second_schema (behind S.Store tx.old) }
-    ensures ok { Finds S.Store tx.old tx.new result (λ s entries.
-        AreContextsOf s.now.trees entries.items) }
+    ensures ok { Finds S.Store tx.old tx.new result (λ s entries. HaveRowids (s.now.trees 7) →
+        AreContextsOf (piece after.now (bound_value (owned to.entry)) s.now.trees) entries.items) }
     ensures reads { Reads S.Store tx.old tx.new result }
 {
-    let ids = select(tx, "SELECT rowid FROM contexts ORDER BY rowid", &[])?;
     let rows = select(
         tx,
-        "SELECT instance_id, seq, context FROM contexts ORDER BY instance_id, seq",
-        &[],
+        "SELECT instance_id, seq, context FROM contexts WHERE instance_id > ?1 AND instance_id <= ?2 ORDER BY instance_id, seq",
+        &[ValueRef::Text(after.as_bytes()), to],
     )?;
-    check_rowids(alloc, &ids)?;
     entries_in(alloc, &rows)
 }

@@ -10,7 +10,9 @@ mod migration;
 mod orders;
 mod sql;
 
-pub use contexts::{insert_context, read_context, read_contexts, update_context};
+pub use contexts::{
+    are_contexts_named, insert_context, read_context, read_contexts, update_context,
+};
 pub use format::set_version;
 pub use indexes::{complete, reshape};
 pub use migration::{insert_contexts, migrate};

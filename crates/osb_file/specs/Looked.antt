@@ -1,20 +1,13 @@
--- What was counted in a database.
+-- What was seen in a database.
 use Rattle.sqlite.specs.Tree.{Trees}
 use Rattle.sqlite_wal.specs.Recovery.{Image}
 use Rattle.osb_orders.specs.Lives.{Lives}
 use Rattle.osb_audit.specs.declared.counting.Counts.{Counts}
 use Rattle.osb_audit.specs.Counts.{AreCounts}
-use Rattle.osb_statements.specs.declared.fault.StoreFault.{StoreFault}
-use Rattle.osb_statements.specs.declared.fault.StoreFault.TheVariants as fault
-use Rattle.osb_file.specs.declared.unseen.Unseen.{Unseen}
-use Rattle.osb_file.specs.declared.unseen.Unseen.TheVariants as unseen
 use Rattle.osb_file.specs.declared.copied.Copied.{Copied}
-use Rattle.osb_file.specs.File.{AreLivesOf}
-
--- the fault of the store that an opening of such a file answers
-abbrev pub store_fault_of : Unseen → StoreFault
-store_fault_of unseen.NotOurs = fault.NotOurs
-store_fault_of _ = fault.Refused
+use Rattle.osb_file.specs.declared.seen.Seen.{Seen}
+use Rattle.osb_file.specs.declared.seen.Seen.TheVariants.{New, Counted}
+use Rattle.osb_file.specs.File.{AreLivesOf, HasNoTables}
 
 -- the files of these bytes
 abbrev pub image_in : Copied → Image
@@ -23,3 +16,8 @@ image_in copied = record { log = copied.log.items; db = copied.database.items }
 -- the lives that stand in these trees have so much of everything
 abbrev pub IsCounted : Trees → Counts → Type 0
 IsCounted db counts = (lives : Lives) × AreLivesOf db lives × AreCounts lives counts
+
+-- a database without tables is new; of any other its lives were counted
+abbrev pub IsSeenAs : Trees → Seen → Type 0
+IsSeenAs db New = HasNoTables db
+IsSeenAs db (Counted counts) = (¬ HasNoTables db) × IsCounted db counts

@@ -1,17 +1,18 @@
 //! A database file and its log, read into memory.
 
-ghost use Rattle.std.specs.Prelude.{◌≡◌, Err, IfOk};
-ghost use Rattle.sqlite.specs.Files.{HoldsDatabase};
+ghost use Rattle.std.specs.Prelude.{◌≡◌, [], Err, IfOk};
 ghost use Rattle.sqlite_trees.specs.Tree.{Trees};
 ghost use Rattle.osb_orders.specs.Lives.{Lives};
+ghost use Rattle.osb_file.specs.declared.seen.Seen.TheVariants.{New};
 ghost use Rattle.osb_file.specs.declared.unseen.Unseen.TheVariants.{NotOurs};
-ghost use Rattle.osb_file.specs.File.{AreLivesOf};
-ghost use Rattle.osb_file.specs.Looked.{IsCounted, image_in};
+ghost use Rattle.osb_file.specs.File.{AreLivesOf, HasTrees};
+ghost use Rattle.osb_file.specs.Looked.{IsSeenAs, image_in};
 
+use crate::beside::{is_log_without_file, log_path};
 use crate::database_file::is_special;
-use crate::looking::{count_files, disk_of};
+use crate::looking::{disk_of, look_into};
+use crate::seen::Seen;
 use crate::unseen::Unseen;
-use osb_audit::Counts;
 use sqlite_disk::Files;
 use std::alloc::Global;
 use std::fs::{self, OpenOptions};
@@ -50,6 +51,15 @@ fn check_kind(rt: &HostRuntime, path: &str) -> Result<(), Unseen> {
         return Err(Unseen::TwoNames);
     }
     Ok(())
+}
+
+/// Refuses a log that lacks its file.
+fn check_log(rt: &HostRuntime, path: &str) -> Result<(), Unseen> {
+    match is_log_without_file(rt, path) {
+        Ok(false) => Ok(()),
+        Ok(true) => Err(Unseen::LogOnly),
+        Err(error) => Err(unread(error)),
+    }
 }
 
 /// Whether the file at the path begins with a byte other than 0, as a journal does that is to be played back.
@@ -91,8 +101,9 @@ fn read_file(rt: &HostRuntime, path: &str) -> Result<Vec<u8>, Unseen> {
 
 /// The log of the file at the path, empty where there is none.
 fn read_log(rt: &HostRuntime, path: &str) -> Result<Vec<u8>, Unseen> {
-    let Ok(log) = format!(in rt.alloc(); "{path}-wal") else {
-        return Err(Unseen::Memory);
+    let log = match log_path(rt, path) {
+        Ok(log) => log,
+        Err(error) => return Err(unread(error)),
     };
     match fs::read(rt, log.as_str()) {
         Ok(bytes) => Ok(bytes),
@@ -116,6 +127,7 @@ impl Copied {
         if is_special(path) {
             return Err(Unseen::NoFile);
         }
+        check_log(rt, path)?;
         check_kind(rt, path)?;
         check_journal(rt, path)?;
         check_mode(rt, path)?;
@@ -129,15 +141,16 @@ impl Copied {
 
     /// What the database of these bytes has, opened and audited as `serve` would. All of it happens in
     /// memory, so the files stay as they are.
-    pub fn counts(&self, alloc: Global) -> Result<Counts, Unseen>
-        ensures counted { IfOk result (λ counts. (db : Trees) →
-            HoldsDatabase (image_in self.now) db → IsCounted db counts) }
+    pub fn look(&self, alloc: Global) -> Result<Seen, Unseen>
+        ensures seen { IfOk result (λ seen. (db : Trees) →
+            HasTrees (image_in self.now) db → IsSeenAs db seen) }
+        ensures empty { self.now.database.items ≡ [] → IfOk result (λ seen. seen ≡ New) }
         ensures not_ours { result ≡ Err NotOurs → (db : Trees) →
-            HoldsDatabase (image_in self.now) db → (lives : Lives) → ¬ AreLivesOf db lives }
+            HasTrees (image_in self.now) db → (lives : Lives) → ¬ AreLivesOf db lives }
     {
         let (Ok(log), Ok(db)) = (disk_of(alloc, &self.log), disk_of(alloc, &self.database)) else {
             return Err(Unseen::Memory);
         };
-        count_files(alloc, Files { log, db })
+        look_into(alloc, Files { log, db })
     }
 }

@@ -1,10 +1,11 @@
 //! Which file a database is kept in.
 
-ghost use Rattle.std.specs.Prelude.{◌≡◌, IfOk, IsOkUnless};
-ghost use Rattle.osb_statements.specs.declared.fault.StoreFault.TheVariants.{Refused};
+ghost use Rattle.std.specs.Prelude.{◌≡◌, ◌≢◌, true, Err, IfOk, IfErr};
+ghost use Rattle.osb_file.specs.declared.fault.FileFault.TheVariants.{NotOurs, Missing};
 
+use crate::beside::{drop_second_name, is_blank, is_log_without_file, log_path};
+use crate::fault::FileFault;
 use crate::first_page::make_new;
-use osb_records::StoreFault;
 use std::fs;
 use std::os::unix::fs::MetadataExt;
 
@@ -15,7 +16,7 @@ struct Node {
     number: u64,
 }
 
-/// The file that stands at a path; nothing where none does, or where it can't be looked at.
+/// The file that is at a path; nothing where none is, or where it can't be looked at.
 fn node_at(rt: &HostRuntime, path: &str) -> Option<Node> {
     let Ok(found) = fs::metadata(rt, path) else {
         return None;
@@ -31,31 +32,53 @@ pub(crate) fn is_special(path: &str) -> bool {
     path == ":memory:" || path.starts_with("file:")
 }
 
-/// A database file: its path, and which file stood there before the database was opened.
-#[derive(Clone, Copy, Debug)]
+/// A database file: its path and that of its log, and which file was there before the database was opened.
+#[derive(Debug, Drop)]
 pub struct DatabaseFile<'a> {
     path: &'a str,
+    log: String,
     node: Node,
+    existing: bool,
 }
 
 impl<'a> DatabaseFile<'a> {
     /// The file at a path. Where there is none it is made, as a database without tables and with mode 600,
-    /// so that its owner alone reads what the database will hold.
+    /// so that only its owner reads what the database will hold. With `existing` none is made, and the
+    /// fault is `Missing` where no file is there or one of no bytes.
     ///
-    /// It is refused where there is none and it can't be made, where it can't be looked at, and where
-    /// SQLite has another meaning for the path: `:memory:`, or what begins with `file:`.
-    pub fn at(rt: &HostRuntime, path: &'a str) -> Result<DatabaseFile<'a>, StoreFault>
+    /// It is refused where there is none and it can't be made, where it can't be looked at, where its log
+    /// is there without it, and where SQLite has another meaning for the path: `:memory:`, or one that
+    /// begins with `file:`.
+    pub fn at(
+        rt: &HostRuntime,
+        path: &'a str,
+        existing: bool,
+    ) -> Result<DatabaseFile<'a>, FileFault>
         ensures path { IfOk result (λ file. file.path ≡ path.entry) }
-        ensures fault { IsOkUnless result Refused }
+        ensures existing { IfOk result (λ file. file.existing ≡ existing) }
+        ensures ours { IfErr result (λ fault. fault ≢ NotOurs) }
+        ensures missing { IfErr result (λ fault. fault ≡ Missing → existing ≡ true) }
     {
-        if is_special(path) {
-            return Err(StoreFault::Refused);
+        if is_special(path) || !matches!(is_log_without_file(rt, path), Ok(false)) {
+            return Err(FileFault::Refused);
         }
-        make_new(rt, path);
-        match node_at(rt, path) {
-            Some(node) => Ok(DatabaseFile { path, node }),
-            None => Err(StoreFault::Refused),
+        if existing && matches!(is_blank(rt, path), Ok(true)) {
+            return Err(FileFault::Missing);
         }
+        if !existing {
+            make_new(rt, path);
+        }
+        // Where it can't be taken away, the opening reports the second name.
+        let _ = drop_second_name(rt, path);
+        let (Some(node), Ok(log)) = (node_at(rt, path), log_path(rt, path)) else {
+            return Err(FileFault::Refused);
+        };
+        Ok(DatabaseFile {
+            path,
+            log,
+            node,
+            existing,
+        })
     }
 
     /// The path that it was looked for at.
@@ -65,9 +88,36 @@ impl<'a> DatabaseFile<'a> {
         self.path
     }
 
-    /// Whether the same file stands at its path still: it wasn't removed, and none was put in its
-    /// place. It is one look, and `false` also where that fails.
+    /// Whether a database has to be there.
+    pub fn is_existing(&self) -> bool
+        ensures { result ≡ self.now.existing }
+    {
+        self.existing
+    }
+
+    /// The file with the log that is beside it now. The opening of the database makes a log that lacks, so
+    /// this is called after it.
+    pub fn watched(&self, rt: &HostRuntime) -> WatchedFile<'_> {
+        WatchedFile {
+            file: self,
+            log: node_at(rt, self.log.as_str()),
+        }
+    }
+}
+
+/// A database file and its log, which make up one database.
+#[derive(Clone, Copy, Debug)]
+pub struct WatchedFile<'a> {
+    file: &'a DatabaseFile<'a>,
+    log: Option<Node>,
+}
+
+impl WatchedFile<'_> {
+    /// Whether both files are at their paths still: none was removed, and none was put in the place of
+    /// one. It is one look at each, and `false` also where that fails.
     pub fn is_there(&self, rt: &HostRuntime) -> bool {
-        node_at(rt, self.path) == Some(self.node)
+        node_at(rt, self.file.path) == Some(self.file.node)
+            && self.log.is_some()
+            && node_at(rt, self.file.log.as_str()) == self.log
     }
 }

@@ -1,5 +1,8 @@
 //! A file that is made: a database without tables, whose pages are small.
 
+ghost use Rattle.osb_file.specs.File.{HoldsNoTables};
+
+use crate::beside::draft_path;
 use std::fs::{self, OpenOptions};
 use std::io::{Error, Write};
 use std::os::unix::fs::OpenOptionsExt;
@@ -21,16 +24,23 @@ const BEGINNING: [u8; 108] = *b"SQLite format 3\0\
 \x00\x00\x00\x00\x00\x00\x00\x00\x00\x00\x00\x00\x00\x00\x00\x01\
 \x00\x2e\x63\x01\x0d\x00\x00\x00\x00\x04\x00\x00";
 
-/// Writes the page into a new file, for its owner alone, and waits until it stands on the disk.
-fn write_page(rt: &HostRuntime, path: &str) -> Result<(), Error> {
+/// The page of a new file, which holds a database without tables by itself.
+fn first_page() -> [u8; PAGE_SIZE]
+    ensures { HoldsNoTables result }
+{
     let mut page = [0u8; PAGE_SIZE];
     page[..BEGINNING.len()].copy_from_slice(&BEGINNING);
+    page
+}
+
+/// Writes the page into a new file that only its owner may read, and waits until it is on the disk.
+fn write_page(rt: &HostRuntime, path: &str) -> Result<(), Error> {
     let mut file = OpenOptions::new()
         .write(true)
         .create_new(true)
         .mode(OWNER_ALONE)
         .open(rt, path)?;
-    file.write_all(&page)?;
+    file.write_all(&first_page())?;
     file.sync_all()
 }
 
@@ -41,14 +51,9 @@ fn place(rt: &HostRuntime, draft: &str, path: &str) -> Result<(), Error> {
     fs::hard_link(rt, draft, path)
 }
 
-/// Makes the file with small pages, unless a log is there already: SQLite takes one for the log of the
-/// file that is made, unless that is empty.
+/// Makes the file with small pages, from a draft that gets the file's name once it has all of its page.
 fn make_small(rt: &HostRuntime, path: &str) -> Result<(), Error> {
-    let log = format!(in rt.alloc(); "{path}-wal")?;
-    if fs::exists(rt, log.as_str())? {
-        return Ok(());
-    }
-    let draft = format!(in rt.alloc(); "{path}-new")?;
+    let draft = draft_path(rt, path)?;
     // What an earlier start left of it.
     let _ = fs::remove_file(rt, draft.as_str());
     let placed = place(rt, draft.as_str(), path);

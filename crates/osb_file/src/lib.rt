@@ -1,14 +1,23 @@
 //! The records in a database file: opened to be served from, or copied into memory to be looked at.
 #![tactic(auto)]
 
+mod beside;
 mod copied;
+mod database;
 mod database_file;
+mod fault;
 mod file;
 mod first_page;
 mod looking;
+mod origin;
+mod seen;
 mod unseen;
 
 pub use copied::Copied;
-pub use database_file::DatabaseFile;
-pub use file::{HeldFile, Opened, open_file};
+pub use database::{AtPath, Database};
+pub use database_file::{DatabaseFile, WatchedFile};
+pub use fault::FileFault;
+pub use file::{Opened, open_file};
+pub use origin::Origin;
+pub use seen::Seen;
 pub use unseen::Unseen;

@@ -1,9 +1,9 @@
 //! What a database file has, without a change of it.
 
-ghost use Rattle.std.specs.Prelude.{◌≡◌, ◌≢◌, true, Err, IsTrue, IfOk};
+ghost use Rattle.std.specs.Prelude.{◌≡◌, ◌≢◌, true, [], Err, IsTrue, IfOk};
 ghost use Rattle.sqlite.specs.Held.{Held, state};
 ghost use Rattle.sqlite.specs.State.{HasCleanDisk};
-ghost use Rattle.sqlite.specs.Files.{HoldsDatabase, image_of};
+ghost use Rattle.sqlite.specs.Files.{image_of};
 ghost use Rattle.sqlite_disk.specs.Memory.{memory_bytes, memory_is_usable};
 ghost use Rattle.sqlite_trees.specs.Tree.{Trees};
 ghost use Rattle.osb_orders.specs.Lives.{Lives};
@@ -12,9 +12,14 @@ ghost use Rattle.osb_statements.specs.declared.fault.StoreFault.TheVariants as f
 ghost use Rattle.osb_records.specs.Opened.{AreLivesOfDatabase};
 ghost use Rattle.osb_statements.specs.Steps.{stored};
 ghost use Rattle.osb_file.specs.declared.unseen.Unseen.TheVariants.{NotOurs};
-ghost use Rattle.osb_file.specs.File.{AreLivesOf};
-ghost use Rattle.osb_file.specs.Looked.{IsCounted};
+ghost use Rattle.osb_file.specs.File.{AreLivesOf, HasTrees};
+ghost use Rattle.osb_tables.specs.Tables.{no_schema};
+ghost use Rattle.osb_file.specs.declared.seen.Seen.TheVariants.{New};
+ghost use Rattle.osb_file.specs.Looked.{IsSeenAs};
+ghost use Rattle.osb_file.specs.Inside.{IsSeenIn};
 
+use crate::origin::{Origin, origin_of};
+use crate::seen::Seen;
 use crate::unseen::Unseen;
 use osb_audit::Counts;
 use osb_records::{Records, StoreFault};
@@ -74,18 +79,39 @@ fn count_in<S: Alter + Drop>(alloc: Global, conn: Connection<S>) -> Result<Count
     }
 }
 
-/// Opens two files, of which none gives other bytes than were written, and counts.
-pub(crate) fn count_files<D: Disk + Drop>(alloc: Global, files: Files<D>) -> Result<Counts, Unseen>
+/// What a database has. One without tables isn't taken over.
+fn look_in<S: Alter + Drop>(alloc: Global, conn: Connection<S>) -> Result<Seen, Unseen>
+    requires clean { (held : Held S) → HasCleanDisk (state S.Store held) }
+    ensures seen { IfOk result (IsSeenIn (state S.Store conn).now) }
+    ensures new { (state S.Store conn).now.schema ≡ no_schema → IfOk result (λ seen. seen ≡ New) }
+    ensures not_ours { result ≡ Err NotOurs → (lives : Lives) →
+        ¬ AreLivesOfDatabase (state S.Store conn).now lives }
+{
+    match origin_of(&conn) {
+        Origin::New => {
+            drop(conn);
+            Ok(Seen::New)
+        }
+        Origin::Kept => match count_in(alloc, conn) {
+            Ok(counts) => Ok(Seen::Counted(counts)),
+            Err(unseen) => Err(unseen),
+        },
+    }
+}
+
+/// Opens two files, of which none gives other bytes than were written, and looks at their database.
+pub(crate) fn look_into<D: Disk + Drop>(alloc: Global, files: Files<D>) -> Result<Seen, Unseen>
     requires log { IsTrue (D.Disk.is_usable files.log) }
     requires db { IsTrue (D.Disk.is_usable files.db) }
     requires honest { (disk : D) → D.Disk.is_clean disk ≡ true }
-    ensures counted { IfOk result (λ counts. (db : Trees) →
-        HoldsDatabase (image_of D.Disk files) db → IsCounted db counts) }
+    ensures seen { IfOk result (λ seen. (db : Trees) →
+        HasTrees (image_of D.Disk files) db → IsSeenAs db seen) }
+    ensures new { (image_of D.Disk files).db ≡ [] → IfOk result (λ seen. seen ≡ New) }
     ensures not_ours { result ≡ Err NotOurs → (db : Trees) →
-        HoldsDatabase (image_of D.Disk files) db → (lives : Lives) → ¬ AreLivesOf db lives }
+        HasTrees (image_of D.Disk files) db → (lives : Lives) → ¬ AreLivesOf db lives }
 {
     match Connection::open_files(alloc, files, Options::new(0)) {
-        Ok(conn) => count_in(alloc, conn),
+        Ok(conn) => look_in(alloc, conn),
         Err((error, _)) => Err(unopened(error)),
     }
 }

@@ -1,7 +1,9 @@
-ghost use Rattle.std.specs.Prelude.{◌≡◌};
-ghost use Rattle.osb_file.specs.Looked.{store_fault_of};
+//! Why a database file wasn't looked at.
 
-use osb_records::StoreFault;
+ghost use Rattle.std.specs.Prelude.{◌≡◌};
+ghost use Rattle.osb_file.specs.Faults.{unseen_fault_of, unseen_text};
+
+use crate::fault::FileFault;
 use std::error::Error;
 use std::fmt;
 
@@ -11,6 +13,8 @@ use std::fmt;
 pub enum Unseen {
     /// Nothing stands at the path, or SQLite has another meaning for it than a file's.
     NoFile,
+    /// Its log has changes, and it isn't there or has no bytes.
+    LogOnly,
     Folder,
     /// It is a device, a socket or the like.
     NotRegular,
@@ -31,19 +35,22 @@ pub enum Unseen {
 
 impl Unseen {
     /// What the opening of such a file would answer.
-    pub fn store_fault(self) -> StoreFault
-        ensures { result ≡ store_fault_of self }
+    pub fn fault(self) -> FileFault
+        ensures { result ≡ unseen_fault_of self }
     {
         match self {
-            Unseen::NotOurs => StoreFault::NotOurs,
-            _ => StoreFault::Refused,
+            Unseen::NotOurs => FileFault::NotOurs,
+            _ => FileFault::Refused,
         }
     }
 
     /// The cause in words.
-    pub fn text(self) -> &'static str {
+    pub fn text(self) -> &'static str
+        ensures { result.now ≡ unseen_text self }
+    {
         match self {
             Unseen::NoFile => "no such file",
+            Unseen::LogOnly => "a log without its file",
             Unseen::Folder => "a folder",
             Unseen::NotRegular => "no regular file",
             Unseen::TwoNames => "it has two names",

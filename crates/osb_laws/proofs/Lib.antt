@@ -4,4 +4,12 @@ pub mod AgainLemmas
 pub mod WordLemmas
 pub mod MapLemmas
 pub mod ListingLemmas
-mod FailureLemmas
+pub mod StatusLemmas
+mod StateLemmas
+mod NameLemmas
+mod GoneLemmas
+pub mod OpenedLemmas
+pub mod ReportedLemmas
+pub mod CountLemmas
+pub mod FailureLemmas
+mod Vectors

@@ -23,7 +23,7 @@ use Rattle.osb_orders.specs.Lives.{Lives, life_of, named_life}
 use Rattle.osb_orders.specs.Named.{instance_in}
 use Rattle.osb_orders.specs.Listing.{listing_for}
 use Rattle.osb_orders.specs.ViewData.{ViewData, view_data_of, listing_in}
-use Rattle.osb_orders.specs.Changed.{changed, with_last_ended, after_change}
+use Rattle.osb_orders.specs.Changed.{changed, with_last_ended, lives_changed, after_change}
 use Rattle.osb_orders.specs.IsLife.{IsLife, HasValidTexts, IsInstance, IsLives}
 use Rattle.osb_orders.specs.Allowed.{IsFinishable, IsAllowed}
 use Rattle.osb_machine.specs.Answer.{answer}
@@ -54,7 +54,7 @@ all-push : {A : Type 0} (P : A → Type 0) (xs : List A) (y : A) → AllByRecurs
 all-push P [] y h p = (p, tt)
 all-push P (x ∷ xs) y h p = (h.0, all-push P xs y h.1 p)
 
-ended_length : (outcome : Outcome) (life : Life) → length (with_last_ended outcome life) ≡ length life
+pub ended_length : (outcome : Outcome) (life : Life) → length (with_last_ended outcome life) ≡ length life
 ended_length outcome [] = refl
 ended_length outcome (o ∷ []) = refl
 ended_length outcome (o ∷ p ∷ os) = ap suc (ended_length outcome (p ∷ os))
@@ -216,7 +216,7 @@ quiet_at : (lives : Lives) (at : Option (List ℕ)) → after_change Nothing liv
 quiet_at lives None = refl
 quiet_at lives (Some id) = refl
 
-quiet_step : (c : Change) (lives : Lives) (at : Option (List ℕ)) → c ≡ Nothing → after_change c lives at ≡ lives
+pub quiet_step : (c : Change) (lives : Lives) (at : Option (List ℕ)) → c ≡ Nothing → after_change c lives at ≡ lives
 quiet_step c lives at e = ap (λ (c : Change). after_change c lives at) e ∙ quiet_at lives at
 
 pub again_stays : AskedAgainStays
@@ -251,6 +251,23 @@ answers_apart rules lives others a id e same =
     let life : named_life lives (instance_in a) ≡ named_life others (instance_in a) = ap (named_life lives) e ∙ same ∙ sym (ap (named_life others) e) in
     ap (λ (l : Life). answer rules (view_data_of l (listing_for lives a) a) a) life
     ∙ ap (λ (f : ViewData). answer rules f a) (facts_apart (named_life others (instance_in a)) a (listing_for lives a) (listing_for others a) (listing_apart a _ _ id e))
+
+changed_at : (lives : Lives) (c : Change) (id : List ℕ) → life_of (lives_changed c id lives) id ≡ changed c (life_of lives id)
+changed_at lives Nothing id = refl
+changed_at lives (Append o) id = got lives id _
+changed_at lives (Finish number outcome) id = got lives id _
+
+-- the life that an ask names, after its step
+pub step_at : (rules : Rules) (lives : Lives) (a : Ask) (id : List ℕ) → instance_in a ≡ Some id → life_of (after_step rules lives a) id ≡ changed (answer_to rules lives a).change (life_of lives id)
+step_at rules lives a id e = ap (λ at. life_of (after_change (answer_to rules lives a).change lives at) id) e ∙ changed_at lives (answer_to rules lives a).change id
+
+-- two maps with one life for the instance have one life for it after the step
+pub one_life : (rules : Rules) (lives others : Lives) (a : Ask) (id : List ℕ) → instance_in a ≡ Some id → life_of lives id ≡ life_of others id → life_of (after_step rules lives a) id ≡ life_of (after_step rules others a) id
+one_life rules lives others a id e same =
+    step_at rules lives a id e
+    ∙ ap (λ c. changed c (life_of lives id)) (ap (λ r. r.change) (answers_apart rules lives others a id e same))
+    ∙ ap (changed (answer_to rules others a).change) same
+    ∙ sym (step_at rules others a id e)
 
 stays_put : (lives : Lives) (at id : List ℕ) (life : Life) → id ≢ at → life_of (insert lives at life) id ≡ life_of lives id
 stays_put lives at id life differ = life_of-put (λ (l : Life). l ≡ life_of lives id) lives at id life (λ e. absurd (differ e)) refl

@@ -2,7 +2,10 @@
 #![tactic(auto)]
 
 ghost use Rattle.osb_laws.specs.Exclusive.{StepsAreAllowed, StepsKeepLives, LivesStep, ChangesKeepLives, NoLivesAreWellFormed, ListsOnce};
+ghost use Rattle.osb_laws.specs.Statuses.{StatusesSay, ErrorsChangeNothing, PollsSay, BindingPollsSay, StatesShow, NamesFind, GoneIsAbsent, GoneBindingIsAbsent};
 ghost use Rattle.osb_laws.specs.AskedAgain.{AskedAgainStays};
+ghost use Rattle.osb_laws.specs.OpenedStays.{OpenedStays, CreatedOnce, BoundOnce};
+ghost use Rattle.osb_laws.specs.Reported.{ReportedOnce};
 ghost use Rattle.osb_laws.specs.Failures.{NoAnswerIs500};
 ghost use Rattle.osb_laws.specs.Apart.{AnsweredByOneLife, OthersStay, UnnamedStay};
 
@@ -22,9 +25,40 @@ pub fn exclusive()
     ensures listed { ListsOnce }
 {}
 
+/// What a status says of the instance that the ask names, from well-formed lives. 201: it is a
+/// creation or a binding that was carried out at once. 202: the last order of the instance runs, and
+/// the body names it. 200: nothing was changed, or an order was carried out at once, or one was
+/// reported. Any other: nothing was changed, from any lives.
+///
+/// A poll that is answered 200 says how far the order is that its operation names, or without one the
+/// last, and its body says one state. A poll that names what a 202 named is about that order. One
+/// that is answered 410 is about a deletion or an unbinding that succeeded; where it names no
+/// operation, the instance or the binding isn't there.
+pub fn statuses()
+    ensures says { StatusesSay }
+    ensures errors { ErrorsChangeNothing }
+    ensures polls { PollsSay }
+    ensures binding_polls { BindingPollsSay }
+    ensures states { StatesShow }
+    ensures names { NamesFind }
+    ensures gone { GoneIsAbsent }
+    ensures binding_gone { GoneBindingIsAbsent }
+{}
+
 /// An ask whose step was taken changes nothing when it is asked again at once.
 pub fn asked_again()
     ensures { AskedAgainStays }
+{}
+
+/// While the order that an ask opened is the last one of its instance and hasn't failed, the ask
+/// changes nothing. So an ask that is made again and again, while its order is reported as succeeded
+/// and whatever else leaves the life of its instance, acts once (`reported`). An instance that is
+/// there isn't created again, nor is a binding bound again.
+pub fn opened_stays()
+    ensures opened { OpenedStays }
+    ensures reported { ReportedOnce }
+    ensures created { CreatedOnce }
+    ensures bound { BoundOnce }
 {}
 
 /// An ask that names an instance is answered by the life of that instance alone, and leaves every

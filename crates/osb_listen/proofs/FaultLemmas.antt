@@ -1,5 +1,4 @@
 -- Why there is no broker.
-use Rattle.std.proofs.Common.{◌≡◌}
 use Rattle.osb_catalog.specs.Rules.{Rules}
 use Rattle.osb_broker.specs.declared.fault.NewFault.{NewFault}
 use Rattle.osb_broker.specs.declared.fault.NewFault.TheVariants.{PlanInUse, Refused}

@@ -1,32 +1,52 @@
 -- Serving from a database file, of which is supposed what it held.
-use Rattle.std.proofs.Common.{◌≡◌, ◌∙◌, refl, sym, subst, ℕ, List, Option, Some, None, IfSome, Result, Ok, Err, OnOk, IfErr}
+use Rattle.std.proofs.Common.{◌≡◌, ◌≢◌, ◌⊎◌, ◌∙◌, inl, inr, refl, sym, subst, arith, ℕ, Bool, true, false, IsTrue, List, [], ◌∷◌, Option, Some, None, IfSome, Result, Ok, Err, IfErr, append-nil}
+use Rattle.std.proofs.lemmas.Bool.{true≢false}
 use Rattle.sqlite.specs.Tree.{Trees}
+use Rattle.sqlite.specs.State.{State, HasCleanDisk, Survives}
 use Rattle.osb_frames.specs.declared.limits.Limits.{Limits}
 use Rattle.osb_catalog.specs.Rules.{Rules}
 use Rattle.osb_orders.specs.Lives.{Lives}
 use Rattle.osb_audit.specs.Plans.{plans_in_use}
-use Rattle.osb_statements.specs.declared.fault.StoreFault.{StoreFault}
-use Rattle.osb_statements.specs.declared.fault.StoreFault.TheVariants.{Refused, NotOurs}
-use Rattle.osb_file.specs.File.{AreLivesOf}
-use Rattle.osb_broker.specs.Plans.{first_lacking, ReportsLacking}
+use Rattle.osb_file.specs.declared.fault.FileFault.{FileFault}
+use Rattle.osb_file.specs.declared.fault.FileFault.TheVariants.{Refused, NotOurs, Missing}
+use Rattle.osb_file.specs.declared.origin.Origin.{Origin}
+use Rattle.osb_file.specs.File.{AreLivesOf, HasNoTables, KeepsLivesOf}
+use Rattle.osb_file.proofs.FileLemmas.{held_are, only_lives_of}
+use Rattle.osb_statements.specs.Steps.{stored}
+use Rattle.osb_broker.specs.BrokerState.{Works}
 use Rattle.osb_broker.specs.Served.{AreStandard}
+use Rattle.osb_broker.specs.Conversations.{Conversation, AreConversations}
+use Rattle.osb_broker.specs.Plans.{first_lacking, ReportsLacking}
 use Rattle.osb_broker.specs.declared.fault.NewFault.{NewFault}
 use Rattle.osb_broker.specs.declared.fault.NewFault.TheVariants as new
 use Rattle.osb_listen.specs.declared.fault.ListenFault.{ListenFault}
 use Rattle.osb_listen.specs.declared.fault.ListenFault.TheVariants.{Database, PlanInUse, Memory, CannotListen, CannotWrite, CannotAccept, FileTaken}
-use Rattle.osb_listen.specs.Connections.{AfterConnections, AfterFewer}
-use Rattle.osb_listen.specs.Held.{ServesFrom, ServesFewerFrom, NoBroker, LeavesOf}
-use Rattle.osb_listen.specs.Listen.{IsOfServing, NamesLackingPlan, listen_fault_of}
-use Rattle.osb_listen.specs.Inside.{IsOfAddress}
+use Rattle.osb_listen.specs.Conversations.{AreAsMany, LeadTo, MissesFile}
+use Rattle.osb_listen.specs.Held.{AreBefore, HasServed, LeadInto, ServesFrom, Serving, NoBroker, LeavesOf, LeavesWith, IsOfFile, origin_line}
+use Rattle.osb_listen.specs.Listen.{NamesLackingPlan, listen_fault_of}
+use Rattle.osb_listen.specs.Inside.{IsOfAddress, IsOfDatabase}
+use Rattle.osb_listen.proofs.ConversationLemmas.{standard}
+use Rattle.osb_listen.proofs.PartLemmas.{says_none}
 
-pub if_some_under : {A : Type 0} (o : Option A) (N : Type 0) (P Q : A → Type 0) → (N → IfSome o P) → ((a : A) → (N → P a) → Q a) → IfSome o Q
-if_some_under None N P Q known f = tt
-if_some_under (Some a) N P Q known f = f a known
+pub if_some_both : {A : Type 0} (o : Option A) (N M : Type 0) (P R Q : A → Type 0) → (N → IfSome o P) → (M → IfSome o R) → ((a : A) → (N → P a) → (M → R a) → Q a) → IfSome o Q
+if_some_both None N M P R Q one other f = tt
+if_some_both (Some a) N M P R Q one other f = f a one other
 
--- a database that is refused, or in which no lives stand
-pub not_taken : (rules : Rules) (db : Trees) (fault : StoreFault) → (fault ≡ NotOurs → (lives : Lives) → ¬ AreLivesOf db lives) → NoBroker rules db (Database fault)
-not_taken rules db Refused not_ours = tt
-not_taken rules db NotOurs not_ours = not_ours refl
+pub if_some_and : {A : Type 0} (o : Option A) {P R Q : A → Type 0} → IfSome o P → IfSome o R → ((a : A) → P a → R a → Q a) → IfSome o Q
+if_some_and None one other f = tt
+if_some_and (Some a) one other f = f a one other
+
+-- a database that is refused, in which no lives stand, or that has no tables
+pub not_taken : (rules : Rules) (db : Trees) (fault : FileFault) → (fault ≡ NotOurs → (lives : Lives) → ¬ AreLivesOf db lives) → (fault ≡ Missing → HasNoTables db) → NoBroker rules db (Database fault)
+not_taken rules db Refused not_ours missing = tt
+not_taken rules db NotOurs not_ours missing = not_ours refl
+not_taken rules db Missing not_ours missing = missing refl
+
+-- a file that can't be opened is refused or lacks
+pub of_file : (existing : Bool) (fault : FileFault) → fault ≢ NotOurs → (fault ≡ Missing → existing ≡ true) → IsOfFile existing (Database fault)
+of_file existing Refused ours missing = inl refl
+of_file existing NotOurs ours missing = absurd (ours refl)
+of_file existing Missing ours missing = inr (missing refl, refl)
 
 lacking : (rules : Rules) (db : Trees) (lives : Lives) (fault : NewFault) → AreLivesOf db lives → ReportsLacking fault (first_lacking rules (plans_in_use lives)) → NoBroker rules db (listen_fault_of fault)
 lacking rules db lives (new.PlanInUse service plan) stand tells = record { lives = lives; stand = stand; first = tells }
@@ -38,14 +58,61 @@ not_made rules db lives fault told is stand tells =
     subst (λ (found : ListenFault). NoBroker rules db found) (sym is) (lacking rules db lives fault stand tells)
 
 -- where there is no broker, nothing was served
-pub without_broker : (rules : Rules) (k all : ℕ) (db : Trees) (left : Lives) (told_old told_new : List ℕ) (fault : ListenFault) → NoBroker rules db fault → LeavesOf rules k all db left told_old told_new fault
-without_broker rules k all db left told_old told_new (Database fault) why = why
-without_broker rules k all db left told_old told_new (PlanInUse service plan) why = why
-without_broker rules k all db left told_old told_new Memory why = absurd why
-without_broker rules k all db left told_old told_new CannotListen why = absurd why
-without_broker rules k all db left told_old told_new CannotWrite why = absurd why
-without_broker rules k all db left told_old told_new CannotAccept why = absurd why
-without_broker rules k all db left told_old told_new FileTaken why = absurd why
+abbrev pub nothing_served : ListenFault → Serving
+nothing_served fault = record { ended = Err fault; conversations = []; before = [] }
+
+pub without_broker : (rules : Rules) (k : ℕ) (existing : Bool) (db : Trees) (left : Lives) (fault : ListenFault) → NoBroker rules db fault → LeavesOf rules k existing db (nothing_served fault) left
+without_broker rules k existing db left (Database fault) why = why
+without_broker rules k existing db left (PlanInUse service plan) why = why
+without_broker rules k existing db left Memory why = absurd why
+without_broker rules k existing db left CannotListen why = absurd why
+without_broker rules k existing db left CannotWrite why = absurd why
+without_broker rules k existing db left CannotAccept why = absurd why
+without_broker rules k existing db left FileTaken why = absurd why
+
+pub none_before : (rules : Rules) (fault : ListenFault) → IsOfDatabase rules fault → AreBefore (Err fault) []
+none_before rules (Database fault) is = refl
+none_before rules (PlanInUse service plan) is = refl
+none_before rules Memory is = absurd is
+none_before rules CannotListen is = absurd is
+none_before rules CannotWrite is = absurd is
+none_before rules CannotAccept is = absurd is
+none_before rules FileTaken is = absurd is
+
+pub none_many : (rules : Rules) (all : ℕ) (fault : ListenFault) → IsOfDatabase rules fault → AreAsMany (Err fault) all 0
+none_many rules all (Database fault) is = refl
+none_many rules all (PlanInUse service plan) is = refl
+none_many rules all Memory is = absurd is
+none_many rules all CannotListen is = absurd is
+none_many rules all CannotWrite is = absurd is
+none_many rules all CannotAccept is = absurd is
+none_many rules all FileTaken is = absurd is
+
+pub none_missed : (rules : Rules) (missed : ℕ) (fault : ListenFault) → IsOfDatabase rules fault → MissesFile {T = Unit {0}} (Err fault) missed missed
+none_missed rules missed (Database fault) is = refl
+none_missed rules missed (PlanInUse service plan) is = refl
+none_missed rules missed Memory is = absurd is
+none_missed rules missed CannotListen is = absurd is
+none_missed rules missed CannotWrite is = absurd is
+none_missed rules missed CannotAccept is = absurd is
+none_missed rules missed FileTaken is = absurd is
+
+pub has_nothing : (rules : Rules) (all : ℕ) (fault : ListenFault) (journal : List Conversation) (said : List ℕ) (failed : ℕ) → IsOfDatabase rules fault → HasServed all (nothing_served fault) journal journal said said failed failed
+has_nothing rules all fault journal said failed is =
+    record { journal = sym (append-nil journal); many = none_many rules all fault is; first = none_before rules fault is; lines = says_none said failed }
+
+-- what comes before there is a file is of a database
+pub of_no_file : (rules : Rules) (existing : Bool) (fault : ListenFault) → IsOfFile existing fault → IsOfDatabase rules fault
+of_no_file rules existing fault (inl is) = subst (λ (found : ListenFault). IsOfDatabase rules found) (sym is) tt
+of_no_file rules existing fault (inr (asked, is)) = subst (λ (found : ListenFault). IsOfDatabase rules found) (sym is) tt
+
+-- the records lack no database, and neither does what comes once there is a broker
+pub new_not_missing : (fault : NewFault) (told : ListenFault) → told ≡ listen_fault_of fault → told ≡ Database Missing → ⊥
+new_not_missing (new.PlanInUse service plan) told is missing = cc
+new_not_missing new.Refused told is missing = cc
+
+pub address_not_missing : (fault : ListenFault) → IsOfAddress fault → fault ≡ Database Missing → ⊥
+address_not_missing fault is missing = subst (λ (found : ListenFault). IsOfAddress found) missing is
 
 -- once there is a broker, no plan is named as lacking
 pub names_none : (rules : Rules) (fault : ListenFault) → IsOfAddress fault → NamesLackingPlan rules fault
@@ -57,44 +124,83 @@ names_none rules CannotWrite is = tt
 names_none rules CannotAccept is = tt
 names_none rules FileTaken is = tt
 
--- what was served is said of the settings, the number of requests and the lives that a caller knows
-module _ (given rules : Rules) (most k all : ℕ) (db : Trees) (old left new : Lives) (told_old told_new : List ℕ) (is_rules : given ≡ rules) (is_most : most ≡ k) (is_new : left ≡ new) (stand : AreLivesOf db old) where
-  known : (limits : Limits) (count : ℕ) → AreStandard limits → AfterConnections given limits most count old left told_old told_new → ServesFrom rules k count db new told_old told_new
-  known limits count standard after = record {
-    old = old;
-    stand = stand;
-    limits = limits;
-    standard = standard;
-    after = subst (λ (lives : Lives). AfterConnections rules limits k count old lives told_old told_new) is_new
-        (subst (λ (number : ℕ). AfterConnections rules limits number count old left told_old told_new) is_most
-        (subst (λ (found : Rules). AfterConnections found limits most count old left told_old told_new) is_rules after));
-  }
+-- the lines before those of conversations, once there is a broker
+pub before_at : (result : Result (Unit {0}) ListenFault) (origin : Origin) → IfErr result IsOfAddress → AreBefore result (origin_line origin ∷ [])
+before_at (Ok x) origin is = (origin, refl)
+before_at (Err (Database fault)) origin is = absurd is
+before_at (Err (PlanInUse service plan)) origin is = absurd is
+before_at (Err Memory) origin is = (origin, refl)
+before_at (Err CannotListen) origin is = (origin, refl)
+before_at (Err CannotWrite) origin is = (origin, refl)
+before_at (Err CannotAccept) origin is = (origin, refl)
+before_at (Err FileTaken) origin is = (origin, refl)
 
-  pub all_served : ((limits : Limits) × AreStandard limits × AfterConnections given limits most all old left told_old told_new) → ServesFrom rules k all db new told_old told_new
-  all_served (limits, standard, after) = known limits all standard after
+-- what was served is left
+pub left_at : (rules : Rules) (k : ℕ) (existing : Bool) (db : Trees) (serving : Serving) (new : Lives) (result : Result (Unit {0}) ListenFault) → IfErr result IsOfAddress
+    → ServesFrom rules k existing db serving new → LeavesWith rules k existing db serving new result
+left_at rules k existing db serving new (Ok x) is served = served
+left_at rules k existing db serving new (Err (Database fault)) is served = absurd is
+left_at rules k existing db serving new (Err (PlanInUse service plan)) is served = absurd is
+left_at rules k existing db serving new (Err Memory) is served = served
+left_at rules k existing db serving new (Err CannotListen) is served = served
+left_at rules k existing db serving new (Err CannotWrite) is served = served
+left_at rules k existing db serving new (Err CannotAccept) is served = served
+left_at rules k existing db serving new (Err FileTaken) is served = served
 
-  fewer_served : ((limits : Limits) × AreStandard limits × AfterFewer given limits most all old left told_old told_new) → ServesFewerFrom rules k all db new told_old told_new
-  fewer_served (limits, standard, (count, less, after)) = (count, less, known limits count standard after)
+-- of the settings, the number of requests and the lives that a caller knows
+pub known : (given rules : Rules) (limits : Limits) (most k : ℕ) (conversations : List Conversation) (old left new : Lives) → given ≡ rules → most ≡ k → left ≡ new
+    → AreConversations given limits most old conversations left → AreConversations rules limits k old conversations new
+known given rules limits most k conversations old left new is_rules is_most is_new lead =
+    subst (λ (lives : Lives). AreConversations rules limits k old conversations lives) is_new
+    (subst (λ (number : ℕ). AreConversations rules limits number old conversations left) is_most
+    (subst (λ (found : Rules). AreConversations found limits most old conversations left) is_rules lead))
 
-  unchanged : left ≡ old → AreLivesOf db new
-  unchanged same = subst (λ (lives : Lives). AreLivesOf db lives) (sym same ∙ is_new) stand
+-- a crash leaves what it left before
+pub keeps_on : (db : Trees) (old new : State) → KeepsLivesOf db old → ((left : Trees) → new.may_leave left → old.may_leave left ⊎ ⊥) → KeepsLivesOf db new
+keeps_on db old new keeps only lives are left may = elim (only left may) [
+  | inl was ↦ keeps lives are left was
+  | inr never ↦ absurd never
+]
 
-  pub left_at : (fault : ListenFault) → IsOfAddress fault
-      → (IsOfServing fault → (limits : Limits) × AreStandard limits × AfterFewer given limits most all old left told_old told_new)
-      → (¬ IsOfServing fault → left ≡ old)
-      → LeavesOf rules k all db new told_old told_new fault
-  left_at (Database fault) is fewer same = absurd is
-  left_at (PlanInUse service plan) is fewer same = absurd is
-  left_at Memory is fewer same = unchanged (same (λ no. no))
-  left_at CannotListen is fewer same = unchanged (same (λ no. no))
-  left_at CannotWrite is fewer same = unchanged (same (λ no. no))
-  left_at CannotAccept is fewer same = fewer_served (fewer tt)
-  left_at FileTaken is fewer same = fewer_served (fewer tt)
+-- where nothing was said, the lives stay
+pub leads_nowhere : (rules : Rules) (k : ℕ) (db : Trees) (now : State) → KeepsLivesOf db now → (old : Lives) → AreLivesOf db old → (left : Trees) → now.may_leave left → LeadInto rules k old [] left
+leads_nowhere rules k db now keeps old are left may =
+    record { lives = old; are_in = keeps old are left may; limits = standard.0; standard = standard.1; lead = refl }
 
-pub on_ok_under : {A E : Type 0} (r : Result A E) (P Q W : Type 0) → (W → OnOk r P) → ((W → P) → Q) → OnOk r Q
-on_ok_under (Ok x) P Q W known f = f known
-on_ok_under (Err e) P Q W known f = tt
+-- of the settings and the number of requests that a caller knows
+pub led : (given rules : Rules) (most k : ℕ) → given ≡ rules → most ≡ k → {old : Lives} {conversations : List Conversation} {left : Trees} → LeadInto given most old conversations left → LeadInto rules k old conversations left
+led given rules most k is_rules is_most {old} {conversations} {left} lead =
+    subst (λ (number : ℕ). LeadInto rules number old conversations left) is_most
+    (subst (λ (found : Rules). LeadInto found most old conversations left) is_rules lead)
 
-pub if_err_under : {A E : Type 0} (r : Result A E) (W : Type 0) (P B Q R : E → Type 0) → IfErr r P → (W → IfErr r B) → IfErr r Q → ((e : E) → P e → (W → B e) → Q e → R e) → IfErr r R
-if_err_under (Ok x) W P B Q R one two three f = tt
-if_err_under (Err e) W P B Q R one two three f = f e one two three
+module _ (rules : Rules) (limits : Limits) (k : ℕ) (conversations : List Conversation) (db : Trees) (old new : State) where
+  -- what a crash leaves of a store with which conversations were had
+  pub leads_into : AreStandard limits → (Works old → AreLivesOf db (stored old)) → (HasCleanDisk old → KeepsLivesOf db old) → LeadTo rules limits k old new conversations → Survives old new (λ _. IsTrue old.is_open)
+      → HasCleanDisk new → (lives : Lives) → AreLivesOf db lives → (left : Trees) → new.may_leave left → LeadInto rules k lives conversations left
+  leads_into standard found keeps lead survives clean lives are left may = by old.is_open refl
+    where
+      was_clean : HasCleanDisk old
+      was_clean = omega (arith, clean, survives.clean)
+
+      by : (is_open : Bool) → old.is_open ≡ is_open → LeadInto rules k lives conversations left
+      by true live =
+          let works : Works old = record { clean = was_clean; live = live } in
+          let leaves = (lead.left works clean).left left may in
+          let same : stored old ≡ lives = only_lives_of db (stored old) lives (found works) are in
+          record {
+            lives = leaves.0;
+            are_in = held_are left leaves.0 leaves.1 leaves.2;
+            limits = limits;
+            standard = standard;
+            lead = subst (λ (l : Lives). AreConversations rules limits k l conversations leaves.0) same leaves.3;
+          }
+      by false shut = elim (survives.crash clean left may) [
+        | inl was ↦ record {
+          lives = lives;
+          are_in = keeps was_clean lives are left was;
+          limits = limits;
+          standard = standard;
+          lead = lead.lives lives lives (inr (clean, shut, refl));
+        }
+        | inr live ↦ let both : true ≡ false = sym live ∙ shut in absurd (true≢false both)
+      ]

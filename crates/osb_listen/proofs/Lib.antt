@@ -1,4 +1,4 @@
-mod PartLemmas
-mod AfterLemmas
+pub mod ConversationLemmas
 mod FaultLemmas
 mod HeldLemmas
+pub mod PartLemmas

@@ -1,32 +1,68 @@
 -- Serving from a database file, of which is supposed what it held.
-use Rattle.std.specs.Prelude.{◌≡◌, ◌<◌, ℕ, List, Some, ⊤}
+use Rattle.std.specs.Prelude.{◌≡◌, ◌⊎◌, ◌++◌, ℕ, Bool, true, List, [], ◌∷◌, codes, length, Some, Result, Ok, Err, ⊤}
 use Rattle.sqlite.specs.Tree.{Trees}
+use Rattle.sqlite.specs.State.{State, HasCleanDisk}
 use Rattle.osb_frames.specs.declared.limits.Limits.{Limits}
 use Rattle.osb_catalog.specs.Rules.{Rules}
 use Rattle.osb_orders.specs.Lives.{Lives}
 use Rattle.osb_audit.specs.Plans.{plans_in_use}
-use Rattle.osb_statements.specs.declared.fault.StoreFault.TheVariants.{Refused, NotOurs}
-use Rattle.osb_file.specs.File.{AreLivesOf}
+use Rattle.osb_file.specs.declared.fault.FileFault.TheVariants.{Refused, NotOurs, Missing}
+use Rattle.osb_file.specs.declared.origin.Origin.{Origin}
+use Rattle.osb_file.specs.declared.origin.Origin.TheVariants.{New, Kept}
+use Rattle.osb_file.specs.File.{AreLivesOf, HasNoTables, IsOriginOf}
+use Rattle.osb_statements.specs.Steps.{stored}
+use Rattle.osb_broker.specs.BrokerState.{Works}
+use Rattle.osb_broker.specs.Conversations.{Conversation, AreConversations}
 use Rattle.osb_broker.specs.Plans.{first_lacking}
 use Rattle.osb_broker.specs.Served.{AreStandard}
 use Rattle.osb_listen.specs.declared.fault.ListenFault.{ListenFault}
 use Rattle.osb_listen.specs.declared.fault.ListenFault.TheVariants.{Database, PlanInUse, Memory, CannotListen, CannotWrite, CannotAccept, FileTaken}
-use Rattle.osb_listen.specs.Connections.{AfterConnections}
+use Rattle.osb_listen.specs.Conversations.{AreAsMany, lines_of}
+use Rattle.osb_listen.specs.Lines.{Says}
 
--- so many connections were served, within the standard limits, from the lives that stand in these trees
-pub record ServesFrom (rules : Rules) (k count : ℕ) (db : Trees) (new : Lives) (told_old told_new : List ℕ) : Type 0 where
+-- the line that reports that a database is begun
+abbrev pub origin_line : Origin → List ℕ
+origin_line New = codes "database: new\n"
+origin_line Kept = []
+
+-- What serving did: how it ended, the conversations that were had, and the lines that were written before theirs.
+pub record Serving : Type 0 where
+  pub ended : Result (Unit {0}) ListenFault
+  pub conversations : List Conversation
+  pub before : List (List ℕ)
+
+-- before those of conversations comes no line where there is no broker, and else at most that the database is begun
+abbrev pub AreBefore : Result (Unit {0}) ListenFault → List (List ℕ) → Type 0
+AreBefore (Ok x) lines = (origin : Origin) × (lines ≡ origin_line origin ∷ [])
+AreBefore (Err (Database fault)) lines = lines ≡ []
+AreBefore (Err (PlanInUse service plan)) lines = lines ≡ []
+AreBefore (Err Memory) lines = (origin : Origin) × (lines ≡ origin_line origin ∷ [])
+AreBefore (Err CannotListen) lines = (origin : Origin) × (lines ≡ origin_line origin ∷ [])
+AreBefore (Err CannotWrite) lines = (origin : Origin) × (lines ≡ origin_line origin ∷ [])
+AreBefore (Err CannotAccept) lines = (origin : Origin) × (lines ≡ origin_line origin ∷ [])
+AreBefore (Err FileTaken) lines = (origin : Origin) × (lines ≡ origin_line origin ∷ [])
+
+-- The conversations are the journal's last, as many as were asked for or fewer, and the lines were written.
+pub record HasServed (all : ℕ) (serving : Serving) (journal_old journal_new : List Conversation) (said_old said_new : List ℕ) (failed_old failed_new : ℕ) : Type 0 where
+  pub journal : journal_new ≡ journal_old ++ serving.conversations
+  pub many : AreAsMany serving.ended all (length serving.conversations)
+  pub first : AreBefore serving.ended serving.before
+  pub lines : Says (serving.before ++ lines_of serving.conversations) said_old said_new failed_old failed_new
+
+-- The conversations lead, within the standard limits, from the lives in these trees to others. A database without tables
+-- is begun, and any other is served on, as the line before says; none is begun where an existing one was asked for.
+pub record ServesFrom (rules : Rules) (k : ℕ) (existing : Bool) (db : Trees) (serving : Serving) (new : Lives) : Type 0 where
   pub old : Lives
-  pub stand : AreLivesOf db old
+  pub are_in : AreLivesOf db old
+  pub origin : Origin
+  pub is : IsOriginOf db origin
+  pub line : serving.before ≡ origin_line origin ∷ []
+  pub asked : existing ≡ true → origin ≡ Kept
   pub limits : Limits
   pub standard : AreStandard limits
-  pub after : AfterConnections rules limits k count old new told_old told_new
+  pub lead : AreConversations rules limits k old serving.conversations new
 
--- fewer than so many were
-abbrev pub ServesFewerFrom : Rules → ℕ → ℕ → Trees → Lives → List ℕ → List ℕ → Type 0
-ServesFewerFrom rules k all db new told_old told_new =
-    (count : ℕ) × (count < all) × ServesFrom rules k count db new told_old told_new
-
--- the lives that stand in these trees have the plan in use, and it is the first that the catalog lacks
+-- the lives in these trees have the plan in use, and it is the first that the catalog lacks
 pub record IsInUse (rules : Rules) (db : Trees) (service plan : List ℕ) : Type 0 where
   pub lives : Lives
   pub stand : AreLivesOf db lives
@@ -36,6 +72,7 @@ pub record IsInUse (rules : Rules) (db : Trees) (service plan : List ℕ) : Type
 abbrev pub NoBroker : Rules → Trees → ListenFault → Type 0
 NoBroker rules db (Database Refused) = ⊤
 NoBroker rules db (Database NotOurs) = (lives : Lives) → ¬ AreLivesOf db lives
+NoBroker rules db (Database Missing) = HasNoTables db
 NoBroker rules db (PlanInUse service plan) = IsInUse rules db service plan
 NoBroker rules db Memory = ⊥
 NoBroker rules db CannotListen = ⊥
@@ -43,13 +80,35 @@ NoBroker rules db CannotWrite = ⊥
 NoBroker rules db CannotAccept = ⊥
 NoBroker rules db FileTaken = ⊥
 
--- what a fault leaves of a file that held these trees: it isn't served from; or the lives that stand in them are
--- left; or those that fewer connections left
-abbrev pub LeavesOf : Rules → ℕ → ℕ → Trees → Lives → List ℕ → List ℕ → ListenFault → Type 0
-LeavesOf rules k all db new told_old told_new (Database fault) = NoBroker rules db (Database fault)
-LeavesOf rules k all db new told_old told_new (PlanInUse service plan) = IsInUse rules db service plan
-LeavesOf rules k all db new told_old told_new Memory = AreLivesOf db new
-LeavesOf rules k all db new told_old told_new CannotListen = AreLivesOf db new
-LeavesOf rules k all db new told_old told_new CannotWrite = AreLivesOf db new
-LeavesOf rules k all db new told_old told_new CannotAccept = ServesFewerFrom rules k all db new told_old told_new
-LeavesOf rules k all db new told_old told_new FileTaken = ServesFewerFrom rules k all db new told_old told_new
+-- what serving leaves of a file that held these trees, by how it ended: it isn't served from, or the conversations lead to
+-- its lives
+abbrev pub LeavesWith : Rules → ℕ → Bool → Trees → Serving → Lives → Result (Unit {0}) ListenFault → Type 0
+LeavesWith rules k existing db serving new (Ok x) = ServesFrom rules k existing db serving new
+LeavesWith rules k existing db serving new (Err (Database fault)) = NoBroker rules db (Database fault)
+LeavesWith rules k existing db serving new (Err (PlanInUse service plan)) = IsInUse rules db service plan
+LeavesWith rules k existing db serving new (Err Memory) = ServesFrom rules k existing db serving new
+LeavesWith rules k existing db serving new (Err CannotListen) = ServesFrom rules k existing db serving new
+LeavesWith rules k existing db serving new (Err CannotWrite) = ServesFrom rules k existing db serving new
+LeavesWith rules k existing db serving new (Err CannotAccept) = ServesFrom rules k existing db serving new
+LeavesWith rules k existing db serving new (Err FileTaken) = ServesFrom rules k existing db serving new
+
+abbrev pub LeavesOf : Rules → ℕ → Bool → Trees → Serving → Lives → Type 0
+LeavesOf rules k existing db serving new = LeavesWith rules k existing db serving new serving.ended
+
+-- the conversations lead, within the standard limits, from the lives old to those in these trees
+pub record LeadInto (rules : Rules) (k : ℕ) (old : Lives) (conversations : List Conversation) (left : Trees) : Type 0 where
+  pub lives : Lives
+  pub are_in : AreLivesOf left lives
+  pub limits : Limits
+  pub standard : AreStandard limits
+  pub lead : AreConversations rules limits k old conversations lives
+
+-- What serving leaves of a file that held these trees: the lives that the store has, where it works, and those in whatever
+-- a crash leaves now.
+pub record LeavesFile (rules : Rules) (k : ℕ) (existing : Bool) (db : Trees) (serving : Serving) (now : State) : Type 0 where
+  pub works : Works now → LeavesOf rules k existing db serving (stored now)
+  pub crash : HasCleanDisk now → (old : Lives) → AreLivesOf db old → (left : Trees) → now.may_leave left → LeadInto rules k old serving.conversations left
+
+-- why there is no file to open: it is refused, or lacks where an existing one was asked for
+abbrev pub IsOfFile : Bool → ListenFault → Type 0
+IsOfFile existing fault = (fault ≡ Database Refused) ⊎ ((existing ≡ true) × (fault ≡ Database Missing))

@@ -3,12 +3,12 @@ use Rattle.std.specs.Prelude.{◌≡◌, ℕ, List, ◌++◌, codes, None, ⊤}
 use Rattle.std.specs.declared.net.socket_addr.SocketAddr.{SocketAddr}
 use Rattle.std.specs.Net.Grammar.{IsSocketText}
 use Rattle.osb_catalog.specs.Rules.{Rules}
-use Rattle.osb_statements.specs.declared.fault.StoreFault.TheVariants.{Refused}
+use Rattle.osb_file.specs.declared.fault.FileFault.TheVariants.{Refused}
 use Rattle.osb_broker.specs.declared.fault.NewFault.{NewFault}
 use Rattle.osb_broker.specs.declared.fault.NewFault.TheVariants as new
 use Rattle.osb_listen.specs.declared.fault.ListenFault.{ListenFault}
 use Rattle.osb_listen.specs.declared.fault.ListenFault.TheVariants.{Database, PlanInUse, Memory, CannotListen, CannotWrite, CannotAccept, FileTaken}
-use Rattle.osb_listen.specs.Connections.{IsWrittenInPart}
+use Rattle.osb_listen.specs.Lines.{IsWrittenInPart}
 
 -- why nothing is served where there is no broker
 abbrev pub listen_fault_of : NewFault → ListenFault

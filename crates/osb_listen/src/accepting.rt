@@ -5,10 +5,10 @@ use std::time::Duration;
 use std::{io, thread};
 
 /// How often in a row it is tried to take a connection.
-const MOST_TRIES: u32 = 100;
+pub(crate) const MOST_TRIES: u32 = 100;
 
 /// How long is waited for a descriptor: ten seconds in a row at most.
-const PAUSE_MILLISECONDS: u64 = 100;
+pub(crate) const PAUSE_MILLISECONDS: u64 = 100;
 
 /// The numbers of the system's errors that mean no free descriptor: `ENFILE`, where the whole
 /// system has none, and `EMFILE`, where the process may have no more.
@@ -16,9 +16,14 @@ const NONE_IN_SYSTEM: i32 = 23;
 
 const NONE_IN_PROCESS: i32 = 24;
 
+/// Whether the error means that no descriptor is free.
+pub(crate) fn lacks_descriptors(error: &io::Error) -> bool {
+    matches!(error.raw_os_error(), Some(NONE_IN_SYSTEM | NONE_IN_PROCESS))
+}
+
 /// Waits where descriptors lack, until some may have been closed.
 fn pause_after(rt: &HostRuntime, error: &io::Error) {
-    if let Some(NONE_IN_SYSTEM | NONE_IN_PROCESS) = error.raw_os_error() {
+    if lacks_descriptors(error) {
         thread::sleep(rt, Duration::from_millis(PAUSE_MILLISECONDS));
     }
 }

@@ -1,7 +1,7 @@
 //! How long a connection may take.
 
+use crate::seat::Seat;
 use std::io::{self, ErrorKind, Read, Write};
-use std::net::TcpStream;
 use std::time::{Duration, Instant};
 
 /// The moment from which nothing more is read of a stream or written to it.
@@ -40,20 +40,20 @@ impl<'a> Deadline<'a> {
 /// How much later than its deadline a call may end, so that the system needn't be asked before each.
 const SLACK_MILLISECONDS: u64 = 100;
 
-/// A stream that is read, or written, until a deadline. A call that would wait longer than that and
+/// The stream in a seat, which is read, or written, until a deadline. A call that would wait longer than that and
 /// 100 milliseconds fails, and so does each call from then on.
 #[derive(Clone, Copy)]
-pub(crate) struct Timed<'a> {
-    stream: &'a TcpStream,
+pub struct Timed<'a> {
+    seat: &'a Seat,
     deadline: Deadline<'a>,
     /// How long the system lets a call wait, where it was asked.
     patience: Option<Duration>,
 }
 
 impl<'a> Timed<'a> {
-    pub(crate) fn new(stream: &'a TcpStream, deadline: Deadline<'a>) -> Timed<'a> {
+    pub(crate) fn new(seat: &'a Seat, deadline: Deadline<'a>) -> Timed<'a> {
         Timed {
-            stream,
+            seat,
             deadline,
             patience: None,
         }
@@ -73,21 +73,21 @@ impl<'a> Timed<'a> {
 
 impl Read for Timed<'_> {
     fn read(&mut self, buf: &mut [u8]) -> io::Result<usize> {
-        if let Some(patience) = self.new_patience()? {
-            self.stream.set_read_timeout(Some(patience))?;
-            self.patience = Some(patience);
+        let patience = self.new_patience()?;
+        if patience.is_some() {
+            self.patience = patience;
         }
-        (&mut &*self.stream).read(buf)
+        self.seat.read(buf, patience)
     }
 }
 
 impl Write for Timed<'_> {
     fn write(&mut self, buf: &[u8]) -> io::Result<usize> {
-        if let Some(patience) = self.new_patience()? {
-            self.stream.set_write_timeout(Some(patience))?;
-            self.patience = Some(patience);
+        let patience = self.new_patience()?;
+        if patience.is_some() {
+            self.patience = patience;
         }
-        (&mut &*self.stream).write(buf)
+        self.seat.write(buf, patience)
     }
 
     fn flush(&mut self) -> io::Result<()> {

@@ -1,30 +1,24 @@
 //! Ends a TCP connection so that its client can read the last reply.
 
 use crate::deadline::{Deadline, Timed};
+use crate::seat::Seat;
 use std::io::Read;
-use std::net::{Shutdown, TcpStream};
 use std::time::Duration;
 
 /// How long a client that may be sending still is read from, and how many of its bytes are read.
-const LINGER_MILLISECONDS: u64 = 300;
+pub(crate) const LINGER_MILLISECONDS: u64 = 300;
 
-const LINGER_BYTES: usize = 1_048_576;
+pub(crate) const LINGER_BYTES: usize = 1_048_576;
 
 const PIECE: usize = 4096;
 
-/// Whether bytes of the client lie unread. None are waited for: from then on no read of the stream
-/// waits.
-fn has_unread(stream: &TcpStream) -> bool {
-    stream.set_nonblocking(true).is_ok() && matches!(stream.peek(&mut [0]), Ok(1))
-}
-
 /// Reads what the client sends still, until it ends or a bound is met.
-fn linger(rt: &HostRuntime, stream: &TcpStream) {
-    if stream.set_nonblocking(false).is_err() {
+fn linger(rt: &HostRuntime, seat: &Seat) {
+    if !seat.waits() {
         return;
     }
     let deadline = Deadline::after(rt, Duration::from_millis(LINGER_MILLISECONDS));
-    let mut client = Timed::new(stream, deadline);
+    let mut client = Timed::new(seat, deadline);
     let mut piece = [0; PIECE];
     let mut room = LINGER_BYTES;
     for _ in 0..LINGER_BYTES {
@@ -36,13 +30,13 @@ fn linger(rt: &HostRuntime, stream: &TcpStream) {
 }
 
 /// Ends a connection so that its client can read the last reply: where bytes of the client lie
-/// unread as it is closed, the system takes that reply back. A client of which a request was
-/// `refused` as it came may be sending still, though nothing lies there yet.
-pub(crate) fn end(rt: &HostRuntime, stream: &TcpStream, refused: bool) {
-    if stream.shutdown(Shutdown::Write).is_err() {
+/// unread as it is closed, the system takes that reply back. A client that met a framing fault may be
+/// sending still, though nothing lies there yet.
+pub(crate) fn end(rt: &HostRuntime, seat: &Seat, met_fault: bool) {
+    if !seat.shut() {
         return;
     }
-    if refused || has_unread(stream) {
-        linger(rt, stream);
+    if met_fault || seat.has_unread() {
+        linger(rt, seat);
     }
 }

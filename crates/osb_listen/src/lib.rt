@@ -1,15 +1,32 @@
-//! TCP connections, one after the other, answered from one broker over a database file.
+//! TCP connections, one after the other or many at the same time, answered from one broker over a database file.
 #![tactic(auto)]
 
 mod accepting;
+mod asking;
+mod client;
+mod clients;
 mod deadline;
+mod door;
 mod ending;
+mod ends;
+mod entrance;
 mod fault;
 mod file;
 mod listen;
-mod stream;
+mod many;
+mod one_by_one;
+mod peer;
+mod places;
+mod received;
+mod reply;
+mod seat;
+mod serving;
+mod tcp;
 
+pub use entrance::Entrance;
 pub use fault::ListenFault;
 pub use file::serve_file;
-pub use listen::{Acceptor, ListenOptions, serve_listener};
-pub use stream::serve_stream;
+pub use listen::ListenOptions;
+pub use seat::Seat;
+pub use serving::serve_listener;
+pub use tcp::TcpEntrance;

@@ -1,15 +1,45 @@
 //! The program `osb-broker`.
 #![tactic(auto)]
 
-use osb_cli::{run, words_unread};
-use osb_frames::Counted;
-use sqlite::Unknown;
+use osb_cli::{HostFiles, run, words_unread};
+use osb_file::AtPath;
+use osb_frames::{Counted, Sink};
+use osb_listen::{Seat, TcpEntrance};
+use sqlite::{Start, Unknown};
 use std::io;
 use std::process::ExitCode;
 
 /// The words after the program's name.
 fn read_words(rt: &HostRuntime) -> io::Result<Vec<String>> {
     Ok(std::env::args(rt)?.skip(1).collect(rt.alloc())?)
+}
+
+/// The status of what the words ask for. What files hold isn't known: what `run` says holds of all that
+/// they may hold, and `start` stands for what the database file holds.
+fn run_over<S: Start, W: Sink, E: Sink>(
+    rt: &HostRuntime,
+    words: &[String],
+    start: S,
+    output: &mut W,
+    errors: &mut E,
+) -> u8 {
+    let files = HostFiles::new(rt);
+    let seat = Seat::empty();
+    let mut entrance = TcpEntrance::new(rt, &seat);
+    let mut input = Counted::new(rt.stdin());
+    let (status, _) = run(
+        rt,
+        &files,
+        words,
+        AtPath::new(start),
+        &mut entrance,
+        &mut input,
+        output,
+        errors,
+    );
+    // Replies that clients haven't taken yet.
+    entrance.finish();
+    status
 }
 
 fn main(rt: HostRuntime) -> ExitCode {
@@ -19,15 +49,6 @@ fn main(rt: HostRuntime) -> ExitCode {
         Ok(words) => words,
         Err(error) => return ExitCode::from(words_unread(&error, &mut errors)),
     };
-    let mut input = Counted::new(rt.stdin());
-    // What the file of a database holds isn't known: what `run` says holds of each that it may hold.
-    let (status, _) = run(
-        &rt,
-        words.as_slice(),
-        Unknown,
-        &mut input,
-        &mut output,
-        &mut errors,
-    );
+    let status = run_over(&rt, words.as_slice(), Unknown, &mut output, &mut errors);
     ExitCode::from(status)
 }

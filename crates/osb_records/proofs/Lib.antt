@@ -1,3 +1,4 @@
 pub mod AskLemmas
+pub mod ChangesLemmas
 pub mod OpenedLemmas
 pub mod ReadsLemmas

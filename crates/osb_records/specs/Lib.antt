@@ -3,6 +3,7 @@
 
 -- What the calls do: a change, taking a database over, reading; and what a crash leaves.
 pub mod Commit
+pub mod Changes
 pub mod Opened
 pub mod Looks
 pub mod CrashLeaves

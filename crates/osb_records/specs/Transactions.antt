@@ -1,11 +1,16 @@
 -- What one transaction does to a connection. For contracts inside the crate.
-use Rattle.std.specs.Prelude.{◌≡◌, IsTrue, Result, Err, OnOk, OnErr}
+use Rattle.std.specs.Prelude.{◌≡◌, ◌<◌, ℕ, List, take, IsTrue, Result, Err, OnOk, OnErr}
 use Rattle.sqlite.specs.Schema.{Schema}
-use Rattle.sqlite.specs.State.{State, HasCleanDisk, Survives}
+use Rattle.sqlite.specs.Effect.{IsDatabase}
+use Rattle.sqlite.specs.State.{State, HasCleanDisk, KeepsCommit, Survives}
 use Rattle.osb_orders.specs.Lives.{Lives}
 use Rattle.osb_statements.specs.declared.fault.StoreFault.{StoreFault}
 use Rattle.osb_statements.specs.declared.fault.StoreFault.TheVariants.{NotOurs}
+use Rattle.osb_contexts.specs.Inside.{Within}
+use Rattle.osb_statements.specs.Queries.{HasLives, ShowsLives}
 use Rattle.osb_statements.specs.Steps.{IsReady, IsSettled, stored, LeavesOnly}
+use Rattle.osb_records.specs.declared.change.LifeChange.{LifeChange}
+use Rattle.osb_records.specs.Changes.{all_changed}
 use Rattle.osb_records.specs.Opened.{AreLivesOfDatabase}
 use Rattle.osb_records.specs.Commit.{Commits}
 
@@ -30,3 +35,25 @@ pub record BecomesLives (old new : State) (result : Result (Unit {0}) StoreFault
   pub found_open : HasCleanDisk new → OnOk result (IsTrue old.is_open)
   pub durable : HasCleanDisk new → OnOk result (LeavesOnly new (stored new))
   pub crash : Survives old new (Commits old lives)
+
+-- A transaction runs, on a store that shows lives where it is open.
+pub record IsInside (s : State) : Type 0 where
+  pub runs : HasCleanDisk s → IsTrue s.in_transaction
+  pub shows : ShowsLives s
+  pub sound : HasCleanDisk s → IsTrue s.is_open → IsDatabase s.now
+
+-- Inside a transaction that goes on the lives have become these, well formed, with the rows and the contexts that they
+-- have. Nothing is committed.
+pub record Goes (old new : State) (lives : Lives) : Type 0 where
+  pub within : Within old new
+  pub shows : HasLives new.now
+  pub lives_are : stored new ≡ lives
+  pub sound : IsDatabase new.now
+
+-- so many of these changes were made inside a transaction that goes on, and nothing is committed
+pub record HasMade (old new : State) (changes : List LifeChange) (count : ℕ) : Type 0 where
+  pub inside : IsInside new
+  pub survives : Survives old new (λ _. ⊥)
+  pub kept : HasCleanDisk new → KeepsCommit old new
+  pub found_open : HasCleanDisk new → 0 < count → IsTrue old.is_open
+  pub goes : HasCleanDisk new → IsTrue old.is_open → Goes old new (all_changed (take count changes) (stored old))

@@ -1,6 +1,7 @@
 //! The records in memory, where no disk fails and the store stays open.
 
-ghost use Rattle.std.specs.Prelude.{◌≡◌, IfOk, OnOk, OnErr};
+ghost use Rattle.std.specs.Prelude.{◌≡◌, ◌<◌, length, IfOk, OnOk, OnErr};
+ghost use Rattle.std.specs.List.{AllByRecursion};
 ghost use Rattle.sqlite.specs.Held.{state};
 ghost use Rattle.sqlite.specs.Steps.{over_memory};
 ghost use Rattle.osb_orders.specs.Lives.{life_of};
@@ -10,8 +11,10 @@ ghost use Rattle.osb_orders.specs.Changed.{lives_changed};
 ghost use Rattle.osb_orders.specs.IsLife.{IsLives};
 ghost use Rattle.osb_audit.specs.Plans as spec;
 ghost use Rattle.osb_statements.specs.Steps.{stored};
+ghost use Rattle.osb_records.specs.Changes.{all_changed, AllCanBeMade, ChangesSomething};
 ghost use Rattle.osb_records.specs.Commit.{FinishesLast};
 
+use crate::change::LifeChange;
 use crate::records::Records;
 use osb_asks::Ask;
 use osb_orders::{Change, Order, View};
@@ -86,4 +89,17 @@ pub fn commit(
         stored (state over_memory records.old)) }
 {
     records.commit(instance, change)
+}
+
+/// As `Records::commit_all`.
+pub fn commit_all(records: &mut Records<MemStore>, changes: &[LifeChange]) -> Result<(), StoreFault>
+    requires more { 0 < length changes.now }
+    requires some { AllByRecursion ChangesSomething changes.now }
+    requires made { AllCanBeMade changes.now (stored (state over_memory records.old)) }
+    ensures ok { OnOk result (stored (state over_memory records.new) ≡
+        all_changed changes.now (stored (state over_memory records.old))) }
+    ensures err { OnErr result (stored (state over_memory records.new) ≡
+        stored (state over_memory records.old)) }
+{
+    records.commit_all(changes)
 }

@@ -1,7 +1,8 @@
 //! The records of all orders, over any store.
 
-ghost use Rattle.std.specs.Prelude.{◌≡◌, ◌≢◌, false, IsTrue, IfOk, IfErr, OnOk, OnErr};
+ghost use Rattle.std.specs.Prelude.{◌≡◌, ◌≢◌, ◌<◌, length, false, IsTrue, IfOk, IfErr, OnOk, OnErr};
 ghost use Rattle.std.specs.FinMap.{empty};
+ghost use Rattle.std.specs.List.{AllByRecursion};
 ghost use Rattle.sqlite.specs.Held.{state};
 ghost use Rattle.sqlite.specs.State.{HasCleanDisk, Survives};
 ghost use Rattle.sqlite.specs.Steps.{over_memory};
@@ -19,10 +20,13 @@ ghost use Rattle.osb_statements.specs.declared.fault.StoreFault.TheVariants as f
 ghost use Rattle.osb_records.specs.CrashLeaves.{KeepsLives};
 ghost use Rattle.osb_records.specs.Opened.{AreLivesOfDatabase, HoldsSame};
 ghost use Rattle.osb_statements.specs.Steps.{IsReady, IsSettled, LeavesOnly, stored};
+ghost use Rattle.osb_records.specs.Changes.{all_changed, AllCanBeMade, ChangesSomething};
 ghost use Rattle.osb_records.specs.Commit.{Commits, FinishesLast, IsDurable};
 ghost use Rattle.osb_records.specs.Looks.{Looks, MayLook};
 
 use crate::adopt::take_over;
+use crate::change::LifeChange;
+use crate::changes::make_all;
 use crate::commits::{append, finish};
 use crate::looking::{
     read_counts, read_life, read_plans, read_running, view_of_instance, view_without_instance,
@@ -228,5 +232,36 @@ impl<S: Alter> Records<S> {
                 finish(&mut self.conn, self.alloc, instance, *number, outcome)
             }
         }
+    }
+
+    /// Makes these changes, one after the other, in one transaction: all of them or, where the store refuses
+    /// one, none. Where a failed disk shuts the store, the next opening finds the lives as they were, or as
+    /// they are after all of the changes.
+    pub fn commit_all(&mut self, changes: &[LifeChange]) -> Result<(), StoreFault>
+        requires more { 0 < length changes.now }
+        requires some { AllByRecursion ChangesSomething changes.now }
+        requires made { HasCleanDisk (state S.Store self.old) →
+            IsTrue (state S.Store self.old).is_open →
+            AllCanBeMade changes.now (stored (state S.Store self.old)) }
+        // At `Ok` all changes were made, and with an error none was.
+        ensures ok { HasCleanDisk (state S.Store self.new) →
+            OnOk result (stored (state S.Store self.new) ≡
+            all_changed changes.now (stored (state S.Store self.old))) }
+        ensures err { HasCleanDisk (state S.Store self.new) →
+            IsTrue (state S.Store self.new).is_open →
+            OnErr result (stored (state S.Store self.new) ≡ stored (state S.Store self.old)) }
+        // A store that a fault has shut stays shut, and no change is made in it.
+        ensures was_open { HasCleanDisk (state S.Store self.new) →
+            IsTrue (state S.Store self.new).is_open → IsTrue (state S.Store self.old).is_open }
+        ensures open { HasCleanDisk (state S.Store self.new) →
+            OnOk result (IsTrue (state S.Store self.old).is_open) }
+        // A crash of the call leaves what it left before, or the lives after all changes; a crash after `Ok` leaves
+        // only these.
+        ensures crash { Survives (state S.Store self.old) (state S.Store self.new) (Commits
+            (state S.Store self.old) (all_changed changes.now (stored (state S.Store self.old)))) }
+        ensures durable { HasCleanDisk (state S.Store self.new) →
+            OnOk result (LeavesOnly (state S.Store self.new) (stored (state S.Store self.new))) }
+    {
+        make_all(&mut self.conn, self.alloc, changes)
     }
 }

@@ -4,34 +4,15 @@ use Rattle.std.proofs.lemmas.Bool.{false≢true}
 use Rattle.std.proofs.Math.Logic.{∥∥₁_elim, ∥∥₁_map}
 use Rattle.sqlite.specs.Tree.{Trees}
 use Rattle.sqlite.specs.State.{State, HasCleanDisk, IsLive, Opens, Survives}
-use Rattle.sqlite_catalog.proofs.ReadLemmas.{lists_once}
-use Rattle.osb_tables.specs.Tables.{second_schema}
-use Rattle.osb_tables.specs.declared.schema.Indexes.TheVariants.{Both}
-use Rattle.osb_tables.proofs.SchemaLemmas.{versions_apart, second_is_something}
 use Rattle.osb_orders.specs.Lives.{Lives}
 use Rattle.osb_statements.specs.Stored.{lives_stored}
 use Rattle.osb_records.specs.CrashLeaves.{KeepsLives}
-use Rattle.osb_records.specs.Opened.{HoldsSame, AreLivesOfDatabase}
+use Rattle.osb_records.specs.Opened.{HoldsSame}
 use Rattle.osb_statements.specs.Steps.{HoldsLives}
-use Rattle.osb_file.specs.File.{AreLivesOf}
 use Rattle.osb_file.proofs.FileLemmas.{opened_stand}
+use Rattle.osb_file.proofs.HeldLemmas.{held_are_found, stored_are_found}
 use Rattle.osb_restart.specs.Restart.{MayLeaveLives}
 use Rattle.osb_restart.proofs.LivesLemmas.{Lives-set}
-
--- trees are a database of one schema, so where they hold lives no others stand in them
-pub stored_are_found : (db : Trees) (lives found : Lives) → HoldsLives lives db → AreLivesOf db found → found ≡ lives_stored db
-stored_are_found db lives found holds stand = go stand.2
-  where
-    schema : stand.0 ≡ second_schema
-    schema = lists_once _ _ _ stand.1.lists holds.sound.lists
-
-    go : AreLivesOfDatabase (record { schema = stand.0; trees = db }) found → found ≡ lives_stored db
-    go (inl none) = absurd (second_is_something Both (sym schema ∙ none.0))
-    go (inr (inl first)) = absurd (versions_apart first.0.0 Both (sym first.0.1 ∙ schema))
-    go (inr (inr second)) = second.2
-
-pub held_are_found : (db : Trees) (lives found : Lives) → HoldsLives lives db → AreLivesOf db found → found ≡ lives
-held_are_found db lives found holds stand = stored_are_found db lives found holds stand ∙ holds.lives_are
 
 -- a crash of a run that took over what it opened leaves the lives of what it opened
 pub holds_same : (conn : State) (db : Trees) → Opens conn → IsLive conn → ((left : Trees) → conn.may_leave left → left ≡ conn.committed.trees)

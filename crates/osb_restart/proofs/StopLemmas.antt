@@ -28,9 +28,15 @@ module _ {D : Type 0} {g : Ghosts D} (last : FileStore D g) (log db : D) (same :
   pub store_is_clean : IsClean (view last)
   store_is_clean = no_doubt _ (clean_is last.pool ∙ its_files_are_clean)
 
-  -- whatever database the next open finds there, the store allowed it
+  -- whatever a stop leaves of them has a database that the store allowed
+  pub images_hold : (image : Image) → outcomes g log db image → (IsClean (view last) → IsTrue (view last).is_numbered) → (IsClean (view last) → AreDatabases (recovers last))
+      → ∥ ((trees : Trees) × recovers last trees × HoldsDatabase image trees) ∥₁
+  images_hold image left numbered sound =
+      let may = may_leave_is last.pool image its_files_are_clean (subst (λ (pair : D × D). outcomes g pair.0 pair.1 image) same left) in
+      opens_again last (numbered store_is_clean) (sound store_is_clean) image may
+
+  -- which is the one that the next open finds there
   pub trees_are_left : (image : Image) → outcomes g log db image → (IsClean (view last) → IsTrue (view last).is_numbered) → (IsClean (view last) → AreDatabases (recovers last))
       → (found : Trees) → ((trees : Trees) → HoldsDatabase image trees → found ≡ trees) → ∥ recovers last found ∥₁
   trees_are_left image left numbered sound found holds =
-      let may = may_leave_is last.pool image its_files_are_clean (subst (λ (pair : D × D). outcomes g pair.0 pair.1 image) same left) in
-      ∥∥₁_map (opens_again last (numbered store_is_clean) (sound store_is_clean) image may) (λ it. subst (recovers last) (sym (holds it.0 it.2)) it.1)
+      ∥∥₁_map (images_hold image left numbered sound) (λ it. subst (recovers last) (sym (holds it.0 it.2)) it.1)

@@ -1,7 +1,5 @@
 -- What public contracts cite, in the order in which to read it.
 
--- What the next run may find after a stop, and what a whole history leaves.
+-- What the next run may find after a stop, and where runs lead with a stop of the machine behind each.
 pub mod Restart
-pub mod Lived
--- For contracts inside the crate.
-pub mod Inside
+pub mod Runs

@@ -28,6 +28,9 @@ pub mod WholeTexts
 pub mod WholeLemmas
 pub mod TableReads
 pub mod StoredLivesLemmas
+pub mod PieceLemmas
+pub mod StoredPieceLemmas
+pub mod JudgedLemmas
 pub mod PlanLemmas
 pub mod ContextLemmas
 pub mod NoRowLemmas

@@ -1,6 +1,5 @@
 -- What the lists that were read say of the database, and that new tables store no lives.
-use Rattle.std.proofs.Common.{◌≡◌, Bool, true, ℕ, List, [], ◌∷◌, map, Ordering, Less, nat_cmp, refl, sym, ap, subst, ◌∙◌}
-use Rattle.std.specs.Prelude.{◌↔◌}
+use Rattle.std.proofs.Common.{◌≡◌, ℕ, List, [], ◌∷◌, map, Ordering, Less, nat_cmp, refl, sym, ap, subst, ◌∙◌}
 use Rattle.std.specs.FinMap.{empty}
 use Rattle.std.specs.List.Sorted.{IsStrictlySortedBy}
 use Rattle.sqlite.specs.Order.{Row}
@@ -15,27 +14,25 @@ use Rattle.osb_audit.specs.Bindings.{binding_cmp, AllBindingsStand}
 use Rattle.osb_audit.specs.Audit.{AreSorted, AreRowsOfLives}
 use Rattle.osb_bare.specs.Bare.{bare_lives}
 use Rattle.osb_joined.specs.declared.entry.ContextEntry.{ContextEntry}
-use Rattle.osb_joined.specs.Contexts.{AreRising, contexts_of}
-use Rattle.osb_joined.specs.Joined.{joined_lives}
+use Rattle.osb_joined.specs.Contexts.{contexts_of}
 use Rattle.osb_joined.specs.Join.{bare_instance_entry}
-use Rattle.osb_joined.specs.Audit.{HaveNoContexts, AreRowsWithContexts}
-use Rattle.osb_joined.proofs.LivesLemmas.{numbered, contexts_rise}
+use Rattle.osb_joined.specs.Audit.{HaveNoContexts}
 use Rattle.osb_tables.specs.Tables.{tables_schema}
 use Rattle.osb_rows.specs.Rows.{Stores}
-use Rattle.osb_contexts.specs.Contexts.{contexts_in, HoldsContexts, AreContextsOf}
+use Rattle.osb_contexts.specs.Contexts.{contexts_in, HoldsContexts}
 use Rattle.osb_contexts.specs.Steps.{ContextSteps, VersionSteps}
-use Rattle.osb_contexts.proofs.SortLemmas.{contexts_are, none_stored, held_again as held_contexts}
+use Rattle.osb_contexts.proofs.SortLemmas.{none_stored}
 use Rattle.osb_contexts.proofs.StepLemmas.{within_then}
 use Rattle.osb_statements.specs.declared.whole.Tables.{Tables}
 use Rattle.osb_statements.specs.Read.{IsListOf, AreTablesOf}
 use Rattle.osb_statements.specs.Instances.{instance_row, instance_cells}
 use Rattle.osb_statements.specs.Bindings.{binding_row, binding_cells}
-use Rattle.osb_statements.specs.Stored.{AreBare, AreBareRows, Holds, HoldsEntries, Content, content_in, entry_row, order_cells, bare_lives_in, lives_stored, entries_in, instances_in, bindings_in}
+use Rattle.osb_statements.specs.Stored.{AreBare, AreBareRows, Holds, HoldsEntries, Content, content_in, entry_row, order_cells, bare_lives_in, entries_in, instances_in, bindings_in}
 use Rattle.osb_statements.specs.Standing.{IsConsistent}
-use Rattle.osb_statements.specs.StoredLives.{StoreFirst, StoreLives}
+use Rattle.osb_statements.specs.StoredLives.{StoreFirst}
 use Rattle.osb_statements.specs.Inside.{Makes}
 use Rattle.osb_statements.specs.LivesWritten.{WritesLives}
-use Rattle.osb_statements.specs.Steps.{stored, content}
+use Rattle.osb_statements.specs.Steps.{content}
 use Rattle.osb_statements.proofs.SortLemmas.{same_bare, same_rows, same_bindings, same_versions, entries_are, instances_are, bindings_are, held_again}
 use Rattle.osb_statements.proofs.BareLemmas.{stored_bare, instances_bare}
 use Rattle.osb_statements.proofs.WriteLemmas.{no_lives, no_contexts_of, no_content, no_standing}
@@ -53,10 +50,10 @@ module _ {E : Type 0} (cmp : E → E → Ordering) where
   rises (e ∷ es) up = (up.0, rises es up.1)
 
   -- a list that rises is stored
-  stored_list : (cells : Row → Row) (shown : E → Row) (rows : List Row) (es : List E) → IsListOf cells shown cmp rows es → IsStrictlySortedBy cmp es → Stores cells shown cmp rows es
+  pub stored_list : (cells : Row → Row) (shown : E → Row) (rows : List Row) (es : List E) → IsListOf cells shown cmp rows es → IsStrictlySortedBy cmp es → Stores cells shown cmp rows es
   stored_list cells shown rows es list up = record { held = list.held; rising = ascends es up }
 
-one_rises : (version : ℕ) → IsStrictlySortedBy nat_cmp (version ∷ [])
+pub one_rises : (version : ℕ) → IsStrictlySortedBy nat_cmp (version ∷ [])
 unfolding IsStrictlySortedBy
 one_rises version = (tt, tt)
 
@@ -152,41 +149,6 @@ module _ (db : Trees) (tables : Tables) (read : AreTablesOf db tables) where
   -- the contexts that were gathered
   pub first_contexts : (it : IsFirst_) (contexts : List ContextEntry) → contexts ≡ contexts_of (lives_in orders) → contexts ≡ contexts_of (bare_lives_in db)
   first_contexts it contexts is = is ∙ ap (λ entries. contexts_of (lives_in entries)) (sym (orders_of 1 (held 1 it.0 it.1.0)))
-
-  -- ---- version 2
-
-  module _ (contexts : List ContextEntry) (of_contexts : AreContextsOf db contexts) where
-    abbrev IsSecond_ : Type 0
-    IsSecond_ = (tables.versions.items ≡ 2 ∷ []) × AreRowsWithContexts contexts orders instances bindings
-
-    second_stored : IsSecond_ → StoreLives db
-    second_stored it =
-        let audit = it.1 in
-        let holds = held 2 it.0 audit.rise in
-        let stored : HoldsContexts contexts db = record { held = of_contexts.held; rising = subst AreRising (sym audit.contexts_are) (contexts_rise _ (numbered _ audit.lives)) } in
-        let found : lives_stored db ≡ joined_lives contexts (lives_in orders) = rw (contexts_are db contexts stored, orders_of 2 holds) refl in record {
-          holds = holds_again 2 holds;
-          lives = subst IsLives (sym found) audit.lives;
-          standing = stands 2 holds audit.instances_stand audit.bindings_stand;
-          contexts = subst (λ entries. HoldsContexts entries db) (audit.contexts_are ∙ ap contexts_of (sym found)) stored;
-        }
-
-    second_read : StoreLives db → IsSecond_
-    second_read it =
-        let is_contexts : contexts_in db ≡ contexts = of_contexts.only (contexts_in db) (held_contexts db _ it.contexts) in
-        let found : lives_stored db ≡ joined_lives contexts (lives_in orders) = rw (is_contexts, ap lives_in (is_orders 2 it.holds)) refl in (
-          is_versions 2 it.holds,
-          record {
-            rise = rise 2 it.holds;
-            lives = subst IsLives found it.lives;
-            instances_stand = rows_stand 2 it.holds it.standing.instances;
-            bindings_stand = others_stand_too 2 it.holds it.standing.bindings;
-            contexts_are = sym is_contexts ∙ contexts_are db _ it.contexts ∙ ap contexts_of found;
-          },
-        )
-
-    pub second_whole : (answer : Bool) → (answer ≡ true) ↔ IsSecond_ → (answer ≡ true) ↔ StoreLives db
-    second_whole answer says = (λ is. second_stored (says.0 is), λ is. says.1 (second_read is))
 
 -- what was read without contexts
 pub no_contexts : (orders : List Entry) (instances : List InstanceEntry) → AreBare orders → AreBareRows instances → HaveNoContexts orders instances

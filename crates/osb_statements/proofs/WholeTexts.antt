@@ -9,7 +9,9 @@ use Rattle.sqlite_value.specs.Keys.{ascending}
 use Rattle.osb_rows.proofs.AnswerLemmas.{over}
 use Rattle.osb_statements.proofs.Texts.{all_cells, all_names, instance_cells_read, instance_names, by_instance}
 use Rattle.osb_statements.proofs.BindingTexts.{binding_cells_read, binding_names, by_ids}
-use Rattle.osb_contexts.proofs.Texts.{IsQuery, rowids_of, by_key, every}
+use Rattle.osb_tables.specs.Tables.{second_schema}
+use Rattle.sqlite.proofs.Callers.{IsPlain}
+use Rattle.osb_contexts.proofs.Texts.{IsQuery, rowids_of, by_key, every, between_tests, named_rows}
 
 abbrev pub version_cells_read : List Term
 version_cells_read = col 1 1 ∷ []
@@ -65,3 +67,61 @@ select_bindings = codes "SELECT instance_id, binding_id, phase, service_id, plan
 pub select_bindings_is : IsQuery select_bindings (over 5 [] binding_cells_read by_ids every) binding_names
 unfolding understood everything
 select_bindings_is = (refl, refl, (refl, refl))
+
+-- ---- texts that read some instances, and that test the ids of all
+
+abbrev pub named_orders : List ℕ
+named_orders = codes "SELECT rowid, instance_id > '' AND instance_id <= x'' AS named FROM orders ORDER BY rowid"
+
+pub named_orders_is : IsQuery named_orders (named_rows 1) (codes "rowid" ∷ codes "named" ∷ [])
+unfolding understood everything
+named_orders_is = (refl, refl, (refl, refl))
+
+abbrev pub some_orders : List ℕ
+some_orders = codes "SELECT instance_id, seq, kind, binding_id, service_id, plan_id, place, spot, params, maint, state, note, credentials FROM orders WHERE instance_id > ?1 AND instance_id <= ?2 ORDER BY instance_id, seq"
+
+pub some_orders_is : IsQuery some_orders (over 1 between_tests all_cells by_key every) all_names
+unfolding understood everything
+some_orders_is = (refl, refl, (refl, refl))
+
+abbrev pub named_instances : List ℕ
+named_instances = codes "SELECT rowid, instance_id > '' AND instance_id <= x'' AS named FROM instances ORDER BY rowid"
+
+pub named_instances_is : IsQuery named_instances (named_rows 3) (codes "rowid" ∷ codes "named" ∷ [])
+unfolding understood everything
+named_instances_is = (refl, refl, (refl, refl))
+
+abbrev pub some_instances : List ℕ
+some_instances = codes "SELECT instance_id, phase, busy, last_seq, service_id, plan_id, organization, space, params, maint FROM instances WHERE instance_id > ?1 AND instance_id <= ?2 ORDER BY instance_id"
+
+pub some_instances_is : IsQuery some_instances (over 3 between_tests instance_cells_read by_instance every) instance_names
+unfolding understood everything
+some_instances_is = (refl, refl, (refl, refl))
+
+abbrev pub named_bindings : List ℕ
+named_bindings = codes "SELECT rowid, instance_id > '' AND instance_id <= x'' AS named FROM bindings ORDER BY rowid"
+
+pub named_bindings_is : IsQuery named_bindings (named_rows 5) (codes "rowid" ∷ codes "named" ∷ [])
+unfolding understood everything
+named_bindings_is = (refl, refl, (refl, refl))
+
+abbrev pub some_bindings : List ℕ
+some_bindings = codes "SELECT instance_id, binding_id, phase, service_id, plan_id, app_guid, bind_resource, params, credentials FROM bindings WHERE instance_id > ?1 AND instance_id <= ?2 ORDER BY instance_id, binding_id"
+
+pub some_bindings_is : IsQuery some_bindings (over 5 between_tests binding_cells_read by_ids every) binding_names
+unfolding understood everything
+some_bindings_is = (refl, refl, (refl, refl))
+
+abbrev pub select_end : List ℕ
+select_end = codes "SELECT instance_id FROM orders WHERE instance_id > ?1 ORDER BY instance_id, seq LIMIT 1 OFFSET ?2"
+
+pub select_end_plain : IsPlain (understood second_schema select_end)
+unfolding understood everything
+select_end_plain = (refl, refl)
+
+abbrev pub select_end_of_instances : List ℕ
+select_end_of_instances = codes "SELECT instance_id FROM instances WHERE instance_id > ?1 ORDER BY instance_id LIMIT 1 OFFSET ?2"
+
+pub select_end_of_instances_plain : IsPlain (understood second_schema select_end_of_instances)
+unfolding understood everything
+select_end_of_instances_plain = (refl, refl)

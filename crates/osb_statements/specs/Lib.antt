@@ -19,3 +19,4 @@ pub mod Shown
 pub mod BindingRows
 pub mod Written
 pub mod Read
+pub mod Pieces

@@ -1,6 +1,6 @@
 //! The table of what stands of bindings: its columns, its rows, and the statements on it.
 
-ghost use Rattle.std.specs.Prelude.{◌≡◌, ◌≢◌, ◌==◌, List, map, Err, IfOk, [], ◌∷◌, IsTrue, filter, false, not, length};
+ghost use Rattle.std.specs.Prelude.{◌≡◌, ◌≢◌, ◌==◌, List, map, Err, IfOk, [], ◌∷◌, IsTrue, filter, false, not, length, ◌↔◌, true, IfErr};
 ghost use Rattle.std.specs.List.{list_any};
 ghost use Rattle.sqlite.specs.State.{HasCleanDisk, ExecutesInside};
 ghost use Rattle.sqlite.specs.declared.error.Error.TheVariants as fault;
@@ -12,6 +12,10 @@ ghost use Rattle.osb_tables.specs.Tables.{second_schema, instances_schema, table
 ghost use Rattle.osb_statements.specs.declared.fault.StoreFault.TheVariants as faults;
 ghost use Rattle.osb_rows.specs.Rows.{Stores};
 ghost use Rattle.osb_statements.specs.Read.{IsReadAs, IsEntryOf, AreBindingsOf, binding_columns};
+ghost use Rattle.sqlite.specs.Values.{bound_value};
+ghost use Rattle.sqlite_value.specs.Value.{owned};
+ghost use Rattle.osb_contexts.specs.Pieces.{piece, AreNamed};
+ghost use Rattle.osb_contexts.specs.Read.{HaveRowids};
 ghost use Rattle.osb_contexts.specs.Inside.{ShowsSchema};
 ghost use Rattle.osb_statements.specs.Inside.{with_bindings, ShowsBlank, Makes, ContentSteps};
 ghost use Rattle.osb_statements.specs.Bindings.{binding_phase_number, binding_phase_numbered, binding_decoded, binding_row, binding_cells};
@@ -20,12 +24,13 @@ ghost use Rattle.osb_contexts.specs.Reads.{Reads, Finds, behind, StaysInside, Do
 ghost use Rattle.osb_statements.specs.Bindings as spec;
 ghost use Rattle.osb_statements.specs.BindingRows.{binding_found, first_binding, with_binding_row};
 
-use crate::cells::{check_rowids, number_in, text_in};
+use crate::cells::{are_named, check_rowids, number_in, text_in};
 use crate::fault::StoreFault;
 use crate::sql::{execute, select};
 use osb_audit::BindingEntry;
 use osb_orders::{Attributes, BindingNow, BindingPhase};
 use osb_text::Text;
+use sqlite::types::ValueRef;
 use sqlite::{Alter, Error, Row, Transaction, params};
 use std::alloc::Global;
 
@@ -331,5 +336,48 @@ pub(crate) fn read_bindings<S: Alter>(
         &[],
     )?;
     check_rowids(alloc, &ids)?;
+    bindings_in(alloc, &rows)
+}
+
+/// Whether each row of a binding has the id of an instance. Rows without rowids of their own are refused.
+pub(crate) fn are_bindings_named<S: Alter>(
+    tx: &mut Transaction<'_, S>,
+    alloc: Global,
+) -> Result<bool, StoreFault>
+    requires { ShowsSchema second_schema (behind S.Store tx.old) }
+    ensures ok { Finds S.Store tx.old tx.new result (λ s yes.
+        HaveRowids (s.now.trees 5) × ((yes ≡ true) ↔ AreNamed (s.now.trees 5))) }
+    ensures reads { Reads S.Store tx.old tx.new result }
+    ensures refused { IfErr result (λ fault. fault ≡ faults.Refused) }
+{
+    let rows = select(
+        tx,
+        "SELECT rowid, instance_id > '' AND instance_id <= x'' AS named FROM bindings ORDER BY rowid",
+        &[],
+    )?;
+    check_rowids(alloc, &rows)?;
+    are_named(&rows)
+}
+
+/// The rows of the bindings of the instances with ids above the first and up to the second, by their keys.
+pub(crate) fn read_bindings_between<S: Alter>(
+    tx: &mut Transaction<'_, S>,
+    alloc: Global,
+    after: &str,
+    to: ValueRef<'_>,
+) -> Result<Vec<BindingEntry>, StoreFault>
+    requires { ShowsSchema second_schema (behind S.Store tx.old) }
+    ensures ok { Finds S.Store tx.old tx.new result (λ s entries. HaveRowids (s.now.trees 5) →
+        AreBindingsOf (piece after.now (bound_value (owned to.entry)) s.now.trees) entries.items) }
+    ensures reads { Reads S.Store tx.old tx.new result }
+    ensures known { HasCleanDisk (behind S.Store tx.new) → (bindings : List BindingEntry) →
+        Stores binding_cells binding_row binding_cmp (piece after.now (bound_value (owned to.entry))
+        (behind S.Store tx.old).now.trees 5) bindings → result ≢ Err faults.NotOurs }
+{
+    let rows = select(
+        tx,
+        "SELECT instance_id, binding_id, phase, service_id, plan_id, app_guid, bind_resource, params, credentials FROM bindings WHERE instance_id > ?1 AND instance_id <= ?2 ORDER BY instance_id, binding_id",
+        &[ValueRef::Text(after.as_bytes()), to],
+    )?;
     bindings_in(alloc, &rows)
 }

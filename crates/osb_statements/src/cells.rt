@@ -1,6 +1,7 @@
 //! Cells of a row as values.
 
-ghost use Rattle.std.specs.Prelude.{◌≡◌, true, pos, map, IfOk, IfErr, OnOk};
+ghost use Rattle.std.specs.Prelude.{◌≡◌, ◌↔◌, true, pos, map, IfOk, IfErr, OnOk};
+ghost use Rattle.std.specs.List.{AllByRecursion};
 ghost use Rattle.std.specs.Ordering.{nat_cmp};
 ghost use Rattle.std.specs.List.Sorted.{IsStrictlySortedBy};
 ghost use Rattle.sqlite.specs.declared.types.Value.TheVariants.{Int, Text as Words};
@@ -87,4 +88,18 @@ pub(crate) fn check_rowids(alloc: Global, rows: &[Row]) -> Result<(), StoreFault
     } else {
         Err(StoreFault::Refused)
     }
+}
+
+/// Whether the rows say so in the column beside their rowids.
+pub(crate) fn are_named(rows: &[Row]) -> Result<bool, StoreFault>
+    ensures ok { IfOk result (λ yes.
+        (yes ≡ true) ↔ AllByRecursion (λ row. column row 1 ≡ Int (pos 1)) rows.now) }
+    ensures refused { IfErr result (λ fault. fault ≡ faults.Refused) }
+{
+    for row in rows {
+        if number_in(row, 1)? != 1 {
+            return Ok(false);
+        }
+    }
+    Ok(true)
 }

@@ -1,6 +1,6 @@
 //! The table of what stands of instances: its columns, its rows, and the statements on it.
 
-ghost use Rattle.std.specs.Prelude.{◌≡◌, ◌≢◌, ◌↔◌, ◌==◌, true, List, map, Option, Err, IfOk, [], ◌∷◌, IsTrue, filter, ℕ, Some, take, false};
+ghost use Rattle.std.specs.Prelude.{◌≡◌, ◌≢◌, ◌↔◌, ◌==◌, true, List, map, Option, Err, IfOk, [], ◌∷◌, IsTrue, filter, ℕ, Some, take, false, IfErr};
 ghost use Rattle.sqlite.specs.Order.{column, bytes};
 ghost use Rattle.sqlite.specs.State.{HasCleanDisk, ExecutesInside};
 ghost use Rattle.sqlite.specs.declared.error.Error.TheVariants as fault;
@@ -20,6 +20,10 @@ ghost use Rattle.osb_statements.specs.Columns.{number_in};
 ghost use Rattle.osb_statements.specs.Read.{IsReadAs, IsEntryOf, AreInstancesOf, instance_columns, first_told};
 ghost use Rattle.osb_bare.specs.Bare.{bare_attributes, bare_row};
 ghost use Rattle.osb_statements.specs.Stored.{AreBareRows};
+ghost use Rattle.sqlite.specs.Values.{bound_value};
+ghost use Rattle.sqlite_value.specs.Value.{owned};
+ghost use Rattle.osb_contexts.specs.Pieces.{piece, AreNamed};
+ghost use Rattle.osb_contexts.specs.Read.{HaveRowids};
 ghost use Rattle.osb_contexts.specs.Inside.{ShowsSchema};
 ghost use Rattle.osb_statements.specs.Inside.{with_instances, with_row, ShowsBlank, Makes, ContentSteps};
 ghost use Rattle.osb_statements.specs.Instances.{no_attributes, instance_phase_number, instance_phase_numbered, standing_number, standing_decoded, attributes_shown, busy_number, instance_row_decoded, standing_row, standing_columns, instance_row, instance_cells};
@@ -28,13 +32,14 @@ ghost use Rattle.osb_contexts.specs.Reads.{Reads, Finds, behind, StaysInside, Do
 ghost use Rattle.osb_statements.specs.Instances as spec;
 ghost use Rattle.osb_statements.specs.Shown.{AreColumnsOf};
 
-use crate::cells::{attributes_in, check_rowids, number_in, text_in};
+use crate::cells::{are_named, attributes_in, check_rowids, number_in, text_in};
 use crate::fault::StoreFault;
 use crate::sql::{execute, select};
 use osb_orders::{Attributes, InstancePhase, Standing};
 use osb_standing::InstanceRow;
 use osb_standing::laws::listing_by_rows;
 use osb_text::Text;
+use sqlite::types::ValueRef;
 use sqlite::{Alter, Error, Row, Transaction, params};
 use std::alloc::Global;
 
@@ -386,5 +391,49 @@ pub(crate) fn read_instances<S: Alter>(
         &[],
     )?;
     check_rowids(alloc, &ids)?;
+    instances_in(alloc, &rows)
+}
+
+/// Whether each row of an instance has the id of an instance. Rows without rowids of their own are refused.
+pub(crate) fn are_instances_named<S: Alter>(
+    tx: &mut Transaction<'_, S>,
+    alloc: Global,
+) -> Result<bool, StoreFault>
+    requires { ShowsSchema second_schema (behind S.Store tx.old) }
+    ensures ok { Finds S.Store tx.old tx.new result (λ s yes.
+        HaveRowids (s.now.trees 3) × ((yes ≡ true) ↔ AreNamed (s.now.trees 3))) }
+    ensures reads { Reads S.Store tx.old tx.new result }
+    ensures refused { IfErr result (λ fault. fault ≡ faults.Refused) }
+{
+    let rows = select(
+        tx,
+        "SELECT rowid, instance_id > '' AND instance_id <= x'' AS named FROM instances ORDER BY rowid",
+        &[],
+    )?;
+    check_rowids(alloc, &rows)?;
+    are_named(&rows)
+}
+
+/// The rows of the instances with ids above the first and up to the second, by their keys.
+pub(crate) fn read_instances_between<S: Alter>(
+    tx: &mut Transaction<'_, S>,
+    alloc: Global,
+    after: &str,
+    to: ValueRef<'_>,
+) -> Result<Vec<(Text, InstanceRow)>, StoreFault>
+    requires { ShowsSchema second_schema (behind S.Store tx.old) }
+    ensures ok { Finds S.Store tx.old tx.new result (λ s entries. HaveRowids (s.now.trees 3) →
+        AreInstancesOf (piece after.now (bound_value (owned to.entry)) s.now.trees) entries.items) }
+    ensures reads { Reads S.Store tx.old tx.new result }
+    ensures known { HasCleanDisk (behind S.Store tx.new) → (instances : List InstanceEntry) →
+        Stores instance_cells instance_row instance_cmp
+        (piece after.now (bound_value (owned to.entry))
+        (behind S.Store tx.old).now.trees 3) instances → result ≢ Err faults.NotOurs }
+{
+    let rows = select(
+        tx,
+        "SELECT instance_id, phase, busy, last_seq, service_id, plan_id, organization, space, params, maint FROM instances WHERE instance_id > ?1 AND instance_id <= ?2 ORDER BY instance_id",
+        &[ValueRef::Text(after.as_bytes()), to],
+    )?;
     instances_in(alloc, &rows)
 }

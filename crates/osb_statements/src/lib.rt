@@ -3,7 +3,7 @@
 //! Three floors, each of which calls the one below it: cells and values (`cells`, `names`); a statement (`sql`, and
 //! in `format`, `orders`, `instances` and `bindings` those on each table, beside its columns and rows); and several
 //! of them inside a transaction (`tables`, `queries`, `contexts`, `standing`, `writing`, `view`, `reading`, `plans`,
-//! `counting`, `whole`). What stays is said once for each kind of call (`Reads` of osb_contexts).
+//! `counting`, `whole`, `pieces`). What stays is said once for each kind of call (`Reads` of osb_contexts).
 #![tactic(auto)]
 
 mod bindings;
@@ -15,6 +15,7 @@ mod format;
 mod instances;
 mod names;
 mod orders;
+mod pieces;
 mod plans;
 mod queries;
 mod reading;
@@ -27,9 +28,10 @@ mod writing;
 
 pub use counting::count_all;
 pub use fault::StoreFault;
+pub use pieces::are_tables_whole;
 pub use plans::list_plans;
 pub use reading::{list_joined, list_life};
 pub use tables::create_all;
 pub use view::read_joined;
-pub use whole::{are_tables_whole, read_first};
+pub use whole::read_first;
 pub use writing::{append_joined, end_joined};

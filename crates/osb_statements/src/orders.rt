@@ -1,6 +1,6 @@
 //! The table of orders: its columns, its rows, and the statements on it.
 
-ghost use Rattle.std.specs.Prelude.{◌≡◌, ◌≢◌, pos, List, map, Err, IfOk, [], ◌∷◌, IsTrue, filter};
+ghost use Rattle.std.specs.Prelude.{◌≡◌, ◌≢◌, pos, List, map, Err, IfOk, [], ◌∷◌, IsTrue, filter, ◌↔◌, true, IfErr};
 ghost use Rattle.sqlite.specs.declared.types.Value.TheVariants.{Int, Text as Words};
 ghost use Rattle.sqlite.specs.Order.{column};
 ghost use Rattle.sqlite.specs.State.{HasCleanDisk};
@@ -22,16 +22,21 @@ ghost use Rattle.osb_rows.specs.Rows.{Stores};
 ghost use Rattle.osb_statements.specs.Read.{IsReadAs, IsEntryOf, entry_columns, AreOrdersOf};
 ghost use Rattle.osb_statements.specs.Stored.{AreBare, kind_numbered, state_numbered, order_decoded, order_row, order_columns, entry_row, order_cells, entries_in};
 ghost use Rattle.osb_bare.specs.Bare.{bare_order};
+ghost use Rattle.sqlite.specs.Values.{bound_value};
+ghost use Rattle.sqlite_value.specs.Value.{owned};
+ghost use Rattle.osb_contexts.specs.Pieces.{piece, AreNamed};
+ghost use Rattle.osb_contexts.specs.Read.{HaveRowids};
 ghost use Rattle.osb_contexts.specs.Inside.{ShowsSchema};
 ghost use Rattle.osb_statements.specs.Inside.{with_lives, ShowsBlank, Makes, ContentSteps};
 ghost use Rattle.osb_statements.specs.Steps.{bare_in, ShowsTables, content};
 ghost use Rattle.osb_contexts.specs.Reads.{Reads, Finds, behind, StaysInside, Does};
 
-use crate::cells::{attributes_in, check_rowids, number_in, text_in};
+use crate::cells::{are_named, attributes_in, check_rowids, number_in, text_in};
 use crate::fault::StoreFault;
 use crate::sql::{execute, select};
 use osb_orders::{Order, OrderKind, OrderState, Outcome};
 use osb_text::Text;
+use sqlite::types::ValueRef;
 use sqlite::{Alter, Error, Row, Transaction, params};
 use std::alloc::Global;
 
@@ -318,5 +323,48 @@ pub(crate) fn read_orders<S: Alter>(
         &[],
     )?;
     check_rowids(alloc, &ids)?;
+    entries_in(alloc, &rows)
+}
+
+/// Whether each row of an order has the id of an instance. Rows without rowids of their own are refused.
+pub(crate) fn are_orders_named<S: Alter>(
+    tx: &mut Transaction<'_, S>,
+    alloc: Global,
+) -> Result<bool, StoreFault>
+    requires { ShowsSchema second_schema (behind S.Store tx.old) }
+    ensures ok { Finds S.Store tx.old tx.new result (λ s yes.
+        HaveRowids (s.now.trees 1) × ((yes ≡ true) ↔ AreNamed (s.now.trees 1))) }
+    ensures reads { Reads S.Store tx.old tx.new result }
+    ensures refused { IfErr result (λ fault. fault ≡ faults.Refused) }
+{
+    let rows = select(
+        tx,
+        "SELECT rowid, instance_id > '' AND instance_id <= x'' AS named FROM orders ORDER BY rowid",
+        &[],
+    )?;
+    check_rowids(alloc, &rows)?;
+    are_named(&rows)
+}
+
+/// The orders of the instances with ids above the first and up to the second, by their keys.
+pub(crate) fn read_orders_between<S: Alter>(
+    tx: &mut Transaction<'_, S>,
+    alloc: Global,
+    after: &str,
+    to: ValueRef<'_>,
+) -> Result<Vec<(Text, Order)>, StoreFault>
+    requires { ShowsSchema second_schema (behind S.Store tx.old) }
+    ensures ok { Finds S.Store tx.old tx.new result (λ s entries. HaveRowids (s.now.trees 1) →
+        AreOrdersOf (piece after.now (bound_value (owned to.entry)) s.now.trees) entries.items) }
+    ensures reads { Reads S.Store tx.old tx.new result }
+    ensures known { HasCleanDisk (behind S.Store tx.new) → (orders : List Entry) →
+        Stores order_cells entry_row entry_cmp (piece after.now (bound_value (owned to.entry))
+        (behind S.Store tx.old).now.trees 1) orders → result ≢ Err faults.NotOurs }
+{
+    let rows = select(
+        tx,
+        "SELECT instance_id, seq, kind, binding_id, service_id, plan_id, place, spot, params, maint, state, note, credentials FROM orders WHERE instance_id > ?1 AND instance_id <= ?2 ORDER BY instance_id, seq",
+        &[ValueRef::Text(after.as_bytes()), to],
+    )?;
     entries_in(alloc, &rows)
 }

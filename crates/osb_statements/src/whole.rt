@@ -1,4 +1,4 @@
-//! Reading whole tables, inside a transaction.
+//! Reading whole tables of version 1, inside a transaction.
 
 ghost use Rattle.std.specs.Prelude.{◌≡◌, ◌≢◌, true, ℕ, List, Err, IfOk, IfErr, ◌↔◌, [], ◌∷◌};
 ghost use Rattle.sqlite.specs.State.{HasCleanDisk};
@@ -111,27 +111,6 @@ fn are_first(alloc: Global, tables: &Tables) -> Result<bool, StoreFault>
     Ok(are_rows_of_lives(alloc, &tables.orders, &tables.instances, &tables.bindings)?)
 }
 
-/// Whether these are the tables of version 2 of well-formed lives with these contexts.
-fn are_second(alloc: Global, tables: &Tables, contexts: &[ContextEntry]) -> Result<bool, StoreFault>
-    ensures ok { IfOk result (λ yes.
-        HaveNoContexts tables.now.orders.items tables.now.instances.items →
-        (yes ≡ true) ↔ ((tables.now.versions.items ≡ 2 ∷ [])
-        × AreRowsWithContexts contexts.now tables.now.orders.items tables.now.instances.items
-        tables.now.bindings.items)) }
-    ensures refused { IfErr result (λ fault. fault ≡ faults.Refused) }
-{
-    if tables.versions.as_slice() != [2].as_slice() {
-        return Ok(false);
-    }
-    Ok(are_rows_with_contexts(
-        alloc,
-        &tables.orders,
-        &tables.instances,
-        &tables.bindings,
-        contexts,
-    )?)
-}
-
 /// The contexts of lives of version 1, in the order of their keys. Tables of other lives are NotOurs.
 pub fn read_first<S: Alter>(
     tx: &mut Transaction<'_, S>,
@@ -151,21 +130,4 @@ pub fn read_first<S: Alter>(
     } else {
         Err(StoreFault::NotOurs)
     }
-}
-
-/// Whether the tables are those of version 2 of well-formed lives.
-pub fn are_tables_whole<S: Alter>(
-    tx: &mut Transaction<'_, S>,
-    alloc: Global,
-) -> Result<bool, StoreFault>
-    requires { ShowsSchema second_schema (behind S.Store tx.old) }
-    ensures ok { Finds S.Store tx.old tx.new result (λ s yes.
-        (yes ≡ true) ↔ StoreLives s.now.trees) }
-    ensures reads { Reads S.Store tx.old tx.new result }
-    ensures known { HasCleanDisk (behind S.Store tx.new) →
-        StoreLives (behind S.Store tx.old).now.trees → result ≢ Err faults.NotOurs }
-{
-    let tables = read_tables(tx, alloc)?;
-    let contexts = read_contexts(tx, alloc)?;
-    are_second(alloc, &tables, &contexts)
 }

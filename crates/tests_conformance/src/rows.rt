@@ -8,6 +8,7 @@ pub(crate) mod instances;
 mod listing;
 mod login;
 mod plans;
+mod reported;
 pub(crate) mod requests;
 mod settings;
 mod streams;

@@ -7,7 +7,7 @@ use osb_frames::{Limits, Step, next};
 use osb_orders::Change;
 use osb_records::Records;
 use osb_replies::Status;
-use osb_restart::{committed_and_restarted, handled_and_restarted, lived_through, restarted};
+use osb_restart::{committed_and_restarted, handled_and_restarted, restarted};
 use sqlite::{Alter, FileStore};
 use sqlite_disk::{Crash, Memory};
 use std::alloc::Global;
@@ -54,45 +54,6 @@ fn acknowledged_over<D: Crash + Drop>(
     let again = committed_and_restarted(alloc, records, "i", &nothing, OPTIONS);
     drop(nothing);
     Ok(again.ok_or("not restarted")?)
-}
-
-/// One connection, on which this request comes.
-fn alone(alloc: Global, bytes: &[u8]) -> Result<Vec<Vec<u8>>, Fail> {
-    let mut connections = Vec::new(alloc);
-    let mut request = Vec::new(alloc);
-    request.extend_from_slice(bytes)?;
-    connections.push(request)?;
-    Ok(connections)
-}
-
-/// Episodes in each of which the same request comes.
-fn again_and_again(alloc: Global, bytes: &[u8], count: usize) -> Result<Vec<Vec<Vec<u8>>>, Fail> {
-    let mut episodes = Vec::new(alloc);
-    for _ in 0..count {
-        episodes.push(alone(alloc, bytes)?)?;
-    }
-    Ok(episodes)
-}
-
-/// The records after three runs that are each asked for the same instance, and how many outputs
-/// there were.
-fn created_thrice_over<D: Crash + Drop>(
-    alloc: Global,
-    settings: &Settings,
-    records: Records<FileStore<D>>,
-) -> Result<(usize, Records<FileStore<D>>), Fail> {
-    let episodes = again_and_again(alloc, PUT_I, 3)?;
-    let lived = lived_through(alloc, settings, records, &episodes, OPTIONS);
-    drop(episodes);
-    let (outputs, records) = lived.ok_or("not lived through")?;
-    Ok((outputs.len(), records))
-}
-
-/// The same over a new database.
-fn created_thrice(alloc: Global) -> Result<(usize, Records<FileStore<Memory>>), Fail> {
-    let settings = built_in(alloc)?;
-    let records = new_records(alloc).ok_or("not opened")?;
-    created_thrice_over(alloc, &settings, records)
 }
 
 /// How many orders the instance has.
@@ -161,13 +122,5 @@ fn what_is_acknowledged_is_found_again(rt: HostRuntime) -> Result<(), Fail> {
     let (acknowledged, again) = acknowledged_over(rt.alloc(), records)?;
     let orders = orders_in(rt.alloc(), again)?;
     assert!(rt; acknowledged && orders == 1);
-    Ok(())
-}
-
-#[test]
-fn what_each_run_is_asked_for_acts_once(rt: HostRuntime) -> Result<(), Fail> {
-    let (outputs, records) = created_thrice(rt.alloc())?;
-    let orders = orders_in(rt.alloc(), records)?;
-    assert!(rt; outputs == 3 && orders == 1);
     Ok(())
 }

@@ -1,12 +1,12 @@
 //! Connections over a socket, with the client and the program in one thread.
 
 use osb_broker::{Broker, Buffer};
-use osb_file::DatabaseFile;
+use osb_file::{DatabaseFile, WatchedFile};
 use osb_frames::{Counted, Limits};
-use osb_listen::{Acceptor, ListenFault, serve_listener, serve_stream};
-use sqlite::MemStore;
+use osb_listen::{ListenFault, Seat, TcpEntrance, serve_listener};
+use sqlite::Alter;
 use std::io::{self, Read, Write};
-use std::net::{Shutdown, TcpListener, TcpStream};
+use std::net::{TcpListener, TcpStream};
 use std::test::Fail;
 use std::time::Duration;
 use std::{env, fs};
@@ -19,42 +19,55 @@ const PUT_TWICE: &[u8] =
 const TWO_REPLIES: &[u8] =
     b"HTTP/1.1 201 Created\r\nContent-Type: application/json\r\nContent-Length: 2\r\n\r\n{}HTTP/1.1 200 OK\r\nContent-Type: application/json\r\nContent-Length: 2\r\nConnection: close\r\n\r\n{}";
 
-/// A client that has sent these bytes and keeps its sending side open, and the stream that it is
-/// served on.
-fn connected(rt: &HostRuntime, bytes: &[u8]) -> io::Result<(TcpStream, TcpStream)> {
+/// A client that has sent these bytes and keeps its sending side open, and the listener that it waits at.
+fn connected(rt: &HostRuntime, bytes: &[u8]) -> io::Result<(TcpStream, TcpListener)> {
     let listener = TcpListener::bind(rt, "127.0.0.1:0")?;
     let client = TcpStream::connect(rt, listener.local_addr()?)?;
     (&mut &client).write_all(bytes)?;
-    let (stream, _) = listener.accept()?;
-    Ok((client, stream))
+    Ok((client, listener))
 }
 
-/// What is written on standard error for a connection that the broker serves.
-fn told_by(
+/// How the loop over one client ends, as long as this file is there, and what is written on standard error.
+fn looped_over<S: Alter>(
     rt: &HostRuntime,
-    broker: &mut Broker<'_, MemStore>,
-    stream: &TcpStream,
-    milliseconds: u64,
-) -> Result<Vec<u8>, Fail> {
-    let limit = Duration::from_millis(milliseconds);
+    broker: &mut Broker<'_, S>,
+    entrance: &mut TcpEntrance<'_>,
+    file: &DatabaseFile<'_>,
+) -> Result<(Result<(), ListenFault>, Vec<u8>), Fail> {
+    let watched = file.watched(rt);
     let mut buffer = Buffer::new(rt.alloc(), &Limits::STANDARD)?;
     let mut errors = Counted::new(Vec::new(rt.alloc()));
-    serve_stream(rt, broker, &mut buffer, stream, limit, &mut errors);
-    Ok(errors.into_inner())
+    let ended = serve_listener(broker, &mut buffer, entrance, &watched, 1, &mut errors);
+    Ok((ended, errors.into_inner()))
 }
 
-/// The same by a new broker, which takes two requests of a connection.
-fn told(rt: &HostRuntime, stream: &TcpStream, milliseconds: u64) -> Result<Vec<u8>, Fail> {
+/// What is written on standard error for a client that a broker serves, which takes two requests of a
+/// connection, over a file of that name.
+fn reported(
+    rt: &HostRuntime,
+    listener: TcpListener,
+    milliseconds: u64,
+    name: &str,
+) -> Result<Vec<u8>, Fail> {
+    let path = format!(in rt.alloc(); "{}/{name}", env::temp_dir(rt)?.display())?;
+    let log = format!(in rt.alloc(); "{path}-wal")?;
+    let file = DatabaseFile::at(rt, path.as_str(), false)?;
+    fs::write(rt, log.as_str(), "")?;
     let settings = built_in(rt.alloc())?;
     let mut broker = new_broker(rt.alloc(), &settings, 2)?;
-    told_by(rt, &mut broker, stream, milliseconds)
+    let seat = Seat::empty();
+    let limit = Duration::from_millis(milliseconds);
+    let mut entrance = TcpEntrance::at(rt, &seat, listener, limit);
+    match looped_over(rt, &mut broker, &mut entrance, &file)? {
+        (Ok(()), errors) => Ok(errors),
+        (Err(_), _) => Err("a fault")?,
+    }
 }
 
 #[test]
 fn a_client_reads_its_replies(rt: HostRuntime) -> Result<(), Fail> {
-    let (client, stream) = connected(&rt, PUT_TWICE)?;
-    let errors = told(&rt, &stream, 10_000)?;
-    drop(stream);
+    let (client, listener) = connected(&rt, PUT_TWICE)?;
+    let errors = reported(&rt, listener, 10_000, "osb_listen_replies.db")?;
     let mut text = Vec::new(rt.alloc());
     (&mut &client).read_to_end(&mut text)?;
     assert_eq!(rt; text.as_slice(), TWO_REPLIES);
@@ -63,48 +76,44 @@ fn a_client_reads_its_replies(rt: HostRuntime) -> Result<(), Fail> {
 }
 
 #[test]
-fn a_read_that_fails_is_told(rt: HostRuntime) -> Result<(), Fail> {
+fn a_read_that_fails_is_reported(rt: HostRuntime) -> Result<(), Fail> {
     // The client stays silent until its time is over.
-    let (_client, stream) = connected(&rt, b"GET")?;
-    let errors = told(&rt, &stream, 10)?;
+    let (_client, listener) = connected(&rt, b"GET")?;
+    let errors = reported(&rt, listener, 10, "osb_listen_read.db")?;
     assert_eq!(rt; errors.as_slice(), b"connection: read\n".as_slice());
     Ok(())
 }
 
 #[test]
-fn a_write_that_fails_is_told(rt: HostRuntime) -> Result<(), Fail> {
-    let (_client, stream) = connected(&rt, PUT_TWICE)?;
-    stream.shutdown(Shutdown::Write)?;
-    let errors = told(&rt, &stream, 10_000)?;
+fn a_write_that_fails_is_reported(rt: HostRuntime) -> Result<(), Fail> {
+    // The client is gone when its second reply is written: the first one met that.
+    let (client, listener) = connected(&rt, PUT_TWICE)?;
+    drop(client);
+    let errors = reported(&rt, listener, 10_000, "osb_listen_write.db")?;
     assert_eq!(rt; errors.as_slice(), b"connection: write\n".as_slice());
     Ok(())
 }
 
-/// How a broker ends that is to serve one connection.
-fn ended_with(
-    rt: &HostRuntime,
-    broker: &mut Broker<'_, MemStore>,
-    entrance: &Acceptor<'_>,
-) -> Result<Result<(), ListenFault>, Fail> {
-    let mut buffer = Buffer::new(rt.alloc(), &Limits::STANDARD)?;
-    let mut errors = Counted::new(Vec::new(rt.alloc()));
-    Ok(serve_listener(rt, broker, &mut buffer, entrance, 1, &mut errors))
-}
-
-/// The same of a new broker, at this listener and over this file.
+/// How a broker ends that is to serve one client, at this listener and over this file.
 fn ended(
     rt: &HostRuntime,
-    listener: &TcpListener,
-    file: &DatabaseFile<'_>,
+    listener: TcpListener,
+    file: &WatchedFile<'_>,
 ) -> Result<Result<(), ListenFault>, Fail> {
     let settings = built_in(rt.alloc())?;
     let mut broker = new_broker(rt.alloc(), &settings, 1)?;
-    let entrance = Acceptor {
-        listener,
+    let seat = Seat::empty();
+    let mut entrance = TcpEntrance::at(rt, &seat, listener, Duration::from_secs(10));
+    let mut buffer = Buffer::new(rt.alloc(), &Limits::STANDARD)?;
+    let mut errors = Counted::new(Vec::new(rt.alloc()));
+    Ok(serve_listener(
+        &mut broker,
+        &mut buffer,
+        &mut entrance,
         file,
-        time_limit: Duration::from_secs(10),
-    };
-    ended_with(rt, &mut broker, &entrance)
+        1,
+        &mut errors,
+    ))
 }
 
 #[test]
@@ -112,19 +121,24 @@ fn no_connection_can_be_accepted(rt: HostRuntime) -> Result<(), Fail> {
     // A listener that doesn't wait has nobody to accept.
     let listener = TcpListener::bind(&rt, "127.0.0.1:0")?;
     listener.set_nonblocking(true)?;
-    let file = DatabaseFile::at(&rt, ".")?;
-    let ended = ended(&rt, &listener, &file)?;
+    let file = DatabaseFile::at(&rt, ".", false)?;
+    let ended = ended(&rt, listener, &file.watched(&rt))?;
     assert!(rt; ended == Err(ListenFault::CannotAccept));
     Ok(())
 }
 
-/// How a broker ends whose file is removed before its first connection, and what that is sent.
-fn ended_without_file(rt: &HostRuntime, path: &str) -> Result<(bool, Vec<u8>), Fail> {
+/// How a broker ends whose file, or the log of it, is removed before its first connection, and what that
+/// is sent.
+fn ended_without(rt: &HostRuntime, path: &str, ending: &str) -> Result<(bool, Vec<u8>), Fail> {
+    let log = format!(in rt.alloc(); "{path}-wal")?;
+    let taken = format!(in rt.alloc(); "{path}{ending}")?;
     let listener = TcpListener::bind(rt, "127.0.0.1:0")?;
     let client = TcpStream::connect(rt, listener.local_addr()?)?;
-    let file = DatabaseFile::at(rt, path)?;
-    fs::remove_file(rt, path)?;
-    let is_taken = ended(rt, &listener, &file)? == Err(ListenFault::FileTaken);
+    let file = DatabaseFile::at(rt, path, false)?;
+    fs::write(rt, log.as_str(), "")?;
+    let watched = file.watched(rt);
+    fs::remove_file(rt, taken.as_str())?;
+    let is_taken = ended(rt, listener, &watched)? == Err(ListenFault::FileTaken);
     let mut text = Vec::new(rt.alloc());
     (&mut &client).read_to_end(&mut text)?;
     Ok((is_taken, text))
@@ -134,8 +148,10 @@ fn ended_without_file(rt: &HostRuntime, path: &str) -> Result<(bool, Vec<u8>), F
 fn a_file_that_is_taken_away_ends_the_broker(rt: HostRuntime) -> Result<(), Fail> {
     let folder = env::temp_dir(&rt)?;
     let path = format!(in rt.alloc(); "{}/osb_listen_gone.db", folder.display())?;
-    let (is_taken, text) = ended_without_file(&rt, path.as_str())?;
-    assert!(rt; is_taken);
-    assert!(rt; text.is_empty());
+    for ending in ["", "-wal"] {
+        let (is_taken, text) = ended_without(&rt, path.as_str(), ending)?;
+        assert!(rt; is_taken);
+        assert!(rt; text.is_empty());
+    }
     Ok(())
 }

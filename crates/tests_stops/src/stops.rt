@@ -109,7 +109,10 @@ pub(crate) fn opened<D: Crash + Drop>(
 }
 
 /// The same once the machine has come back.
-fn reopened<D: Crash + Drop>(alloc: Global, mut files: Files<D>) -> Option<Records<FileStore<D>>> {
+pub(crate) fn reopened<D: Crash + Drop>(
+    alloc: Global,
+    mut files: Files<D>,
+) -> Option<Records<FileStore<D>>> {
     files.log.crash();
     files.db.crash();
     match opened(alloc, files, OPTIONS) {
@@ -214,7 +217,7 @@ fn goes_on_with<S: Alter + Drop>(
 }
 
 /// Whether a disk has stopped, or stops at its next call.
-fn has_stopped<D: Disk>(files: &mut Files<D>) -> bool {
+pub(crate) fn has_stopped<D: Disk>(files: &mut Files<D>) -> bool {
     !files.may_be_used() || files.log.len().is_err() || files.db.len().is_err()
 }
 

@@ -1,37 +1,47 @@
 use Rattle.std.proofs.lemmas.Option.{IfSome_then}
-use Rattle.std.proofs.lemmas.Result.{on_ok_weaker}
+use Rattle.std.proofs.lemmas.Result.{IfErr-weaker, on_ok_weaker}
 use Rattle.osb_cli.specs.Inside.{AsksCheck, AsksReplay, AsksServe}
-use Rattle.osb_cli.proofs.DoneLemmas.{done_well, if_done, if_failed, is_checked, is_neither, is_replayed, not_both}
-use Rattle.osb_cli.proofs.ServeLemmas.{in_vain, served_as}
+use Rattle.osb_cli.proofs.DoneLemmas.{done_well, if_failed, is_checked, is_listened, is_replayed, not_both}
+use Rattle.osb_cli.proofs.ReportedLemmas.{of_command, other_text, unserved_more}
+use Rattle.osb_cli.proofs.ServeLemmas.{in_vain, left_as}
 use Rattle.osb_cli.proofs.commands.perform.Goals as goal
 
 pub returns-in-Check-clause-done : goal.returns-in-Check-clause-done
 returns-in-Check-clause-done g c taken =
     let asks : AsksCheck _ c.in-Check.asked = rw c.in-Check.is at c.in-Ok.ensures.ok in
     done_well c.check.result c.without_file-in-Check.result.0 _ c.without_file-in-Check.ensures.well
-    (on_ok_weaker c.check.result (λ checked. is_checked _ _ _ _ c.in-Check.asked asks checked) c.check.ensures)
+    (on_ok_weaker c.check.result (λ checked. is_checked _ _ _ _ _ c.in-Check.asked asks checked) c.check.ensures.checked)
 
 pub returns-in-Replay-clause-done : goal.returns-in-Replay-clause-done
 returns-in-Replay-clause-done g c taken =
     let asks : AsksReplay _ c.in-Replay.asked = rw c.in-Replay.is at c.in-Ok.ensures.ok in
     done_well c.replay.result c.without_file-in-Replay.result.0 _ c.without_file-in-Replay.ensures.well
-    (on_ok_weaker c.replay.result (λ replayed. is_replayed _ _ _ _ c.in-Replay.asked asks replayed) c.replay.ensures)
+    (on_ok_weaker c.replay.result (λ replayed. is_replayed _ _ _ _ _ c.in-Replay.asked asks replayed) c.replay.ensures.replayed)
 
 pub returns-in-Serve-clause-done : goal.returns-in-Serve-clause-done
 returns-in-Serve-clause-done g c taken =
     let asks : AsksServe _ c.in-Serve.asked = rw c.in-Serve.is at c.in-Ok.ensures.ok in
-    if_done c.listen.result.0 _ (is_neither _ _ _ _ asks.named)
+    on_ok_weaker c.listen.result.0 (λ told. is_listened _ _ _ _ _ c.in-Serve.asked asks told) c.listen.ensures.told
 
 pub returns-in-Err-clause-done : goal.returns-in-Err-clause-done
 returns-in-Err-clause-done g c taken =
     done_well c.answer_words.result c.without_file.result.0 _ c.without_file.ensures.well
-    (in_vain c.answer_words.result _ (c.answer_words.ensures (c.in-Err.ensures.err taken)))
+    (in_vain c.answer_words.result _ (c.answer_words.ensures.memory (c.in-Err.ensures.err taken)))
 
 pub returns-in-Serve-clause-served : goal.returns-in-Serve-clause-served
 returns-in-Serve-clause-served g c =
     let asks : AsksServe _ c.in-Serve.asked = rw c.in-Serve.is at c.in-Ok.ensures.ok in
-    on_ok_weaker c.listen.result.0 (λ known. IfSome_then c.listen.result.1 known
-    (λ conn served works db holds. served_as _ c.in-Serve.asked db _ _ _ asks (served works db holds))) c.listen.ensures.served
+    IfSome_then c.listen.result.1 c.listen.ensures.served (λ conn served. (
+      served.0,
+      served.1,
+      record { connections = c.in-Serve.asked.place.connections; of_all = asks.connections; served = served.2 },
+      λ db has. left_as _ _ c.in-Serve.asked db served.0 _ asks (served.3 db has),
+    ))
+
+pub returns-in-Serve-clause-lacks : goal.returns-in-Serve-clause-lacks
+returns-in-Serve-clause-lacks g c =
+    let asks : AsksServe _ c.in-Serve.asked = rw c.in-Serve.is at c.in-Ok.ensures.ok in
+    rw asks.settings at c.listen.ensures.lacks
 
 pub returns-in-Serve-clause-serves : goal.returns-in-Serve-clause-serves
 returns-in-Serve-clause-serves g c =
@@ -51,4 +61,32 @@ returns-in-Replay-clause-opened g c taken serves =
 pub returns-in-Err-clause-opened : goal.returns-in-Err-clause-opened
 returns-in-Err-clause-opened g c taken serves =
     done_well c.answer_words.result c.without_file.result.0 _ c.without_file.ensures.well
-    (in_vain c.answer_words.result _ (c.answer_words.ensures (c.in-Err.ensures.err taken)))
+    (in_vain c.answer_words.result _ (c.answer_words.ensures.memory (c.in-Err.ensures.err taken)))
+
+pub returns-in-Serve-clause-unopened : goal.returns-in-Serve-clause-unopened
+returns-in-Serve-clause-unopened g c other =
+    let asks : AsksServe _ c.in-Serve.asked = rw c.in-Serve.is at c.in-Ok.ensures.ok in
+    absurd (other asks.named)
+
+pub returns-in-Serve-clause-fault : goal.returns-in-Serve-clause-fault
+returns-in-Serve-clause-fault g c =
+    let asks : AsksServe _ c.in-Serve.asked = rw c.in-Serve.is at c.in-Ok.ensures.ok in
+    IfErr-weaker c.listen.result.0 _ _ (unserved_more _ _ (λ text are. record { serve = λ _. rw asks.settings at are; other = λ other. absurd (other asks.named) })) c.listen.ensures.fault
+
+pub returns-in-Check-clause-fault : goal.returns-in-Check-clause-fault
+returns-in-Check-clause-fault g c =
+    let asks : AsksCheck _ c.in-Check.asked = rw c.in-Check.is at c.in-Ok.ensures.ok in
+    of_command _ _ (λ text are. record { serve = λ serves. absurd (not_both _ asks.named serves); other = λ _. rw asks.settings at are })
+    c.check.result c.without_file-in-Check.result.0 c.without_file-in-Check.ensures.same c.check.ensures.fault
+
+pub returns-in-Replay-clause-fault : goal.returns-in-Replay-clause-fault
+returns-in-Replay-clause-fault g c =
+    let asks : AsksReplay _ c.in-Replay.asked = rw c.in-Replay.is at c.in-Ok.ensures.ok in
+    of_command _ _ (λ text are. record { serve = λ serves. absurd (asks.no_serve serves); other = λ _. rw asks.settings at are })
+    c.replay.result c.without_file-in-Replay.result.0 c.without_file-in-Replay.ensures.same c.replay.ensures.fault
+
+pub returns-in-Err-clause-fault : goal.returns-in-Err-clause-fault
+returns-in-Err-clause-fault g c =
+    of_command (λ text. ⊥) _ (λ text are. absurd are)
+    c.answer_words.result c.without_file.result.0 c.without_file.ensures.same
+    (IfErr-weaker c.answer_words.result _ _ (other_text (λ text. ⊥)) c.answer_words.ensures.other)

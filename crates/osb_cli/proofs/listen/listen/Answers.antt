@@ -1,24 +1,52 @@
 use Rattle.std.proofs.Common.{subst}
 use Rattle.std.proofs.lemmas.Option.{IfSome_then}
-use Rattle.sqlite.specs.Files.{file_state}
-use Rattle.osb_statements.specs.Steps.{stored}
-use Rattle.osb_cli.specs.Serve.{IsServed}
-use Rattle.osb_cli.proofs.ServeLemmas.{is_opened, is_served, names_in_use}
+use Rattle.sqlite.specs.Held.{state}
+use Rattle.osb_cli.specs.Files.{AreBytesOf}
+use Rattle.osb_cli.specs.Serve.{Leaves}
+use Rattle.osb_cli.proofs.ReportedLemmas.{other_unserved}
+use Rattle.osb_cli.proofs.ServeLemmas.{ended_well, is_left, is_opened, names_in_use}
 use Rattle.osb_cli.proofs.listen.listen.Goals as goal
 
 pub returns-in-Ok-done-clause-served : goal.returns-in-Ok-done-clause-served
 returns-in-Ok-done-clause-served g c =
-    let errors = g.E.Sink.taken c.serve_file-done.new.errors in
-    IfSome_then c.serve_file-done.result.1 (rw c.in-Ok-done.is at c.serve_file-done.ensures.served)
-    (λ conn served works db holds.
-    subst (λ k. IsServed k c.args.asked.now.place.connections db (stored (file_state conn)) (g.E.Sink.taken c.args.errors.now) errors) c.number-per_connection.ensures.is
-    (is_served c.in-Ok.settings c.in-Ok.ensures _ _ db _ _ _ (served works db holds)))
+    let contents = g.F.NamedFiles.contents c.args.files.now in
+    let asked = c.args.asked.now in
+    let done = c.serve_file-done in
+    let served = done.ensures.served in
+    IfSome_then done.result.1 served.3 (λ conn leaves. (
+      served.0,
+      ended_well _ _ _ served.1 c.in-Ok-done.is,
+      served.2,
+      λ db has. subst (λ k. Leaves contents asked.settings.now k asked.place.existing db served.0 (state g.D.Store.Store conn)) c.number-per_connection.ensures.is
+          (is_left contents asked.settings.now c.in-Ok.settings c.in-Ok.ensures.are _ _ db served.0 _ (leaves db has)),
+    ))
+
+pub returns-clause-served : goal.returns-clause-served
+returns-clause-served g c =
+    let contents = g.F.NamedFiles.contents c.args.files.now in
+    let asked = c.args.asked.now in
+    let done = c.serve_file-done in
+    let served = done.ensures.served in
+    IfSome_then done.result.1 served.3 (λ conn leaves. (
+      served.0,
+      tt,
+      served.2,
+      λ db has. subst (λ k. Leaves contents asked.settings.now k asked.place.existing db served.0 (state g.D.Store.Store conn)) c.number-per_connection.ensures.is
+          (is_left contents asked.settings.now c.in-Ok.settings c.in-Ok.ensures.are _ _ db served.0 _ (leaves db has)),
+    ))
 
 pub returns-clause-lacks : goal.returns-clause-lacks
 returns-clause-lacks g c =
-    IfSome_then c.serve_file-done.result.1 (rw c.in-Err-done.is at c.serve_file-done.ensures.leaves)
-    (λ conn leaves works db holds. names_in_use c.in-Ok.settings c.in-Ok.ensures _ _ db _ _ _ c.in-Err-done.fault c.unserved.result c.unserved.ensures (leaves works db holds))
+    let done = c.serve_file-done in
+    let served = done.ensures.served in
+    IfSome_then done.result.1 served.3
+    (λ conn leaves works db has. names_in_use (g.F.NamedFiles.contents c.args.files.now) c.args.asked.now.settings.now c.in-Ok.settings c.in-Ok.ensures.are _ _ db served.0 _ done.result.0 c.in-Err-done.fault c.unserved.result
+    served.1 c.in-Err-done.is c.unserved.ensures.one ((leaves db has).works works))
 
 pub returns-in-Ok-done-clause-opened : goal.returns-in-Ok-done-clause-opened
 returns-in-Ok-done-clause-opened g c =
     is_opened c.serve_file-done.result.0 c.serve_file-done.result.1 _ _ c.in-Ok-done.is c.serve_file-done.ensures.opened
+
+pub returns-clause-fault : goal.returns-clause-fault
+returns-clause-fault g c =
+    other_unserved (AreBytesOf (g.F.NamedFiles.contents c.args.files.now) c.args.asked.now.settings.now) c.unserved.result c.unserved.ensures.other

@@ -1,4 +1,4 @@
-use Rattle.std.proofs.Common.{rules, refl, ◌≡◌, ◌≢◌, ◌∙◌, sym, ap, subst, map, string_bytes, Some, option_map, [], codes, unwrap_or}
+use Rattle.std.proofs.Common.{rules, refl, ◌≡◌, ◌≢◌, ◌∙◌, sym, ap, subst, map, string_bytes, Some, codes}
 use Rattle.clap.specs.Words.{found_of, rows_of, subcommand_of, takes}
 use Rattle.osb_cli.specs.Grammar.{osb_broker}
 use Rattle.osb_cli.specs.Inside.{Asks}

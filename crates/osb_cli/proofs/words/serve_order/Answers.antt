@@ -1,7 +1,7 @@
 use Rattle.std.proofs.Common.{rules, ◌∙◌, refl, codes}
 use Rattle.clap.specs.Words.{found_of}
-use Rattle.clap.proofs.WalkLemmas.{first_value-rows}
-use Rattle.osb_cli.proofs.WordLemmas.{text_or}
+use Rattle.clap.proofs.WalkLemmas.{first_value-rows, one_text-rows}
+use Rattle.osb_cli.proofs.WordLemmas.{flag_given, text_or}
 use Rattle.osb_cli.proofs.words.serve_order.Goals as goal
 
 pub returns : goal.returns
@@ -11,10 +11,12 @@ returns c =
       named = refl;
       settings = text_or _ _ _ _ c.unwrap_or.ensures (c.get_str.ensures ∙ first_value-rows found (codes "settings"));
       database = text_or _ _ _ _ c.unwrap_or-2.ensures (c.get_str-2.ensures ∙ first_value-rows found (codes "database"));
+      existing = flag_given _ _ _ (one_text-rows found (codes "existing")) c.get_flag.ensures.none c.get_flag.ensures.value;
       address = text_or _ _ _ _ c.unwrap_or-3.ensures (c.get_str-3.ensures ∙ first_value-rows found (codes "listen"));
       connections = c.connections_of.ensures;
-      per_connection = c.per_connection_of.ensures;
+      per_connection = c.per_connection_of-per_connection.ensures;
       seconds = c.time_limit_of.result;
       time_limit = search rules;
       limit = c.time_limit_of.ensures;
+      together = search rules;
     }

@@ -1,26 +1,21 @@
-use Rattle.std.proofs.Common.{ap, subst, map, ◌∙◌}
+use Rattle.std.proofs.Common.{◌∙◌, ap, map}
 use Rattle.osb_contexts.specs.Reads.{behind}
-use Rattle.osb_contexts.specs.Read.{AreRowids, context_columns}
+use Rattle.osb_contexts.specs.Read.{context_columns}
 use Rattle.osb_rows.proofs.ResultLemmas.{if_ok}
 use Rattle.osb_contexts.proofs.StepLemmas.{clean_before}
 use Rattle.osb_contexts.proofs.TableReads.{contexts_read}
-use Rattle.osb_contexts.proofs.Texts.{context_rowids_is, select_contexts_is}
+use Rattle.osb_contexts.proofs.Texts.{select_contexts_is}
 use Rattle.osb_contexts.proofs.contexts.read_contexts.Goals as goal
 
 pub select-requires-clause-plain : goal.select-requires-clause-plain
-select-requires-clause-plain g c = context_rowids_is.2
-
-pub select-requires-2-clause-plain : goal.select-requires-2-clause-plain
-select-requires-2-clause-plain g c = select_contexts_is.2
+select-requires-clause-plain g c = select_contexts_is.2
 
 pub returns-clause-ok : goal.returns-clause-ok
 returns-clause-ok g c clean =
     let old = behind g.S.Store c.args.tx.now in
-    let mid = behind g.S.Store c.select.new.tx in
-    let new = behind g.S.Store c.select-2.new.tx in
-    let before = clean_before mid new _ c.select-2.ensures.reads.survives clean in
-    let same = c.in_ok-ids.ensures.reads.same before in
-    let has = c.requires (clean_before old mid _ c.select.ensures.reads.survives before) same.0.was_open in
-    if_ok c.entries_in.result (λ entries is. contexts_read old mid new c.in_ok-ids.ids.items c.in_ok-rows.rows.items entries.items has same.0.now_is (c.in_ok-ids.ensures.ok before) (c.in_ok-rows.ensures.ok clean)
-    (subst AreRowids c.deref.ensures.value c.in_ok-check_rowids.ensures) (is ∙ ap (map context_columns) c.deref-2.ensures.value))
+    let new = behind g.S.Store c.select.new.tx in
+    let same = c.in_ok-rows.ensures.reads.same clean in
+    let has = c.requires (clean_before old new _ c.select.ensures.reads.survives clean) same.0.was_open in
+    if_ok c.entries_in.result (λ entries is have. contexts_read old new has c.in_ok-rows.rows.items c.args.after.now _ entries.items
+    (rw (c.as_bytes.ensures.value) at (c.in_ok-rows.ensures.ok clean)) (is ∙ ap (map context_columns) c.deref.ensures.value) have)
     c.entries_in.ensures

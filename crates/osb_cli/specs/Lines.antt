@@ -1,0 +1,80 @@
+-- The lines on standard error that report why a command ends with another status than 0.
+use Rattle.std.specs.Prelude.{ℕ, List, [], ◌∷◌, codes, decimal, string_bytes, Option, None, Some}
+use Rattle.std.specs.List.{concat}
+use Rattle.osb_catalog.specs.declared.fault.SettingsFault.{SettingsFault}
+use Rattle.osb_catalog.specs.declared.field.Field.{Field}
+use Rattle.osb_catalog.specs.declared.found.Place.{Place}
+use Rattle.osb_catalog.specs.declared.found.Place.TheVariants as place
+use Rattle.osb_catalog.specs.FaultNames.{fault_number, fault_name, field_in}
+use Rattle.osb_catalog.specs.Fields.{field_name}
+use Rattle.osb_file.specs.declared.fault.FileFault.{FileFault}
+use Rattle.osb_file.specs.declared.fault.FileFault.TheVariants as file
+use Rattle.osb_file.specs.declared.unseen.Unseen.{Unseen}
+use Rattle.osb_file.specs.declared.unseen.Unseen.TheVariants as unseen
+use Rattle.osb_file.specs.Faults.{unseen_fault_of, unseen_text}
+use Rattle.osb_cli.specs.declared.fault.Fault.{Fault}
+use Rattle.osb_cli.specs.declared.fault.Fault.TheVariants as the
+use Rattle.osb_cli.specs.declared.fault.Unserved.{Unserved}
+use Rattle.osb_cli.specs.declared.fault.Unserved.TheVariants.{PlanInUse}
+use Rattle.osb_cli.specs.declared.fault.Unserved.TheVariants as served
+
+-- the number, the name and the field of a fault of the settings, as `settings: 2 Missing id`
+abbrev pub settings_line : SettingsFault → Option Field → List ℕ
+settings_line fault None = concat (codes "settings: " ∷ decimal (fault_number fault) ∷ codes " "
+    ∷ fault_name fault ∷ codes "\n" ∷ [])
+settings_line fault (Some field) = concat (codes "settings: " ∷ decimal (fault_number fault) ∷ codes " "
+    ∷ fault_name fault ∷ codes " " ∷ field_name field ∷ codes "\n" ∷ [])
+
+-- where in the settings it is
+abbrev pub place_line : Place → List ℕ
+place_line place.File = concat (codes "at the top\n" ∷ [])
+place_line place.Catalog = concat (codes "at catalog\n" ∷ [])
+place_line place.Platform = concat (codes "at platform\n" ∷ [])
+place_line place.Backend = concat (codes "at backend\n" ∷ [])
+place_line (place.Service at) = concat (codes "at catalog.services[" ∷ decimal at ∷ codes "]\n" ∷ [])
+place_line (place.Plan service at) = concat (codes "at catalog.services[" ∷ decimal service
+    ∷ codes "].plans[" ∷ decimal at ∷ codes "]\n" ∷ [])
+place_line (place.Mode name) = concat (codes "at modes." ∷ name ∷ codes "\n" ∷ [])
+
+-- the number and the name of a fault of the database
+abbrev pub database_fault_line : FileFault → List ℕ
+database_fault_line file.Refused = concat (codes "database: 1 Refused\n" ∷ [])
+database_fault_line file.NotOurs = concat (codes "database: 2 NotOurs\n" ∷ [])
+database_fault_line file.Missing = concat (codes "database: 3 Missing\n" ∷ [])
+
+-- why a database file wasn't looked at: the fault, and behind it its cause, where that isn't said yet
+abbrev pub unseen_lines : Unseen → List (List ℕ)
+unseen_lines unseen.NotOurs = database_fault_line file.NotOurs ∷ []
+unseen_lines cause = database_fault_line (unseen_fault_of cause)
+    ∷ concat (unseen_text cause ∷ codes "\n" ∷ []) ∷ []
+
+-- those of a fault; the text for words that aren't those of a command is clap's
+abbrev pub fault_lines : Fault → List (List ℕ)
+fault_lines (the.CannotRead name) = concat (codes "osb-broker: cannot read " ∷ name.now ∷ codes "\n" ∷ []) ∷ []
+fault_lines (the.TooLarge name) = concat (codes "osb-broker: too large " ∷ name.now ∷ codes "\n" ∷ []) ∷ []
+fault_lines the.OutOfMemory = concat (codes "osb-broker: out of memory\n" ∷ []) ∷ []
+fault_lines (the.Database fault) = database_fault_line fault ∷ []
+fault_lines the.CannotWrite = concat (codes "osb-broker: cannot write\n" ∷ []) ∷ []
+fault_lines (the.CannotListen address) =
+    concat (codes "osb-broker: cannot listen on " ∷ address.now ∷ codes "\n" ∷ []) ∷ []
+fault_lines the.CannotAccept = concat (codes "osb-broker: cannot accept\n" ∷ []) ∷ []
+fault_lines (the.Words text) = concat (string_bytes text ∷ []) ∷ []
+fault_lines (the.Settings fault) = settings_line fault (field_in fault) ∷ []
+fault_lines (the.Placed fault at) = settings_line fault (field_in fault) ∷ place_line at ∷ []
+fault_lines (the.Unseen cause) = unseen_lines cause
+
+abbrev pub unserved_lines : Unserved → List (List ℕ)
+unserved_lines (served.Fault fault) = fault_lines fault
+unserved_lines (PlanInUse service plan) =
+    concat (codes "plan in use: " ∷ service ∷ codes " " ∷ plan ∷ codes "\n" ∷ []) ∷ []
+
+-- the status of each
+abbrev pub fault_status : Fault → ℕ
+fault_status (the.Words text) = 2
+fault_status (the.Settings fault) = 3
+fault_status (the.Placed fault at) = 3
+fault_status _ = 1
+
+abbrev pub unserved_status : Unserved → ℕ
+unserved_status (served.Fault fault) = fault_status fault
+unserved_status (PlanInUse service plan) = 4

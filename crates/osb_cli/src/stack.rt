@@ -1,0 +1,67 @@
+//! The stack that the deepest request takes, which is taken before the first one.
+
+use osb_text::{TextFault, read_object};
+use std::alloc::AllocError;
+use std::fs;
+
+/// More than the program takes of the stack, whatever it is asked: some 300 kB.
+const STACK_BYTES: usize = 524_288;
+
+/// What the system's page on a process calls the limit of its stack.
+const LIMIT_NAME: &str = "Max stack size";
+
+/// How many objects may lie in each other in a text that is read.
+const MOST_NESTED: usize = 127;
+
+/// The beginning of an object that has another one in it.
+const OPENING: &[u8] = b"{\"a\":";
+
+/// The length of the text that is read. It is on the stack too, below what reading it takes, and takes more
+/// of it than the calls between the start and the reading of a request.
+const TEXT_BYTES: usize = 131_072;
+
+/// How far the system lets the stack grow; nothing where it sets no limit, or doesn't say so.
+fn stack_limit(rt: &HostRuntime) -> Option<usize> {
+    let Ok(limits) = fs::read_to_string(rt, "/proc/self/limits") else {
+        return None;
+    };
+    let line = limits.lines().find(|line| line.starts_with(LIMIT_NAME))?;
+    let number = line.strip_prefix(LIMIT_NAME)?.split_whitespace().next()?;
+    number.parse().ok()
+}
+
+/// Writes the deepest object that can be read over the beginning of a text.
+fn write_deepest(text: &mut [u8; TEXT_BYTES]) {
+    for part in text.chunks_exact_mut(OPENING.len()).take(MOST_NESTED) {
+        part.copy_from_slice(OPENING);
+    }
+    let nested = OPENING.len() * MOST_NESTED;
+    text[nested] = b'1';
+    for end in text.iter_mut().skip(nested + 1).take(MOST_NESTED) {
+        *end = b'}';
+    }
+}
+
+/// Reads the deepest object, with spaces behind it, and writes its compact text. Its frame isn't kept.
+#[inline(never)]
+fn read_deepest(rt: &HostRuntime) -> Result<(), AllocError> {
+    let mut text = [b' '; TEXT_BYTES];
+    write_deepest(&mut text);
+    let read = read_object(rt.alloc(), &text);
+    match read.and_then(|object| object.compact(rt.alloc())) {
+        Err(TextFault::Memory) => Err(AllocError),
+        _ => Ok(()),
+    }
+}
+
+/// Takes the stack that the deepest request takes. A system that has no room for it refuses it here, as
+/// memory; in the midst of a request it could only end the program.
+pub(crate) fn take_stack(rt: &HostRuntime) -> Result<(), AllocError> {
+    if stack_limit(rt).is_some_and(|most| most < STACK_BYTES) {
+        return Err(AllocError);
+    }
+    // A system that counts what it has left refuses that much here, where it can be reported.
+    let room: Vec<u8> = Vec::with_capacity(rt.alloc(), STACK_BYTES)?;
+    drop(room);
+    read_deepest(rt)
+}

@@ -1,0 +1,15 @@
+-- What was seen in a database that was opened. For contracts inside the crate.
+use Rattle.std.specs.Prelude.{◌≡◌, ◌≢◌}
+use Rattle.sqlite.specs.Effect.{Database}
+use Rattle.osb_orders.specs.Lives.{Lives}
+use Rattle.osb_audit.specs.Counts.{AreCounts}
+use Rattle.osb_tables.specs.Tables.{no_schema}
+use Rattle.osb_records.specs.Opened.{AreLivesOfDatabase}
+use Rattle.osb_file.specs.declared.seen.Seen.{Seen}
+use Rattle.osb_file.specs.declared.seen.Seen.TheVariants.{New, Counted}
+
+-- it has no tables; or it has some, and so much of everything
+abbrev pub IsSeenIn : Database → Seen → Type 0
+IsSeenIn db New = db.schema ≡ no_schema
+IsSeenIn db (Counted counts) =
+    (db.schema ≢ no_schema) × ((lives : Lives) × AreLivesOfDatabase db lives × AreCounts lives counts)

@@ -1,0 +1,48 @@
+//! A client that is connected and isn't served now.
+
+use crate::asking::Asking;
+use crate::peer::Peer;
+use crate::reply::Reply;
+use mio::Interest;
+
+/// A client that is connected, by what is waited for.
+#[derive(Drop)]
+pub(crate) enum Client {
+    /// That its request is whole.
+    Asks(Asking),
+    /// That it takes the rest of its reply, and whether it met a framing fault.
+    Takes(Reply, bool),
+    /// That it ends, where it may be sending still, and how many of its bytes are read until then.
+    Lingers(Peer, usize),
+}
+
+impl Client {
+    pub(crate) fn peer(&self) -> &Peer {
+        match self {
+            Client::Asks(asking) => asking.peer(),
+            Client::Takes(reply, _) => reply.peer(),
+            Client::Lingers(peer, _) => peer,
+        }
+    }
+
+    pub(crate) fn peer_mut(&mut self) -> &mut Peer {
+        match self {
+            Client::Asks(asking) => asking.peer_mut(),
+            Client::Takes(reply, _) => reply.peer_mut(),
+            Client::Lingers(peer, _) => peer,
+        }
+    }
+
+    /// Of what has to be heard.
+    pub(crate) fn interest(&self) -> Interest {
+        match self {
+            Client::Takes(_, _) => Interest::WRITABLE,
+            _ => Interest::READABLE,
+        }
+    }
+
+    /// Whether its request isn't whole yet.
+    pub(crate) fn asks(&self) -> bool {
+        matches!(self, Client::Asks(_))
+    }
+}

@@ -1,0 +1,246 @@
+//! Clients that are connected at the same time.
+
+use crate::asking::Asking;
+use crate::client::Client;
+use crate::door::{Arrival, DOOR, Door};
+use crate::ending::{LINGER_BYTES, LINGER_MILLISECONDS};
+use crate::peer::Peer;
+use crate::places::{Places, earlier};
+use crate::received::{Readiness, Received};
+use crate::reply::{Reply, Sent};
+use mio::net::TcpStream;
+use mio::{Registry, Token};
+use std::collections::VecDeque;
+use std::io;
+use std::net::SocketAddr;
+use std::time::{Duration, Instant};
+
+/// How many bytes of a client are read at once.
+const PIECE: usize = 65_536;
+
+/// How long a client keeps its place although another one wants it.
+const GRACE_MILLISECONDS: u64 = 10;
+
+/// Clients that are connected at the same time. No call on one of them waits.
+#[derive(Drop)]
+pub(crate) struct Clients<'a> {
+    rt: &'a HostRuntime,
+    time_limit: Duration,
+    /// Who is listened to.
+    registry: Registry,
+    door: Door,
+    places: Places,
+    /// Those who can be served, in the order in which they became ready.
+    ready: VecDeque<Asking>,
+    /// Where a client's bytes are read to first.
+    piece: Vec<u8>,
+}
+
+impl<'a> Clients<'a> {
+    /// Clients of an address: so many at the same time, each for so long.
+    pub(crate) fn at(
+        rt: &'a HostRuntime,
+        address: SocketAddr,
+        time_limit: Duration,
+        count: usize,
+        registry: Registry,
+    ) -> io::Result<Clients<'a>> {
+        let door = Door::open(rt, address, &registry)?;
+        Ok(Clients {
+            rt,
+            time_limit,
+            registry,
+            door,
+            places: Places::new(rt.alloc(), count)?,
+            ready: VecDeque::with_capacity(rt.alloc(), count)?,
+            piece: Vec::from_elem(rt.alloc(), 0, PIECE)?,
+        })
+    }
+
+    /// The next one who can be served.
+    pub(crate) fn next_ready(&mut self) -> Option<(Received, Reply)> {
+        let asking = self.ready.pop_front()?;
+        Some(asking.into_ends(self.rt.alloc()))
+    }
+
+    /// Whether clients can come still.
+    pub(crate) fn can_come(&self) -> bool {
+        !self.door.is_broken()
+    }
+
+    /// Whether somebody who was served is waited for.
+    pub(crate) fn has_served(&self) -> bool {
+        self.places.has_served()
+    }
+
+    /// When something has to be done though there is no news.
+    pub(crate) fn alarm(&self, now: Instant) -> Option<Instant> {
+        if self.door.may_open() && (self.places.has_free() || !self.door.has_waiting()) {
+            return Some(now);
+        }
+        earlier(self.places.alarm(), self.door.rests())
+    }
+
+    /// When somebody's time may be over.
+    pub(crate) fn next_end(&self) -> Option<Instant> {
+        self.places.alarm()
+    }
+
+    /// Goes on with whom there is news of.
+    pub(crate) fn hear(&mut self, token: Token) {
+        if token == DOOR {
+            self.door.hear();
+            return;
+        }
+        match self.places.take(token.0) {
+            Some(Client::Asks(asking)) => self.read(asking),
+            Some(Client::Takes(reply, met_fault)) => self.send(reply, met_fault),
+            Some(Client::Lingers(peer, room)) => self.linger(peer, room),
+            None => {}
+        }
+    }
+
+    /// Lets in who wants to come, as far as there are places.
+    pub(crate) fn let_in(&mut self, now: Instant) {
+        for _ in 0..=self.places.count() {
+            match self.door.next(now) {
+                Arrival::Client(stream) => {
+                    if !self.greet(stream, now) {
+                        return;
+                    }
+                }
+                Arrival::NoDescriptor => {
+                    self.end_longest(now);
+                    return;
+                }
+                Arrival::Nobody => return,
+            }
+        }
+    }
+
+    /// Has a client at a free place from now on. Whether there was one: otherwise it waits for that of
+    /// another client, which is ended.
+    fn greet(&mut self, stream: TcpStream, now: Instant) -> bool {
+        let Some(place) = self.places.occupy() else {
+            self.door.keep(stream);
+            self.end_longest(now);
+            return false;
+        };
+        let until = now.checked_add(self.time_limit).unwrap_or(now);
+        let peer = Peer::new(stream, place, now, until);
+        self.read(Asking::new(self.rt.alloc(), peer));
+        true
+    }
+
+    /// Ends the one who has waited longest: one whose request isn't whole, or else one who was served. Where
+    /// some are ready, these are served first.
+    fn end_longest(&mut self, now: Instant) {
+        if !self.ready.is_empty() {
+            self.places.wake_by(now);
+            return;
+        }
+        let longest = match self.places.longest(true) {
+            Some(longest) => Some(longest),
+            None => self.places.longest(false),
+        };
+        let Some((place, since)) = longest else {
+            return;
+        };
+        let grace = Duration::from_millis(GRACE_MILLISECONDS);
+        match since.checked_add(grace) {
+            Some(end) if now < end => self.places.wake_by(end),
+            _ => self.end_at(place),
+        }
+    }
+
+    /// Ends whose time is over.
+    pub(crate) fn end_late(&mut self, now: Instant) {
+        if !self.places.rings(now) {
+            return;
+        }
+        for place in 0..self.places.count() {
+            if self.places.is_late(place, now) {
+                self.end_at(place);
+            }
+        }
+    }
+
+    /// Ends the one at a place.
+    fn end_at(&mut self, place: usize) {
+        if let Some(client) = self.places.take(place) {
+            self.end(client);
+        }
+    }
+
+    /// Ends one who isn't done. One whose request isn't whole is served: as one whose read failed.
+    fn end(&mut self, client: Client) {
+        match client {
+            Client::Asks(asking) => self.make_ready(asking),
+            Client::Takes(reply, _) => self.forget(reply.into_peer()),
+            Client::Lingers(peer, _) => self.forget(peer),
+        }
+    }
+
+    /// Closes a connection.
+    fn forget(&mut self, peer: Peer) {
+        self.places.release(peer.place);
+    }
+
+    /// Has one be served.
+    fn make_ready(&mut self, asking: Asking) {
+        let _ = self.ready.push_back(asking);
+    }
+
+    /// Waits for news of one.
+    fn wait_for(&mut self, mut client: Client) {
+        let interest = client.interest();
+        match client.peer_mut().watch(&self.registry, interest) {
+            Ok(()) => self.places.put(client),
+            Err(_) => self.end(client),
+        }
+    }
+
+    /// Reads what one has sent.
+    fn read(&mut self, mut asking: Asking) {
+        match asking.hear(&mut self.piece) {
+            Readiness::Ready => self.make_ready(asking),
+            Readiness::NotYet => self.wait_for(Client::Asks(asking)),
+        }
+    }
+
+    /// Sends one who was served the rest of the reply. Then the connection is ended so that it can be
+    /// read: where bytes of the client lie unread as it is closed, the system takes the reply back. One
+    /// who met a framing fault may be sending still, though nothing lies there yet.
+    pub(crate) fn send(&mut self, mut reply: Reply, met_fault: bool) {
+        match reply.send() {
+            Sent::NotYet => self.wait_for(Client::Takes(reply, met_fault)),
+            Sent::Never => self.forget(reply.into_peer()),
+            Sent::All => {
+                let peer = reply.into_peer();
+                if peer.shut() && (met_fault || peer.has_unread()) {
+                    self.begin_to_linger(peer);
+                } else {
+                    self.forget(peer);
+                }
+            }
+        }
+    }
+
+    /// Reads from now on what one sends still.
+    fn begin_to_linger(&mut self, mut peer: Peer) {
+        let now = Instant::now(self.rt).unwrap_or(peer.since);
+        let end = now.checked_add(Duration::from_millis(LINGER_MILLISECONDS));
+        peer.until = end.unwrap_or(now);
+        self.linger(peer, LINGER_BYTES);
+    }
+
+    /// Reads what one sends still, up to so many bytes.
+    fn linger(&mut self, peer: Peer, room: usize) {
+        match peer.read(&mut self.piece) {
+            Ok(Some(0)) | Err(_) => self.forget(peer),
+            Ok(Some(count)) if room <= count => self.forget(peer),
+            Ok(Some(count)) => self.wait_for(Client::Lingers(peer, room - count)),
+            Ok(None) => self.wait_for(Client::Lingers(peer, room)),
+        }
+    }
+}

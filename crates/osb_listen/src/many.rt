@@ -1,0 +1,100 @@
+//! Waits for clients that are connected at the same time.
+
+use crate::clients::Clients;
+use crate::received::Received;
+use crate::reply::Reply;
+use mio::{Events, Poll};
+use std::io;
+use std::net::SocketAddr;
+use std::time::{Duration, Instant};
+
+/// How much news is heard at once.
+const EVENTS: usize = 256;
+
+/// Clients that are connected at the same time, of whom each is read from without waiting until it can be
+/// served.
+#[derive(Drop)]
+pub(crate) struct ManyClients<'a> {
+    rt: &'a HostRuntime,
+    poll: Poll,
+    events: Events,
+    clients: Clients<'a>,
+}
+
+impl<'a> ManyClients<'a> {
+    /// Clients of an address: so many at the same time, each for so long.
+    pub(crate) fn at(
+        rt: &'a HostRuntime,
+        address: SocketAddr,
+        time_limit: Duration,
+        count: usize,
+    ) -> io::Result<ManyClients<'a>> {
+        let poll = Poll::new(rt)?;
+        let registry = poll.registry().try_clone()?;
+        Ok(ManyClients {
+            rt,
+            poll,
+            events: Events::with_capacity(rt.alloc(), EVENTS)?,
+            clients: Clients::at(rt, address, time_limit, count, registry)?,
+        })
+    }
+
+    /// Waits for news until a moment, and goes on with all of it. The moment after that.
+    fn attend(&mut self, now: Instant, until: Option<Instant>) -> io::Result<Instant> {
+        let patience = match until {
+            Some(until) => Some(until.saturating_duration_since(now)),
+            None => None,
+        };
+        self.poll.poll(&mut self.events, patience)?;
+        for event in &self.events {
+            self.clients.hear(event.token());
+        }
+        let now = Instant::now(self.rt)?;
+        self.clients.end_late(now);
+        Ok(now)
+    }
+
+    /// Waits for news, and lets in who wants to come.
+    fn turn(&mut self) -> io::Result<()> {
+        let now = Instant::now(self.rt)?;
+        let until = self.clients.alarm(now);
+        let later = self.attend(now, until)?;
+        self.clients.let_in(later);
+        Ok(())
+    }
+
+    /// The next client that can be served: what has come of it, and where its reply goes. Nothing where
+    /// none can come any more.
+    pub(crate) fn next(&mut self) -> Option<(Received, Reply)> {
+        for _ in 0..u64::MAX {
+            if let Some(found) = self.clients.next_ready() {
+                return Some(found);
+            }
+            if !self.clients.can_come() || self.turn().is_err() {
+                return None;
+            }
+        }
+        None
+    }
+
+    /// Has a client that was served take its reply. Nobody waits for that.
+    pub(crate) fn let_go(&mut self, reply: Reply, met_fault: bool) {
+        self.clients.send(reply, met_fault);
+    }
+
+    /// Waits for those who were served, and lets in nobody.
+    pub(crate) fn finish(&mut self) {
+        for _ in 0..u64::MAX {
+            if !self.clients.has_served() || self.wait_for_served().is_err() {
+                return;
+            }
+        }
+    }
+
+    fn wait_for_served(&mut self) -> io::Result<()> {
+        let now = Instant::now(self.rt)?;
+        let until = self.clients.next_end();
+        let _ = self.attend(now, until)?;
+        Ok(())
+    }
+}

@@ -1,0 +1,81 @@
+//! A connection on which no call waits.
+
+ghost use Rattle.std.specs.Prelude.{◌≤◌, length, IfOk, IfSome};
+
+use mio::net::TcpStream;
+use mio::{Interest, Registry, Token};
+use std::io::{self, ErrorKind, Read, Write};
+use std::net::Shutdown;
+use std::time::Instant;
+
+/// A connection among others. No call on it waits.
+#[derive(Drop)]
+pub struct Peer {
+    stream: TcpStream,
+    /// The number of its place among the others.
+    pub(crate) place: usize,
+    pub(crate) since: Instant,
+    /// When its time is over.
+    pub(crate) until: Instant,
+    /// Whether it was looked for news of it.
+    is_watched: bool,
+}
+
+/// Whether the call would have waited.
+fn is_later(error: &io::Error) -> bool {
+    error.kind() == ErrorKind::WouldBlock
+}
+
+impl Peer {
+    pub(crate) fn new(stream: TcpStream, place: usize, since: Instant, until: Instant) -> Peer {
+        Peer {
+            stream,
+            place,
+            since,
+            until,
+            is_watched: false,
+        }
+    }
+
+    /// Reads what lies there: nothing where nothing does, and no byte where the client has ended.
+    pub(crate) fn read(&self, buf: &mut [u8]) -> io::Result<Option<usize>>
+        ensures { IfOk result (λ read. IfSome read (λ n. n ≤ length buf.new)) }
+    {
+        match (&mut &self.stream).read(buf) {
+            Ok(n) => Ok(Some(n)),
+            Err(error) if is_later(&error) => Ok(None),
+            Err(error) => Err(error),
+        }
+    }
+
+    /// Writes what is taken at once: nothing where nothing is.
+    pub(crate) fn write(&self, buf: &[u8]) -> io::Result<Option<usize>>
+        ensures { IfOk result (λ written. IfSome written (λ n. n ≤ length buf.now)) }
+    {
+        match (&mut &self.stream).write(buf) {
+            Ok(n) => Ok(Some(n)),
+            Err(error) if is_later(&error) => Ok(None),
+            Err(error) => Err(error),
+        }
+    }
+
+    /// Sends no more, and what the system held back for more to come. Whether the client was there for that.
+    pub(crate) fn shut(&self) -> bool {
+        self.stream.shutdown(Shutdown::Write).is_ok()
+    }
+
+    /// Whether bytes of the client lie unread.
+    pub(crate) fn has_unread(&self) -> bool {
+        matches!(self.stream.peek(&mut [0]), Ok(1))
+    }
+
+    /// Has news of it reported under the number of its place, also of what lies there already.
+    pub(crate) fn watch(&mut self, registry: &Registry, interest: Interest) -> io::Result<()> {
+        let token = Token(self.place);
+        if self.is_watched {
+            return registry.reregister(&mut self.stream, token, interest);
+        }
+        self.is_watched = true;
+        registry.register(&mut self.stream, token, interest)
+    }
+}

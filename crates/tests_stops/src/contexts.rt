@@ -1,0 +1,425 @@
+//! The table of contexts: migrations, and single statements over connections in memory.
+
+ghost use Rattle.std.specs.Prelude.{◌≡◌, false, IfOk};
+ghost use Rattle.sqlite.specs.Held.{state};
+ghost use Rattle.osb_tables.specs.Tables.{made, five_tables, tables_schema};
+ghost use Rattle.osb_joined.specs.Contexts.{context_entry, AreRising};
+ghost use Rattle.osb_contexts.specs.Inside.{ShowsSchema};
+ghost use Rattle.osb_contexts.specs.Steps.{HasContexts};
+ghost use Rattle.osb_contexts.specs.Reads.{behind, Does};
+
+use osb_contexts::{
+    are_contexts_named, complete, insert_context, insert_contexts, migrate, read_context,
+    read_contexts, reshape, set_version, update_context,
+};
+use osb_joined::ContextEntry;
+use osb_tables::{FoundSchema, Indexes, find};
+use osb_text::Text;
+use sqlite::types::ValueRef;
+use sqlite::{Alter, Connection, Error, MemStore, Transaction};
+use std::alloc::{AllocError, Global};
+use std::test::Fail;
+
+static TABLES: [&str; 4] = [
+    "CREATE TABLE format (version INTEGER NOT NULL) STRICT",
+    "CREATE TABLE orders (instance_id TEXT NOT NULL, seq INTEGER NOT NULL, kind INTEGER NOT NULL, binding_id TEXT NOT NULL, service_id TEXT NOT NULL, plan_id TEXT NOT NULL, place TEXT NOT NULL, spot TEXT NOT NULL, params TEXT NOT NULL, maint TEXT NOT NULL, state INTEGER NOT NULL, note TEXT NOT NULL, credentials TEXT NOT NULL, PRIMARY KEY (instance_id, seq)) STRICT",
+    "CREATE TABLE instances (instance_id TEXT NOT NULL, phase INTEGER NOT NULL, busy INTEGER NOT NULL, last_seq INTEGER NOT NULL, service_id TEXT NOT NULL, plan_id TEXT NOT NULL, organization TEXT NOT NULL, space TEXT NOT NULL, params TEXT NOT NULL, maint TEXT NOT NULL, PRIMARY KEY (instance_id)) STRICT",
+    "CREATE TABLE bindings (instance_id TEXT NOT NULL, binding_id TEXT NOT NULL, phase INTEGER NOT NULL, service_id TEXT NOT NULL, plan_id TEXT NOT NULL, app_guid TEXT NOT NULL, bind_resource TEXT NOT NULL, params TEXT NOT NULL, credentials TEXT NOT NULL, PRIMARY KEY (instance_id, binding_id)) STRICT",
+];
+
+const CONTEXTS: &str =
+    "CREATE TABLE contexts (instance_id TEXT NOT NULL, seq INTEGER NOT NULL, context TEXT NOT NULL, PRIMARY KEY (instance_id, seq)) STRICT";
+
+const BUSY: &str = "CREATE INDEX busy_instances ON instances (busy, instance_id)";
+
+const SUBJECT: &str = "CREATE INDEX subject_orders ON orders (instance_id, binding_id, kind, seq)";
+
+static ROWS: [&str; 4] = [
+    "INSERT INTO format (version) VALUES (1)",
+    "INSERT INTO orders VALUES ('i', 1, 1, '', 's', 'p', 'o', 'q', '{}', '', 1, '', '{}')",
+    "INSERT INTO instances VALUES ('i', 2, 0, 1, 's', 'p', 'o', 'q', '{}', '')",
+    "INSERT INTO bindings VALUES ('i', 'b', 2, 's', 'p', 'a', '{}', '{}', '{}')",
+];
+
+static VERSION: [(&str, i64); 2] = [
+    ("SELECT count(*) FROM format", 1),
+    ("SELECT version FROM format", 2),
+];
+
+static MIGRATED: [(&str, i64); 6] = [
+    ("SELECT count(*) FROM format", 1),
+    ("SELECT version FROM format", 2),
+    ("SELECT count(*) FROM orders WHERE plan_id = 'p'", 1),
+    ("SELECT count(*) FROM instances WHERE plan_id = 'p'", 1),
+    ("SELECT count(*) FROM bindings WHERE plan_id = 'p'", 1),
+    ("SELECT count(*) FROM contexts", 3),
+];
+
+fn run<S: Alter>(conn: &mut Connection<S>, statements: &[&str]) -> Result<(), Error> {
+    for statement in statements {
+        conn.execute(statement, &[])?;
+    }
+    Ok(())
+}
+
+/// Whether each query answers this number.
+fn are_answers<S: Alter>(conn: &mut Connection<S>, cases: &[(&str, i64)]) -> Result<bool, Error> {
+    for (sql, expected) in cases {
+        let found: i64 = conn.query_row(sql, &[])?.get(0)?;
+        if found != *expected {
+            return Ok(false);
+        }
+    }
+    Ok(true)
+}
+
+/// Makes a database of version 1 with these indexes and a few rows.
+fn make_first<S: Alter>(conn: &mut Connection<S>, indexes: &[&str]) -> Result<(), Error> {
+    run(conn, &TABLES)?;
+    run(conn, indexes)?;
+    run(conn, &ROWS)
+}
+
+/// The same in memory.
+fn first(alloc: Global, indexes: &[&str]) -> Result<Connection<MemStore>, Error> {
+    let mut conn = Connection::open_in_memory(alloc)?;
+    make_first(&mut conn, indexes)?;
+    Ok(conn)
+}
+
+/// The indexes of a database of version 1 over which no transaction runs.
+fn indexes_of<S: Alter>(conn: &Connection<S>) -> Result<Indexes, Error>
+    ensures { IfOk result (λ indexes. ((state S.Store conn.now).in_transaction ≡ false)
+        × ((state S.Store conn.now).now.schema ≡ made tables_schema indexes)) }
+{
+    if !conn.is_autocommit() {
+        return Err(Error::InvalidQuery);
+    }
+    match find(conn.schema()) {
+        FoundSchema::First(indexes) => Ok(indexes),
+        _ => Err(Error::InvalidQuery),
+    }
+}
+
+fn entry(
+    alloc: Global,
+    instance: &str,
+    number: u32,
+    context: &str,
+) -> Result<ContextEntry, AllocError>
+    ensures { IfOk result (λ entry. entry ≡ context_entry instance.now number context.now) }
+{
+    Ok(ContextEntry {
+        number,
+        instance: Text::from_str(alloc, instance)?,
+        context: Text::from_str(alloc, context)?,
+    })
+}
+
+/// Three contexts in the order of their keys.
+fn three(alloc: Global) -> Result<Vec<ContextEntry>, Error>
+    ensures { IfOk result (λ entries. AreRising entries.items) }
+{
+    let mut entries = Vec::new(alloc);
+    entries.push(entry(alloc, "g", 1, "{}")?)?;
+    entries.push(entry(alloc, "i", 0, "{\"b\":2}")?)?;
+    entries.push(entry(alloc, "i", 1, "{\"a\":1}")?)?;
+    Ok(entries)
+}
+
+// ---- migrations
+
+/// Migrates the database, and commits that where `is_kept`.
+fn migrate_in<S: Alter>(
+    conn: &mut Connection<S>,
+    alloc: Global,
+    is_kept: bool,
+) -> Result<(), Error> {
+    let indexes = indexes_of(conn)?;
+    let entries = three(alloc)?;
+    let mut tx = conn.transaction();
+    reshape(&mut tx, indexes)?;
+    migrate(&mut tx, alloc, &entries)?;
+    if is_kept {
+        tx.commit()
+    } else {
+        tx.rollback();
+        Ok(())
+    }
+}
+
+/// A database that had these indexes, after the migration.
+fn migrated(alloc: Global, indexes: &[&str], is_kept: bool) -> Result<Connection<MemStore>, Error> {
+    let mut conn = first(alloc, indexes)?;
+    migrate_in(&mut conn, alloc, is_kept)?;
+    Ok(conn)
+}
+
+fn found_after(alloc: Global, indexes: &[&str], is_kept: bool) -> Result<FoundSchema, Error> {
+    let conn = migrated(alloc, indexes, is_kept)?;
+    let found = find(conn.schema());
+    drop(conn);
+    Ok(found)
+}
+
+/// Whether the rows are there after the migration.
+fn has_rows(alloc: Global, indexes: &[&str]) -> Result<bool, Error> {
+    let mut conn = migrated(alloc, indexes, true)?;
+    let has_rows = are_answers(&mut conn, &MIGRATED);
+    drop(conn);
+    has_rows
+}
+
+#[test]
+fn each_form_is_migrated(rt: HostRuntime) -> Result<(), Fail> {
+    let second = FoundSchema::Second(Indexes::Both);
+    assert!(rt; found_after(rt.alloc(), &[], true)? == second);
+    assert!(rt; found_after(rt.alloc(), &[BUSY], true)? == second);
+    assert!(rt; found_after(rt.alloc(), &[BUSY, SUBJECT], true)? == second);
+    Ok(())
+}
+
+#[test]
+fn the_rows_stay(rt: HostRuntime) -> Result<(), Fail> {
+    assert!(rt; has_rows(rt.alloc(), &[])?);
+    assert!(rt; has_rows(rt.alloc(), &[BUSY])?);
+    assert!(rt; has_rows(rt.alloc(), &[BUSY, SUBJECT])?);
+    Ok(())
+}
+
+#[test]
+fn a_rollback_leaves_version_1(rt: HostRuntime) -> Result<(), Fail> {
+    let none = FoundSchema::First(Indexes::None);
+    let listing = FoundSchema::First(Indexes::Listing);
+    let both = FoundSchema::First(Indexes::Both);
+    assert!(rt; found_after(rt.alloc(), &[], false)? == none);
+    assert!(rt; found_after(rt.alloc(), &[BUSY], false)? == listing);
+    assert!(rt; found_after(rt.alloc(), &[BUSY, SUBJECT], false)? == both);
+    Ok(())
+}
+
+// ---- indexes
+
+/// The indexes of a database of version 2 over which no transaction runs.
+fn second_indexes_of<S: Alter>(conn: &Connection<S>) -> Result<Indexes, Error>
+    ensures { IfOk result (λ indexes. ((state S.Store conn.now).in_transaction ≡ false)
+        × ((state S.Store conn.now).now.schema ≡ made five_tables indexes)) }
+{
+    if !conn.is_autocommit() {
+        return Err(Error::InvalidQuery);
+    }
+    match find(conn.schema()) {
+        FoundSchema::Second(indexes) => Ok(indexes),
+        _ => Err(Error::InvalidQuery),
+    }
+}
+
+fn complete_with<S: Alter>(tx: &mut Transaction<'_, S>, indexes: Indexes) -> Result<(), Error>
+    requires { ShowsSchema (made five_tables indexes) (behind S.Store tx.old) }
+{
+    match indexes {
+        Indexes::None => complete(tx, false),
+        Indexes::Listing => complete(tx, true),
+        Indexes::Both => Ok(()),
+    }
+}
+
+fn complete_in<S: Alter>(conn: &mut Connection<S>) -> Result<(), Error> {
+    let indexes = second_indexes_of(conn)?;
+    let mut tx = conn.transaction();
+    complete_with(&mut tx, indexes)?;
+    tx.commit()
+}
+
+/// What is found of an empty database that becomes one of version 2 with these indexes, once it is complete.
+fn completed_in<S: Alter>(
+    conn: &mut Connection<S>,
+    indexes: &[&str],
+) -> Result<FoundSchema, Error> {
+    run(conn, &TABLES)?;
+    run(conn, &[CONTEXTS])?;
+    run(conn, indexes)?;
+    complete_in(conn)?;
+    Ok(find(conn.schema()))
+}
+
+/// The same in memory.
+fn completed(alloc: Global, indexes: &[&str]) -> Result<FoundSchema, Error> {
+    let mut conn = Connection::open_in_memory(alloc)?;
+    let found = completed_in(&mut conn, indexes);
+    drop(conn);
+    found
+}
+
+#[test]
+fn lacking_indexes_are_made(rt: HostRuntime) -> Result<(), Fail> {
+    let second = FoundSchema::Second(Indexes::Both);
+    assert!(rt; completed(rt.alloc(), &[])? == second);
+    assert!(rt; completed(rt.alloc(), &[BUSY])? == second);
+    Ok(())
+}
+
+// ---- single calls
+
+/// Makes the table of contexts, with one context that is then another one.
+fn change<S: Alter>(tx: &mut Transaction<'_, S>, indexes: Indexes) -> Result<(), Error>
+    requires { ShowsSchema (made tables_schema indexes) (behind S.Store tx.old) }
+    ensures { Does S.Store tx.old tx.new result (λ old new. HasContexts new.now) }
+{
+    reshape(tx, indexes)?;
+    insert_context(tx, "i", 1, "{}")?;
+    update_context(tx, "i", 1, "{\"a\":1}")?;
+    Ok(())
+}
+
+/// The context of this key after that.
+fn context_of<S: Alter>(
+    conn: &mut Connection<S>,
+    instance: &str,
+    number: u32,
+) -> Result<Text, Error> {
+    let indexes = indexes_of(conn)?;
+    let mut tx = conn.transaction();
+    change(&mut tx, indexes)?;
+    read_context(&mut tx, instance, number)
+}
+
+/// How many rows are written where the key gets this context after that.
+fn written_by<S: Alter>(conn: &mut Connection<S>, context: &str) -> Result<usize, Error> {
+    let indexes = indexes_of(conn)?;
+    let mut tx = conn.transaction();
+    change(&mut tx, indexes)?;
+    update_context(&mut tx, "i", 1, context)
+}
+
+/// The contexts of these instances after a few went in at once.
+fn contexts_of<S: Alter>(
+    conn: &mut Connection<S>,
+    alloc: Global,
+    entries: &[ContextEntry],
+    after: &str,
+    to: ValueRef<'_>,
+) -> Result<Vec<ContextEntry>, Error>
+    requires { AreRising entries.now }
+{
+    let indexes = indexes_of(conn)?;
+    let mut tx = conn.transaction();
+    reshape(&mut tx, indexes)?;
+    insert_contexts(&mut tx, entries)?;
+    read_contexts(&mut tx, alloc, after, to)
+}
+
+fn is_context(alloc: Global, number: u32, context: &str) -> Result<bool, Error> {
+    let mut conn = first(alloc, &[BUSY, SUBJECT])?;
+    let found = context_of(&mut conn, "i", number);
+    drop(conn);
+    Ok(found?.as_str() == context)
+}
+
+fn written(alloc: Global, context: &str) -> Result<usize, Error> {
+    let mut conn = first(alloc, &[BUSY, SUBJECT])?;
+    let written = written_by(&mut conn, context);
+    drop(conn);
+    written
+}
+
+fn reads_what_went_in(alloc: Global) -> Result<bool, Error> {
+    let entries = three(alloc)?;
+    let mut conn = first(alloc, &[BUSY])?;
+    let found = contexts_of(&mut conn, alloc, &entries, "", ValueRef::Blob(&[]));
+    drop(conn);
+    Ok(found? == entries)
+}
+
+/// How many of the three contexts are of these instances.
+fn count_between(alloc: Global, after: &str, to: ValueRef<'_>) -> Result<usize, Error> {
+    let entries = three(alloc)?;
+    let mut conn = first(alloc, &[BUSY])?;
+    let found = contexts_of(&mut conn, alloc, &entries, after, to);
+    drop(conn);
+    Ok(found?.len())
+}
+
+/// Whether each row of a context has an id, where one is of this instance.
+fn are_named_in<S: Alter>(
+    conn: &mut Connection<S>,
+    alloc: Global,
+    instance: &str,
+) -> Result<bool, Error> {
+    let indexes = indexes_of(conn)?;
+    let mut tx = conn.transaction();
+    reshape(&mut tx, indexes)?;
+    insert_context(&mut tx, instance, 1, "{}")?;
+    are_contexts_named(&mut tx, alloc)
+}
+
+fn are_named(alloc: Global, instance: &str) -> Result<bool, Error> {
+    let mut conn = first(alloc, &[BUSY])?;
+    let named = are_named_in(&mut conn, alloc, instance);
+    drop(conn);
+    named
+}
+
+fn set_twice<S: Alter>(conn: &mut Connection<S>, alloc: Global) -> Result<(), Error> {
+    let indexes = indexes_of(conn)?;
+    let mut tx = conn.transaction();
+    reshape(&mut tx, indexes)?;
+    set_version(&mut tx, alloc)?;
+    set_version(&mut tx, alloc)?;
+    tx.commit()
+}
+
+/// Whether the format has one version after that.
+fn has_one_version_in<S: Alter>(conn: &mut Connection<S>, alloc: Global) -> Result<bool, Error> {
+    set_twice(conn, alloc)?;
+    are_answers(conn, &VERSION)
+}
+
+/// The same of a new database of version 1.
+fn has_one_version(alloc: Global) -> Result<bool, Error> {
+    let mut conn = first(alloc, &[])?;
+    let has_one = has_one_version_in(&mut conn, alloc);
+    drop(conn);
+    has_one
+}
+
+#[test]
+fn a_context_becomes_another(rt: HostRuntime) -> Result<(), Fail> {
+    assert!(rt; is_context(rt.alloc(), 1, "{\"a\":1}")?);
+    assert!(rt; is_context(rt.alloc(), 0, "{}") == Err(Error::QueryReturnedNoRows));
+    Ok(())
+}
+
+#[test]
+fn a_context_that_is_there_is_not_written(rt: HostRuntime) -> Result<(), Fail> {
+    assert!(rt; written(rt.alloc(), "{}")? == 1);
+    assert!(rt; written(rt.alloc(), "{\"a\":1}")? == 0);
+    Ok(())
+}
+
+#[test]
+fn contexts_are_read_as_they_went_in(rt: HostRuntime) -> Result<(), Fail> {
+    assert!(rt; reads_what_went_in(rt.alloc())?);
+    Ok(())
+}
+
+#[test]
+fn pieces_meet_at_an_id(rt: HostRuntime) -> Result<(), Fail> {
+    assert!(rt; count_between(rt.alloc(), "", ValueRef::Text("g".as_bytes()))? == 1);
+    assert!(rt; count_between(rt.alloc(), "g", ValueRef::Text("h".as_bytes()))? == 0);
+    assert!(rt; count_between(rt.alloc(), "g", ValueRef::Blob(&[]))? == 2);
+    Ok(())
+}
+
+#[test]
+fn a_context_without_an_id_is_seen(rt: HostRuntime) -> Result<(), Fail> {
+    assert!(rt; are_named(rt.alloc(), "i")?);
+    assert!(rt; !are_named(rt.alloc(), "")?);
+    Ok(())
+}
+
+#[test]
+fn there_is_one_version(rt: HostRuntime) -> Result<(), Fail> {
+    assert!(rt; has_one_version(rt.alloc())?);
+    Ok(())
+}

@@ -1,0 +1,183 @@
+//! A database file, made and opened again.
+
+use crate::adopting::{WHOLE, count_orders, run};
+use osb_audit::Counts;
+use osb_file::{AtPath, Copied, DatabaseFile, FileFault, Origin, Seen, Unseen, open_file};
+use osb_records::{Records, StoreFault};
+use sqlite::{Alter, Start, Unknown};
+use std::alloc::Global;
+use std::os::unix::fs::MetadataExt;
+use std::test::Fail;
+use std::{env, fs};
+
+/// How many orders the instance `i` has, before these statements are run.
+fn count_and_run<S: Alter + Drop>(
+    alloc: Global,
+    mut records: Records<S>,
+    statements: &[&str],
+) -> Result<usize, StoreFault> {
+    let count = count_orders(alloc, &mut records);
+    let mut conn = records.into_connection();
+    let ran = run(&mut conn, statements);
+    drop(conn);
+    ran?;
+    count
+}
+
+/// The same over a file of which `start` stands for what it holds.
+fn open_and_run_from<S: Start>(
+    rt: &HostRuntime,
+    path: &str,
+    statements: &[&str],
+    start: S,
+) -> Result<usize, FileFault> {
+    let file = DatabaseFile::at(rt, path, false)?;
+    match open_file(rt, &file, AtPath::new(start)) {
+        Ok((records, _)) => Ok(count_and_run(rt.alloc(), records, statements)?),
+        Err((fault, _)) => Err(fault),
+    }
+}
+
+/// The same over a file.
+fn open_and_run(rt: &HostRuntime, path: &str, statements: &[&str]) -> Result<usize, FileFault> {
+    open_and_run_from(rt, path, statements, Unknown)
+}
+
+/// Whether the database of a file was there before, where one has to be or may be begun.
+fn origin_from<S: Start>(
+    rt: &HostRuntime,
+    path: &str,
+    existing: bool,
+    start: S,
+) -> Result<Origin, FileFault> {
+    let file = DatabaseFile::at(rt, path, existing)?;
+    match open_file(rt, &file, AtPath::new(start)) {
+        Ok((records, origin)) => {
+            drop(records);
+            Ok(origin)
+        }
+        Err((fault, _)) => Err(fault),
+    }
+}
+
+/// The same over a file of which nothing is known.
+fn origin_at(rt: &HostRuntime, path: &str, existing: bool) -> Result<Origin, FileFault> {
+    origin_from(rt, path, existing, Unknown)
+}
+
+/// The path of a file in the folder for such, where neither it nor its log is.
+fn unused(rt: &HostRuntime, name: &str) -> Result<String, Fail> {
+    let folder = env::temp_dir(rt)?;
+    let path = format!(in rt.alloc(); "{}/{name}", folder.display())?;
+    let log = format!(in rt.alloc(); "{}-wal", path.as_str())?;
+    let _ = fs::remove_file(rt, path.as_str());
+    let _ = fs::remove_file(rt, log.as_str());
+    Ok(path)
+}
+
+#[test]
+fn a_file_is_made_and_opened_again(rt: HostRuntime) -> Result<(), Fail> {
+    let path = unused(&rt, "osb_file_test.db")?;
+    assert!(rt; open_and_run(&rt, path.as_str(), &WHOLE)? == 0);
+    assert!(rt; open_and_run(&rt, path.as_str(), &[])? == 1);
+    Ok(())
+}
+
+/// Who may read and write a file that is made at a path.
+fn mode_at(rt: &HostRuntime, path: &str) -> Result<u32, Fail> {
+    let _ = DatabaseFile::at(rt, path, false)?;
+    Ok(fs::metadata(rt, path)?.mode() & 0o777)
+}
+
+#[test]
+fn a_new_file_is_for_its_owner_alone(rt: HostRuntime) -> Result<(), Fail> {
+    let path = unused(&rt, "osb_file_mode.db")?;
+    assert!(rt; mode_at(&rt, path.as_str())? == 0o600);
+    Ok(())
+}
+
+/// Whether a file and its log are there before one of the two is removed, once it was, and once another
+/// file is in its place.
+fn is_there_in_turn(rt: &HostRuntime, path: &str, ending: &str) -> Result<[bool; 3], Fail> {
+    let log = format!(in rt.alloc(); "{path}-wal")?;
+    let taken = format!(in rt.alloc(); "{path}{ending}")?;
+    let other = format!(in rt.alloc(); "{path}-other")?;
+    let file = DatabaseFile::at(rt, path, false)?;
+    fs::write(rt, log.as_str(), "")?;
+    fs::write(rt, other.as_str(), "")?;
+    let watched = file.watched(rt);
+    let before = watched.is_there(rt);
+    fs::remove_file(rt, taken.as_str())?;
+    let removed = watched.is_there(rt);
+    fs::rename(rt, other.as_str(), taken.as_str())?;
+    Ok([before, removed, watched.is_there(rt)])
+}
+
+#[test]
+fn a_file_that_is_taken_away_is_not_there(rt: HostRuntime) -> Result<(), Fail> {
+    for ending in ["", "-wal"] {
+        let path = unused(&rt, "osb_file_gone.db")?;
+        let there = is_there_in_turn(&rt, path.as_str(), ending)?;
+        assert!(rt; there == [true, false, false]);
+    }
+    Ok(())
+}
+
+#[test]
+fn a_database_is_new_once(rt: HostRuntime) -> Result<(), Fail> {
+    let path = unused(&rt, "osb_file_new.db")?;
+    assert!(rt; origin_at(&rt, path.as_str(), true) == Err(FileFault::Missing));
+    assert!(rt; origin_at(&rt, path.as_str(), false) == Ok(Origin::New));
+    assert!(rt; origin_at(&rt, path.as_str(), true) == Ok(Origin::Kept));
+    Ok(())
+}
+
+#[test]
+fn a_log_without_its_file_is_refused(rt: HostRuntime) -> Result<(), Fail> {
+    let path = unused(&rt, "osb_file_log.db")?;
+    let log = format!(in rt.alloc(); "{}-wal", path.as_str())?;
+    fs::write(&rt, log.as_str(), "a change")?;
+    assert!(rt; origin_at(&rt, path.as_str(), false) == Err(FileFault::Refused));
+    assert!(rt; looked_at(&rt, path.as_str()) == Err(Unseen::LogOnly));
+    Ok(())
+}
+
+#[test]
+fn a_folder_is_refused(rt: HostRuntime) -> Result<(), Fail> {
+    assert!(rt; open_and_run(&rt, ".", &[]) == Err(FileFault::Refused));
+    Ok(())
+}
+
+/// What a file has that is looked at, and not opened.
+fn looked_at(rt: &HostRuntime, path: &str) -> Result<Seen, Unseen> {
+    let files = Copied::read(rt, path)?;
+    files.look(rt.alloc())
+}
+
+#[test]
+fn a_file_is_looked_at(rt: HostRuntime) -> Result<(), Fail> {
+    let path = unused(&rt, "osb_file_seen.db")?;
+    assert!(rt; looked_at(&rt, path.as_str()) == Err(Unseen::NoFile));
+    fs::write(&rt, path.as_str(), "")?;
+    assert!(rt; looked_at(&rt, path.as_str()) == Ok(Seen::New));
+    assert!(rt; open_and_run(&rt, path.as_str(), &WHOLE)? == 0);
+    let one = Counts {
+        instances: 1,
+        bindings: 0,
+        running: 0,
+    };
+    assert!(rt; looked_at(&rt, path.as_str()) == Ok(Seen::Counted(one)));
+    Ok(())
+}
+
+#[test]
+fn what_is_no_database_is_not_looked_at(rt: HostRuntime) -> Result<(), Fail> {
+    let path = unused(&rt, "osb_file_text.db")?;
+    fs::write(&rt, path.as_str(), "no database, but some text")?;
+    assert!(rt; looked_at(&rt, path.as_str()) == Err(Unseen::NoDatabase));
+    assert!(rt; looked_at(&rt, ".") == Err(Unseen::Folder));
+    assert!(rt; looked_at(&rt, ":memory:") == Err(Unseen::NoFile));
+    assert!(rt; Unseen::Folder.fault() == FileFault::Refused);
+    assert!(rt; Unseen::Folder.text() == "a folder");
+    Ok(())
+}

@@ -1,0 +1,184 @@
+//! Clients in memory, served from a database in memory as the program serves: what each is sent, in their
+//! order, and what is reported of them.
+
+use crate::queue::{Client, Queue};
+use crate::stops::{OPTIONS, empty_files};
+use osb_catalog::Settings;
+use osb_frames::Counted;
+use osb_listen::{ListenFault, ListenOptions, serve_file};
+use osb_restart::AtRest;
+use sqlite::Files;
+use sqlite_disk::Crash;
+use std::alloc::Global;
+use std::test::Fail;
+use std::time::Duration;
+use tests_support::catalogs::built_in;
+use tests_support::exchange::{last_reply, request};
+
+/// So many clients, at an address where nobody listens.
+pub(crate) fn place(connections: u32) -> ListenOptions<'static> {
+    ListenOptions {
+        database: ".",
+        existing: false,
+        address: "127.0.0.1:0",
+        connections,
+        time_limit: Duration::from_secs(1),
+        together: 1,
+    }
+}
+
+/// A client that sends these bytes in such pieces, and takes all that it is sent.
+pub(crate) fn client(bytes: &[u8], piece: usize) -> Client<'_> {
+    Client {
+        bytes,
+        piece,
+        resets: false,
+        room: usize::MAX,
+    }
+}
+
+/// What clients were sent, how serving them ended, and what was written on standard error.
+#[derive(Drop)]
+struct Outcome {
+    sent: Vec<Vec<u8>>,
+    ended: Result<(), ListenFault>,
+    errors: Vec<u8>,
+}
+
+/// How serving so many clients over these files ends, and what is written on standard error.
+fn ended_over<D: Crash + Drop>(
+    rt: &HostRuntime,
+    settings: &Settings,
+    files: Files<D>,
+    queue: &mut Queue<'_>,
+    connections: u32,
+) -> Result<(Result<(), ListenFault>, Vec<u8>), Fail> {
+    let Ok(files) = AtRest::new(files, OPTIONS) else {
+        return Err("files that may not be used")?;
+    };
+    let mut output = Counted::new(Vec::new(rt.alloc()));
+    let mut errors = Counted::new(Vec::new(rt.alloc()));
+    let (ended, conn) = serve_file(
+        rt,
+        settings,
+        &place(connections),
+        1,
+        files,
+        queue,
+        &mut output,
+        &mut errors,
+    );
+    drop(conn);
+    Ok((ended, errors.into_inner()))
+}
+
+/// Serves so many of these clients over a new database, whose file is there or not.
+fn served(
+    rt: &HostRuntime,
+    clients: &[Client<'_>],
+    connections: u32,
+    has_file: bool,
+) -> Result<Outcome, Fail> {
+    let settings = built_in(rt.alloc())?;
+    let files = empty_files(rt.alloc());
+    let mut queue = Queue::of(rt.alloc(), clients, has_file);
+    let (ended, errors) = ended_over(rt, &settings, files, &mut queue, connections)?;
+    Ok(Outcome {
+        sent: queue.into_sent()?,
+        ended,
+        errors,
+    })
+}
+
+const BODY: &str =
+    "{\"service_id\":\"svc\",\"plan_id\":\"p-sync\",\"organization_guid\":\"o\",\"space_guid\":\"s\"}";
+
+/// A request for the instance of that id.
+fn put(alloc: Global, id: &str) -> Result<Vec<u8>, Fail> {
+    let line = format!(in alloc; "PUT /v2/service_instances/{id}")?;
+    request(alloc, line.as_str(), BODY)
+}
+
+/// Whether a client was sent the first bytes, so many at most, of a reply of that status.
+fn was_sent(alloc: Global, sent: &[u8], status: &str, most: usize) -> Result<bool, Fail> {
+    let reply = last_reply(alloc, status, "{}")?;
+    let most = most.min(reply.len());
+    Ok(sent == &reply.as_slice()[..most])
+}
+
+/// Fails where clients were sent other replies than those of these statuses.
+fn were_sent(alloc: Global, sent: &[Vec<u8>], statuses: &[&str]) -> Result<(), Fail> {
+    if sent.len() != statuses.len() {
+        return Err("another number of clients")?;
+    }
+    for (sent, status) in sent.iter().zip(statuses) {
+        if !was_sent(alloc, sent.as_slice(), status, usize::MAX)? {
+            return Err("another reply")?;
+        }
+    }
+    Ok(())
+}
+
+#[test]
+fn each_client_is_sent_its_own_reply(rt: HostRuntime) -> Result<(), Fail> {
+    let (a, b) = (put(rt.alloc(), "a")?, put(rt.alloc(), "b")?);
+    let clients = [
+        client(a.as_slice(), 1),
+        client(b.as_slice(), usize::MAX),
+        client(a.as_slice(), 7),
+    ];
+    let served = served(&rt, &clients, 3, true)?;
+    let statuses = ["201 Created", "201 Created", "200 OK"];
+    were_sent(rt.alloc(), served.sent.as_slice(), &statuses)?;
+    assert!(rt; served.ended == Ok(()));
+    assert!(rt; served.errors.as_slice() == b"database: new\n".as_slice());
+    Ok(())
+}
+
+/// A client whose read fails in the midst of a request for that instance; one that takes 20 bytes of the reply to it;
+/// and one that does nothing wrong, for another instance.
+fn with_two_faults(rt: &HostRuntime) -> Result<Outcome, Fail> {
+    let (a, b) = (put(rt.alloc(), "a")?, put(rt.alloc(), "b")?);
+    let half = a.len() / 2;
+    let resets = Client {
+        resets: true,
+        ..client(&a.as_slice()[..half], 9)
+    };
+    let deaf = Client {
+        room: 20,
+        ..client(a.as_slice(), 9)
+    };
+    served(rt, &[resets, deaf, client(b.as_slice(), 9)], 3, true)
+}
+
+#[test]
+fn a_fault_of_a_client_is_none_of_the_next(rt: HostRuntime) -> Result<(), Fail> {
+    let served = with_two_faults(&rt)?;
+    let sent = served.sent.as_slice();
+    assert!(rt; sent.len() == 3);
+    assert!(rt; sent[0].is_empty());
+    assert!(rt; was_sent(rt.alloc(), sent[1].as_slice(), "201 Created", 20)?);
+    assert!(rt; was_sent(rt.alloc(), sent[2].as_slice(), "201 Created", usize::MAX)?);
+    assert!(rt; served.ended == Ok(()));
+    let lines = b"database: new\nconnection: read\nconnection: write\n";
+    assert!(rt; served.errors.as_slice() == lines.as_slice());
+    Ok(())
+}
+
+#[test]
+fn fewer_clients_than_asked_for_are_a_fault(rt: HostRuntime) -> Result<(), Fail> {
+    let a = put(rt.alloc(), "a")?;
+    let served = served(&rt, &[client(a.as_slice(), 9)], 2, true)?;
+    assert!(rt; served.ended == Err(ListenFault::CannotAccept));
+    assert_eq!(rt; served.sent.len(), 1);
+    Ok(())
+}
+
+#[test]
+fn nobody_is_served_without_the_file(rt: HostRuntime) -> Result<(), Fail> {
+    let a = put(rt.alloc(), "a")?;
+    let served = served(&rt, &[client(a.as_slice(), 9)], 1, false)?;
+    assert!(rt; served.ended == Err(ListenFault::FileTaken));
+    assert!(rt; served.sent.is_empty());
+    Ok(())
+}
