@@ -39,6 +39,7 @@ test:
 	@sh tests/needs.sh
 	python3 tests/needs.py
 	python3 tests/counts.py
+	python3 tests/pages.py
 	python3 tests/judged.py
 	python3 tests/building.py
 	python3 tests/edits.py --beside make --no-print-directory tried
