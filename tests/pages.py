@@ -18,9 +18,9 @@ ROOT = pathlib.Path(__file__).resolve().parent.parent
 PAGES = [ROOT / "README.md", *sorted((ROOT / "docs").glob("*.md")), ROOT / "CHANGELOG.md", ROOT / "SECURITY.md"]
 # Pages that weren't gone through by the rule yet. What they name is looked for all the same. This list only shrinks.
 LATER = {
-    "CHANGELOG.md", "SECURITY.md", "docs/ARCHITECTURE.md", 
-    "docs/DECISIONS.md", "docs/GATE.md", "docs/MEASUREMENTS.md", "docs/OPERATING.md",
-    "docs/PLATFORMS.md", "docs/PROVING.md", "docs/VECTORS.md",
+    "docs/ARCHITECTURE.md", 
+    "docs/DECISIONS.md", "docs/GATE.md", "docs/MEASUREMENTS.md",
+    "docs/PROVING.md", "docs/VECTORS.md",
 }
 LONGEST_SENTENCE, LONGEST_ROW, LONGEST_README = 30, 60, 900
 WORDS = ["alone", "stands?", "stood", "tells?", "told", "want of memory", "(?:is|are) none", "such as", "whoever"]
