@@ -17,7 +17,7 @@ import sys
 ROOT = pathlib.Path(__file__).resolve().parent.parent
 PAGES = [ROOT / "README.md", *sorted((ROOT / "docs").glob("*.md")), ROOT / "CHANGELOG.md", ROOT / "SECURITY.md"]
 # Pages that weren't gone through by the rule yet. What they name is looked for all the same. This list only shrinks.
-LATER = {"docs/VECTORS.md"}
+LATER = set()
 LONGEST_SENTENCE, LONGEST_ROW, LONGEST_README = 30, 60, 900
 WORDS = ["alone", "stands?", "stood", "tells?", "told", "want of memory", "(?:is|are) none", "such as", "whoever"]
 # The lines of the rule that name these words, in the quotes of a listing.
