@@ -10,6 +10,8 @@ word, and code isn't counted. No page has a word of WORDS outside of code. READM
 A path of this repository is there, and a link leads to a page and to a heading of it. So does a heading or the
 beginning of an item that a page names in quotes behind a link, or before 'above' or 'below'."""
 
+import fnmatch
+import os
 import pathlib
 import re
 import sys
@@ -30,6 +32,7 @@ CODE = re.compile(r"(`+)(.+?)\1")
 LINK = re.compile(r"\[([^\]]*)\]\(([^)\s]+)\)")
 END = re.compile(r"[.?!][)'\"*]*(?=\s|$)")
 FILE = re.compile(r"[\w@*.-]+(?:/[\w@*.-]+)*\.(?:md|py|sh|rt|antt|txt|c|sql)|(?:crates|docs|examples|measure|packaging|tests|tools)/[\w@*./-]*")
+PLAIN = re.compile(r"(?<![\w/`.(@])(?:crates|docs|examples|measure|packaging|tests|tools)/[\w*/.-]*\w")
 QUOTED = r"'([A-Z][^'\n]*)'"
 OTHERS = re.compile(r"(?:\[[^\]]*\]\((?:docs/)?([A-Z]+\.md)[^)]*\)|`docs/([A-Z]+\.md)`), " + QUOTED)
 OWN = re.compile(QUOTED + r" (?:above|below)")
@@ -118,21 +121,29 @@ def by_the_rule(page):
                 yield number, f"the word '{found}'"
 
 
-def is_there(path, folder):
-    """Whether a path is one of this repository: from its root, from a page, or from a crate, whose name it may have."""
-    if any(any(base.glob(path)) for base in (ROOT, folder, ROOT / "crates")):
-        return True
-    if "/" not in path and any((ROOT / place / path).exists() for place in ("examples", "tests")):
-        return True
-    return any(ROOT.glob(f"crates/*/{path}")) or ("/" not in path and any(ROOT.glob(f"crates/*/*/**/{path}")))
+def names_there():
+    """Each file of this repository and each folder of one, by its path from the root; nothing that a build makes."""
+    for folder, folders, files in os.walk(ROOT):
+        folders[:] = [name for name in folders if name not in ("out", ".git", "__pycache__")]
+        for name in [*folders, *files]:
+            yield pathlib.Path(folder, name).relative_to(ROOT).as_posix()
 
 
-def leads(page, pages):
+def is_there(path, names):
+    """Whether a path is one of this repository: from its root, from crates/ or from a crate. A bare name is that of
+    any file."""
+    if "/" not in path:
+        return any(name.rpartition("/")[2] == path for name in names)
+    return any(fnmatch.filter(names, base + path) for base in ("", "crates/", "crates/*/"))
+
+
+def leads(page, pages, names):
     """Which paths, links and headings a page names that aren't there."""
     for number, line in page.lines:
-        for _, code in CODE.findall(line):
-            if FILE.fullmatch(code) and not MADE.search(code) and not is_there(code.rstrip("/"), page.path.parent):
-                yield number, f"no file {code}"
+        named = [code for _, code in CODE.findall(line) if FILE.fullmatch(code)] + PLAIN.findall(CODE.sub("`code`", line))
+        for path in named:
+            if not MADE.search(path) and not is_there(path.rstrip("/"), names):
+                yield number, f"no file {path}"
         for _, target in LINK.findall(CODE.sub("`code`", line)):
             name, _, anchor = target.partition("#")
             if "://" in target or target.startswith("mailto:"):
@@ -140,10 +151,11 @@ def leads(page, pages):
             path = (page.path.parent / name).resolve() if name else page.path
             if not path.exists():
                 yield number, f"no page {target}"
-            elif anchor and anchor not in pages[path].anchors():
+            elif anchor and (path not in pages or anchor not in pages[path].anchors()):
                 yield number, f"no heading {target}"
         for linked, named, heading in OTHERS.findall(line):
-            if not pages[ROOT / "docs" / (linked or named)].has(heading):
+            other = pages.get(ROOT / "docs" / (linked or named))
+            if other is None or not other.has(heading):
                 yield number, f"no heading '{heading}' in {linked or named}"
         for heading in OWN.findall(line):
             if not page.has(heading):
@@ -158,10 +170,10 @@ def main(words):
         return 0
     if words:
         sys.exit(__doc__)
-    failed = 0
+    failed, there = 0, set(names_there())
     for path, page in pages.items():
         name = str(path.relative_to(ROOT))
-        found = list(leads(page, pages)) + ([] if name in LATER else list(by_the_rule(page)))
+        found = list(leads(page, pages, there)) + ([] if name in LATER else list(by_the_rule(page)))
         if name == "README.md" and len(page.text.split()) > LONGEST_README:
             found.append((1, f"{len(page.text.split())} words"))
         for number, fault in sorted(found):
