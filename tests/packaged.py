@@ -253,8 +253,8 @@ database: new
 instances 5, bindings 0, running 0
 N /var/lib/private/osb-broker/broker.db-wal
 # backed up while it runs
+instances 5, bindings 0, running 0
 broker.db
-broker.db-wal
 settings.json
 {} 201
 # upgraded

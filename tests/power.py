@@ -45,7 +45,7 @@ EMPTY = {**dict.fromkeys(READ, NOT_THERE), ORDERS: NO_ORDERS}
 
 
 def many(letter):
-    """Parameters of some length. Ten requests with them fill the log."""
+    """Parameters of some length. Fourteen requests with them fill the log."""
     return '{"text":"' + letter * 199_989 + '"}'
 
 
@@ -101,7 +101,7 @@ GROW = [
         FINE,
         {S: fetched("p-sync", many(letter))},
     )
-    for letter in "abcdefghij"
+    for letter in "abcdefghijklmn"
 ]
 
 END = [

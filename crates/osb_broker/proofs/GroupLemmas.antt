@@ -1,5 +1,5 @@
 -- Requests that are decided one after the other, and whose changes are made in one transaction.
-use Rattle.std.proofs.Common.{◌≡◌, ◌≢◌, ◌∙◌, ℕ, ◌<◌, ◌+◌, get_or, suc, inl, inr, Bool, true, false, not, bytes_eq, List, [], ◌∷◌, ◌++◌, length, map, take, drop, vec_items, Option, None, Some, unwrap_or, if◌then◌else◌, Result, Ok, Err, OnOk, OnErr, IfOk, IfSome, MatchResult, IsTrue, sym, refl, ap, subst, arith}
+use Rattle.std.proofs.Common.{◌≡◌, ◌≢◌, ◌∙◌, ℕ, ◌<◌, ◌+◌, get_or, inl, inr, Bool, true, false, not, bytes_eq, List, [], ◌∷◌, ◌++◌, length, map, take, drop, vec_items, Option, None, Some, unwrap_or, if◌then◌else◌, Result, Ok, Err, OnErr, IfOk, MatchResult, IsTrue, sym, refl, ap, subst, arith}
 use Rattle.std.specs.Global.{Vec}
 use Rattle.std.specs.Ordering.{nat_cmp, eq_by_cmp}
 use Rattle.std.specs.Cmp.Lexicographic.{slice_cmp, nat_list_cmp_total}
@@ -21,14 +21,11 @@ use Rattle.osb_frames.proofs.FrontLemmas.{front_unique}
 use Rattle.osb_replies.specs.Parts.{refused}
 use Rattle.osb_replies.specs.Text.{reply_text}
 use Rattle.osb_catalog.specs.Rules.{Rules}
-use Rattle.osb_asks.specs.declared.ask.Ask.{Ask}
-use Rattle.osb_asks.specs.declared.ask_fault.AskFault.{AskFault}
 use Rattle.osb_asks.specs.Asks.{ask_of}
 use Rattle.osb_orders.specs.declared.order.Change.{Change}
 use Rattle.osb_orders.specs.declared.order.Change.TheVariants.{Nothing, Append, Finish}
 use Rattle.osb_orders.specs.Life.{Life}
 use Rattle.osb_orders.specs.Lives.{Lives, life_of}
-use Rattle.osb_orders.specs.Named.{instance_in}
 use Rattle.osb_orders.specs.Changed.{lives_changed}
 use Rattle.osb_orders.specs.IsLife.{IsLives}
 use Rattle.osb_laws.proofs.MapLemmas.{answers_apart}
@@ -45,12 +42,12 @@ use Rattle.osb_broker.specs.Connection.{Run}
 use Rattle.osb_broker.specs.Crashes.{LeavesLives, LostAnswer, RunOrLost, ServedOrLost}
 use Rattle.osb_broker.specs.Groups.{AreAnswered, Decides, HasAll, IsGroup, IsOfAnother, Joins}
 use Rattle.osb_broker.specs.Inside.{AreAnsweredAlike, EachStays, GivesPrepared, IsOfInstance, LivesStay, ServesEach, ServesMore, Worked}
-use Rattle.osb_broker.specs.Machine.{Answer, Machine, reply_of}
-use Rattle.osb_broker.specs.Prepared.{after_pending, answer_parts, IsApplicable, Prepares}
+use Rattle.osb_broker.specs.Machine.{Machine, reply_of}
+use Rattle.osb_broker.specs.Prepared.{after_pending, answer_parts, IsApplicable}
 use Rattle.osb_broker.specs.Served.{RunServed, Served}
-use Rattle.osb_broker.specs.Steps.{capped, machine, needs_lives, step_for}
+use Rattle.osb_broker.specs.Steps.{capped, machine, needs_lives}
 use Rattle.osb_broker.proofs.CrashLemmas.{leaves_next, leaves_stored, leaves_weaker}
-use Rattle.osb_broker.proofs.LostLemmas.{shown_run, shown_whole}
+use Rattle.osb_broker.proofs.LostLemmas.{shown_run}
 use Rattle.osb_broker.proofs.OneByOneLemmas.{text_of_request}
 use Rattle.osb_broker.proofs.RequestLemmas.{asks, broken, Kind, Seen, silent, view}
 use Rattle.osb_broker.proofs.StoreLemmas.{survives_same}

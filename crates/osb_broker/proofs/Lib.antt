@@ -14,10 +14,11 @@ pub mod StoreLemmas
 mod ReplyLemmas
 pub mod ShutLemmas
 pub mod CrashLemmas
-mod LostLemmas
+pub mod LostLemmas
 mod HandleLemmas
 mod LateLemmas
 mod GroupLemmas
+mod BegunLemmas
 mod FailureLemmas
 mod RefusalLemmas
 mod RequestLemmas

@@ -31,6 +31,9 @@ pub mod Counted
 -- What was said with clients is such a history.
 pub mod Conversations
 pub mod Replied
+-- Clients that are served together.
+pub mod Begun
+pub mod Waiting
 -- Several brokers are one.
 pub mod Shards
 -- A reply that reports an error has changed nothing, and who lacks the login learns nothing.

@@ -20,6 +20,7 @@ ghost use Rattle.osb_broker.specs.ActsOnce.{AttemptsActOnce, ConnectionsLeaveOne
 ghost use Rattle.osb_broker.specs.Reported.{RequestsActOnceBeside, RequestsActAtMostOnceBeside, ReportedRequestsActOnce, ReportedRequestsActAtMostOnce};
 ghost use Rattle.osb_broker.specs.Counted.{RequestsOpenOne};
 ghost use Rattle.osb_broker.specs.Conversations.{EpisodesAreHistories, EpisodesGoOn};
+ghost use Rattle.osb_broker.specs.Begun.{GroupsAreConversations};
 ghost use Rattle.osb_broker.specs.Replied.{RepliedRequestsActOnce, SentRequestsActAtMostOnce};
 ghost use Rattle.osb_broker.specs.Shards.{ShardsAreApart, ShardsKeepOut, UnnamedMayBeLeftOut, ShardsAreOne, HistoriesAreOne};
 ghost use Rattle.osb_broker.specs.Errors.{ErrorsStay};
@@ -145,6 +146,12 @@ pub fn reported()
 pub fn episodes()
     ensures histories { EpisodesAreHistories }
     ensures together { EpisodesGoOn }
+{}
+
+/// Clients whose requests waited, and that were then sent the outputs that the broker gives for all of them,
+/// were served one after the other, in the order of the outputs. So what `episodes` says holds of them.
+pub fn together()
+    ensures { GroupsAreConversations }
 {}
 
 /// A request about an instance that clients make again and again, one request each, acted once where one

@@ -7,6 +7,7 @@
 
 mod answer;
 mod applying;
+mod begun;
 mod broker;
 mod buffer;
 mod fault;
@@ -23,12 +24,15 @@ mod rooms;
 mod runs;
 mod serve;
 mod setup;
+mod waiting;
 
+pub use begun::Begun;
 pub use broker::Broker;
 pub use buffer::Buffer;
 pub use fault::{NewFault, ServeFault};
 pub use laws::{
     apart, episodes, errors, histories, logins, never_fails, reads_are_bounded, refusals_show,
-    replied, reported, resend, runs_go_on, shards, texts_are_of_the_cut, unknown,
+    replied, reported, resend, runs_go_on, shards, texts_are_of_the_cut, together, unknown,
 };
 pub use rooms::Room;
+pub use waiting::Waiting;

@@ -30,6 +30,13 @@ use std::alloc::{AllocError, Global};
 /// The room in which each fixed reply fits: the largest has 145 bytes.
 const RESERVE: usize = 512;
 
+/// An output with nothing in it yet, in which there is room for a fixed reply.
+pub(crate) fn blank_output(alloc: Global) -> Result<Vec<u8>, AllocError>
+    ensures { IfOk result IsBlank }
+{
+    Vec::with_capacity(alloc, RESERVE)
+}
+
 /// Outputs with nothing in them yet. In each there is room for a fixed reply.
 fn blank_outputs(alloc: Global, count: usize) -> Result<Vec<Vec<u8>>, AllocError>
     ensures count { IfOk result (λ outputs. length outputs.items ≡ count) }
@@ -37,7 +44,7 @@ fn blank_outputs(alloc: Global, count: usize) -> Result<Vec<Vec<u8>>, AllocError
 {
     let mut outputs = Vec::with_capacity(alloc, count)?;
     for _ in 0..count {
-        outputs.push(Vec::with_capacity(alloc, RESERVE)?)?;
+        outputs.push(blank_output(alloc)?)?;
     }
     Ok(outputs)
 }
@@ -261,7 +268,8 @@ impl Setup<'_> {
         requires blank { AllByRecursion IsBlank blanks.old.items }
         requires enough { length connections.now ≤ length blanks.old.items }
         requires room { vec_len outputs.old + length connections.now ≤ vec_capacity outputs.old }
-        ensures { ServesMore S.Store (capped (given_rules self.now)) limits.now 1
+        ensures count { vec_len outputs.new ≡ vec_len outputs.old + length connections.now }
+        ensures serves { ServesMore S.Store (capped (given_rules self.now)) limits.now 1
             (map vec_items connections.now)
             outputs.old.items outputs.new.items records.old records.new }
     {
@@ -270,6 +278,30 @@ impl Setup<'_> {
         while !rest.is_empty() {
             let count = self.serve_some(records, limits, rest, blanks, outputs);
             (_, rest) = rest.split_at(count);
+        }
+    }
+
+    /// Serves connections into outputs that have room for them, and for a fixed reply to each.
+    pub(crate) fn serve_into_outputs<S: Alter>(
+        &self,
+        records: &mut Records<S>,
+        limits: &Limits,
+        connections: &[Vec<u8>],
+        blanks: &mut Vec<Vec<u8>>,
+        outputs: &mut Vec<Vec<u8>>,
+    )
+        requires blank { AllByRecursion IsBlank blanks.old.items }
+        requires enough { length connections.now ≤ length blanks.old.items }
+        requires room { vec_len outputs.old + length connections.now ≤ vec_capacity outputs.old }
+        ensures count { vec_len outputs.new ≡ vec_len outputs.old + length connections.now }
+        ensures serves { ServesMore S.Store (capped (given_rules self.now)) limits.now
+            (given_most self.now) (map vec_items connections.now)
+            outputs.old.items outputs.new.items records.old records.new }
+    {
+        if self.per_connection.number == 1 {
+            self.serve_groups(records, limits, connections, blanks, outputs);
+        } else {
+            self.serve_singly(records, limits, connections, blanks, outputs);
         }
     }
 
@@ -292,11 +324,7 @@ impl Setup<'_> {
         records.lives_are_whole();
         let mut blanks = blank_outputs(self.alloc, connections.len())?;
         let mut outputs = Vec::with_capacity(self.alloc, connections.len())?;
-        if self.per_connection.number == 1 {
-            self.serve_groups(records, limits, connections, &mut blanks, &mut outputs);
-        } else {
-            self.serve_singly(records, limits, connections, &mut blanks, &mut outputs);
-        }
+        self.serve_into_outputs(records, limits, connections, &mut blanks, &mut outputs);
         Ok(outputs)
     }
 }

@@ -31,7 +31,7 @@ impl Setup<'_> {
     ghost use Rattle.osb_broker.specs.Inside.{given_most, given_rules, Worked};
 
     /// Handles a request and writes its reply. Whether the connection closes.
-    fn handle_and_write<S: Alter, W: Sink>(
+    pub(crate) fn handle_and_write<S: Alter, W: Sink>(
         &self,
         records: &mut Records<S>,
         request: &Request<'_>,

@@ -3,12 +3,13 @@ use Rattle.std.proofs.Common.{◌≡◌, ◌≢◌, ◌∙◌, ◌++◌, refl, s
 use Rattle.std.proofs.lemmas.Bool.{false≢true}
 use Rattle.clap.specs.Words.{subcommand_of, takes}
 use Rattle.clap.proofs.OnLiterals.{clap_on_literals}
-use Rattle.osb_cli.specs.Done.{AreChecked, AreConnections, IsDone, IsReplayedBy}
+use Rattle.osb_cli.specs.Done.{AreChecked, AreConnections, IsBackedUp, IsDone, IsReplayedBy}
 use Rattle.osb_listen.specs.Listen.{listening_line}
 use Rattle.osb_cli.specs.Files.{AreBytesOfAll, Contents}
-use Rattle.osb_cli.specs.Inside.{IsReplayedFor, AsksCheck, AsksReplay, AsksServe}
+use Rattle.osb_cli.specs.Inside.{IsReplayedFor, AsksBackup, AsksCheck, AsksReplay, AsksServe}
 use Rattle.osb_cli.specs.Grammar.{osb_broker}
 use Rattle.osb_cli.specs.Words.{FoundCommand, Names}
+use Rattle.osb_cli.specs.declared.words.Backup.{Backup}
 use Rattle.osb_cli.specs.declared.words.Check.{Check}
 use Rattle.osb_cli.specs.declared.words.Listen.{Listen}
 use Rattle.osb_cli.specs.declared.words.Replay.{Replay}
@@ -32,6 +33,12 @@ of_files contents (name ∷ names) input files some are = are
 pub not_both : (found : FoundCommand) → Names (codes "check") found → Names (codes "serve") found → ⊥
 not_both found checks serves = false≢true (sym (ap (λ (name : Option (List ℕ)). bytes_eq (unwrap_or name []) (codes "check")) (sym checks ∙ serves)))
 
+pub backs_up_only : (found : FoundCommand) → Names (codes "backup") found → Names (codes "serve") found → ⊥
+backs_up_only found backs_up serves = false≢true (sym (ap (λ (name : Option (List ℕ)). bytes_eq (unwrap_or name []) (codes "backup")) (sym backs_up ∙ serves)))
+
+checks_only : (found : FoundCommand) → Names (codes "backup") found → Names (codes "check") found → ⊥
+checks_only found backs_up checks = false≢true (sym (ap (λ (name : Option (List ℕ)). bytes_eq (unwrap_or name []) (codes "backup")) (sym backs_up ∙ checks)))
+
 -- what was done well without a file was done well
 pub done_well : {A B E F : Type 0} (done : Result A E) (told : Result B F) (P : Type 0) → OnOk told (IsOk done) → OnOk done P → OnOk told P
 done_well (Ok x) (Ok y) P well known = known
@@ -46,38 +53,50 @@ pub if_failed : {A E : Type 0} (done : Result A E) (P : E → Type 0) → ((faul
 if_failed (Ok x) P known = tt
 if_failed (Err fault) P known = known fault
 
-module _ (contents : Contents) (found : FoundCommand) (input : Option (List ℕ)) (old new : List ℕ) where
+module _ (contents : Contents) (IsMade : List ℕ → List ℕ → Type 0) (found : FoundCommand) (input : Option (List ℕ)) (old new : List ℕ) where
+  pub is_backed_up : (asked : Backup) → AsksBackup found asked → IsBackedUp contents IsMade asked.database.now asked.to.now old new
+      → IsDone contents IsMade found input old new
+  is_backed_up asked asks done = record {
+    backup = λ _. rw (asks.database, asks.to) at done;
+    check = λ is. absurd (checks_only found asks.named is);
+    serve = λ is. absurd (backs_up_only found asks.named is);
+    replay = λ other another one. absurd (other asks.named);
+  }
+
   pub is_checked : (asked : Check) → AsksCheck found asked
       → AreChecked contents (option_map (λ it. it.now) asked.settings) (option_map (λ it. it.now) asked.database) old new
-      → IsDone contents found input old new
+      → IsDone contents IsMade found input old new
   is_checked asked asks checked = record {
+    backup = λ is. absurd (checks_only found is asks.named);
     check = λ _. rw (asks.settings, asks.database) at checked;
     serve = λ is. absurd (not_both found asks.named is);
-    replay = λ other another. absurd (other asks.named);
+    replay = λ other another one. absurd (another asks.named);
   }
 
   pub is_replayed : (asked : Replay) → AsksReplay found asked
       → IsReplayedFor contents asked input old new
-      → IsDone contents found input old new
+      → IsDone contents IsMade found input old new
   is_replayed asked asks replayed = record {
+    backup = λ is. absurd (asks.no_backup is);
     check = λ is. absurd (asks.no_check is);
     serve = λ is. absurd (asks.no_serve is);
-    replay = λ _ _. (asked.per_connection.number, asks.per_connection, rw (asks.settings, asks.connections) at replayed);
+    replay = λ _ _ _. (asked.per_connection.number, asks.per_connection, rw (asks.settings, asks.connections) at replayed);
   }
 
   pub is_listened : (asked : Listen) → AsksServe found asked → new ≡ old ++ listening_line asked.place.address.now
-      → IsDone contents found input old new
+      → IsDone contents IsMade found input old new
   is_listened asked asks told = record {
+    backup = λ is. absurd (backs_up_only found is asks.named);
     check = λ checks. absurd (not_both found checks asks.named);
     serve = λ _. rw asks.address at told;
-    replay = λ other another. absurd (another asks.named);
+    replay = λ other another one. absurd (one asks.named);
   }
 
   -- without words the input is replayed
-  pub is_plain : found ≡ None → IsDone contents found input old new → IsReplayedBy contents None 1 [] input old new
-  is_plain none done = plain (subst (λ it. IsDone contents it input old new) none done)
+  pub is_plain : found ≡ None → IsDone contents IsMade found input old new → IsReplayedBy contents None 1 [] input old new
+  is_plain none done = plain (subst (λ it. IsDone contents IsMade it input old new) none done)
     where
-      plain : IsDone contents None input old new → IsReplayedBy contents None 1 [] input old new
+      plain : IsDone contents IsMade None input old new → IsReplayedBy contents None 1 [] input old new
       plain it =
-          let replay = it.replay (λ is. cc) (λ is. cc) in
+          let replay = it.replay (λ is. cc) (λ is. cc) (λ is. cc) in
           subst (λ most. IsReplayedBy contents None most [] input old new) replay.1 replay.2

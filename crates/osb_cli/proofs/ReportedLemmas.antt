@@ -22,6 +22,9 @@ module _ (A B : List ℕ → Type 0) (more : (text : List ℕ) → A text → B 
   of_more the.CannotAccept has = tt
   of_more (the.Words text) has = tt
   of_more (the.Unseen cause) has = tt
+  of_more (the.IsThere name) has = tt
+  of_more (the.DraftIsThere name) has = tt
+  of_more (the.CannotMake name) has = tt
 
   pub unserved_more : (fault : Unserved) → IsUnservedOf A fault → IsUnservedOf B fault
   unserved_more (served.Fault fault) has = of_more fault has
@@ -45,6 +48,9 @@ other_text A (the.CannotListen address) is = tt
 other_text A the.CannotAccept is = tt
 other_text A (the.Words text) is = tt
 other_text A (the.Unseen cause) is = tt
+other_text A (the.IsThere name) is = tt
+other_text A (the.DraftIsThere name) is = tt
+other_text A (the.CannotMake name) is = tt
 
 pub other_unserved : (A : List ℕ → Type 0) (told : Unserved) → IsOtherUnserved told → IsUnservedOf A told
 other_unserved A (served.Fault fault) is = other_text A fault is

@@ -8,6 +8,8 @@ use Rattle.osb_file.specs.declared.seen.Seen.{Seen}
 use Rattle.osb_file.specs.declared.seen.Seen.TheVariants.{New, Counted}
 use Rattle.osb_file.specs.File.{HasTrees}
 use Rattle.osb_file.specs.Looked.{IsSeenAs, image_in}
+use Rattle.osb_file.specs.OneFile.{IsInOne}
+use Rattle.osb_audit.specs.declared.counting.Counts.{Counts}
 use Rattle.osb_cli.specs.Replay.{IsReplayed}
 use Rattle.osb_listen.specs.Listen.{listening_line}
 use Rattle.osb_cli.specs.Files.{AreBytesOfAll, Contents, IsCopyOf}
@@ -37,6 +39,16 @@ pub record IsLookedAt (contents : Contents) (name old new : List ℕ) : Type 0 w
   pub seen : Seen
   pub is : (db : Trees) → HasTrees (image_in files) db → IsSeenAs db seen
   pub written : new ≡ old ++ database_line seen
+
+-- One file was made of a database file and its log, and needs none. It has their database, and its line was written.
+pub record IsBackedUp (contents : Contents) (IsMade : List ℕ → List ℕ → Type 0) (name to old new : List ℕ) : Type 0 where
+  pub files : Copied
+  pub copy : IsCopyOf contents name files
+  pub bytes : List ℕ
+  pub made : IsMade to bytes
+  pub counts : Counts
+  pub has : IsInOne (image_in files) bytes counts
+  pub written : new ≡ old ++ database_line (Counted counts)
 
 -- where a file is named, its line
 abbrev pub AreSettingsChecked : Contents → Option (List ℕ) → List ℕ → List ℕ → Type 0
@@ -69,11 +81,14 @@ pub record IsReplayedBy (contents : Contents) (file : Option (List ℕ)) (most :
   pub given : AreConnections contents names input connections
   pub replayed : IsReplayed (rules_of settings) most connections old new
 
--- what `check` has written, what `serve`, and what `replay`, also without its name
-pub record IsDone (contents : Contents) (found : FoundCommand) (input : Option (List ℕ)) (old new : List ℕ) : Type 0 where
+-- what `backup` has made and written, what `check` has written, what `serve`, and what `replay`, also without its name
+pub record IsDone (contents : Contents) (IsMade : List ℕ → List ℕ → Type 0) (found : FoundCommand) (input : Option (List ℕ)) (old new : List ℕ) : Type 0 where
+  pub backup : Names (codes "backup") found → IsBackedUp contents IsMade
+      (unwrap_or (text_in (codes "database") found) []) (unwrap_or (text_in (codes "to") found) []) old new
   pub check : Names (codes "check") found →
       AreChecked contents (text_in (codes "settings") found) (text_in (codes "database") found) old new
   pub serve : Names (codes "serve") found →
       new ≡ old ++ listening_line (unwrap_or (text_in (codes "listen") found) [])
-  pub replay : ¬ Names (codes "check") found → ¬ Names (codes "serve") found → (most : ℕ) × HasPerConnection found most
+  pub replay : ¬ Names (codes "backup") found → ¬ Names (codes "check") found → ¬ Names (codes "serve") found
+      → (most : ℕ) × HasPerConnection found most
       × IsReplayedBy contents (text_in (codes "settings") found) most (texts_in (codes "connections") found) input old new

@@ -22,6 +22,10 @@ number_option id most = record (text_option id) { parser = Some (parser.Signed (
 abbrev pub settings_word : Rule
 settings_word = record (new_rule (codes "settings")) { value_names = 1 }
 
+-- a word that has to be there
+abbrev pub required_word : List ℕ → Rule
+required_word id = record (new_rule id) { value_names = 1; required = true }
+
 -- `--ID`
 abbrev pub flag_option : List ℕ → Rule
 flag_option id = record (new_rule id) { long = Some id; action = Some SetTrue }
@@ -36,6 +40,10 @@ files_word = record (new_rule (codes "connections")) {
 
 abbrev pub per_connection_option : Rule
 per_connection_option = number_option (codes "per-connection") 1000
+
+abbrev pub backup_command : App
+backup_command = with_rule (with_rule (new_app (codes "backup"))
+    (required_word (codes "database"))) (required_word (codes "to"))
 
 abbrev pub check_command : App
 check_command = with_rule (with_rule (with_rule (new_app (codes "check"))
@@ -54,7 +62,7 @@ serve_command = with_rule (with_rule (with_rule (with_rule (with_rule (with_rule
 
 -- the words come without the program's name, and `help` is no command
 abbrev pub osb_broker : App
-osb_broker = with_subcommand (with_subcommand (with_subcommand
+osb_broker = with_subcommand (with_subcommand (with_subcommand (with_subcommand
     (on_top (λ s. record s { no_binary_name = true; disable_help_subcommand = true; has_version = true })
     (new_app (codes "osb-broker")))
-    check_command.top) replay_command.top) serve_command.top
+    backup_command.top) check_command.top) replay_command.top) serve_command.top

@@ -16,6 +16,7 @@ use Rattle.osb_cli.specs.Serve.{LacksPlan, settings_name}
 use Rattle.std.specs.Duration.{as_nanos}
 use Rattle.clap.specs.Words.{all_of, found_of, one_of, rows_of}
 use Rattle.clap.specs.declared.parser.matches.ArgMatches.{ArgMatches}
+use Rattle.osb_cli.specs.declared.words.Backup.{Backup}
 use Rattle.osb_cli.specs.declared.words.Check.{Check}
 use Rattle.osb_cli.specs.declared.words.Listen.{Listen}
 use Rattle.osb_cli.specs.declared.words.Job.{Job}
@@ -54,6 +55,7 @@ abbrev pub HasTimeLimit : FoundCommand → ℕ → Type 0
 HasTimeLimit found = HasNumber 86400 10 (one_text_in (codes "time-limit") found)
 
 pub record AsksReplay (found : FoundCommand) (asked : Replay) : Type 0 where
+  pub no_backup : ¬ Names (codes "backup") found
   pub no_check : ¬ Names (codes "check") found
   pub no_serve : ¬ Names (codes "serve") found
   pub settings : option_map (λ it. it.now) asked.settings ≡ text_in (codes "settings") found
@@ -78,8 +80,14 @@ pub record AsksCheck (found : FoundCommand) (asked : Check) : Type 0 where
   pub settings : option_map (λ it. it.now) asked.settings ≡ text_in (codes "settings") found
   pub database : option_map (λ it. it.now) asked.database ≡ text_in (codes "database") found
 
+pub record AsksBackup (found : FoundCommand) (asked : Backup) : Type 0 where
+  pub named : Names (codes "backup") found
+  pub database : asked.database.now ≡ unwrap_or (text_in (codes "database") found) []
+  pub to : asked.to.now ≡ unwrap_or (text_in (codes "to") found) []
+
 -- the order is what the words ask for
 abbrev pub Asks : FoundCommand → Job → Type 0
+Asks found (order.Backup asked) = AsksBackup found asked
 Asks found (order.Check asked) = AsksCheck found asked
 Asks found (order.Replay asked) = AsksReplay found asked
 Asks found (order.Serve asked) = AsksServe found asked

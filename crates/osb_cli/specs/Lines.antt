@@ -62,6 +62,10 @@ fault_lines (the.Words text) = concat (string_bytes text ∷ []) ∷ []
 fault_lines (the.Settings fault) = settings_line fault (field_in fault) ∷ []
 fault_lines (the.Placed fault at) = settings_line fault (field_in fault) ∷ place_line at ∷ []
 fault_lines (the.Unseen cause) = unseen_lines cause
+fault_lines (the.IsThere name) = concat (codes "osb-broker: already there " ∷ name.now ∷ codes "\n" ∷ []) ∷ []
+fault_lines (the.DraftIsThere name) =
+    concat (codes "osb-broker: already there " ∷ name.now ∷ codes "-new\n" ∷ []) ∷ []
+fault_lines (the.CannotMake name) = concat (codes "osb-broker: cannot make " ∷ name.now ∷ codes "\n" ∷ []) ∷ []
 
 abbrev pub unserved_lines : Unserved → List (List ℕ)
 unserved_lines (served.Fault fault) = fault_lines fault

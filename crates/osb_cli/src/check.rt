@@ -50,7 +50,7 @@ fn write_number<W: Sink>(word: &[u8], number: usize, output: &mut W) -> Result<(
 }
 
 /// Writes the line of a database that has so much of everything. It takes no memory.
-fn write_counted<W: Sink>(counts: Counts, output: &mut W) -> Result<(), Fault<'static>>
+pub(crate) fn write_counted<W: Sink>(counts: Counts, output: &mut W) -> Result<(), Fault<'static>>
     ensures written { OnOk result (W.taken output.new
         ≡ W.taken output.old ++ database_line (Counted counts)) }
     ensures other { IfErr result IsOther }

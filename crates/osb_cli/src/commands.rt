@@ -15,6 +15,7 @@ ghost use Rattle.osb_listen.specs.Held.{Serving};
 ghost use Rattle.osb_cli.specs.Serve.{HasServedAs, LeavesAs, NamesSome, settings_name};
 ghost use Rattle.osb_cli.specs.Words.{AreTaken, Names, found_by};
 
+use crate::backup::backup;
 use crate::check::check;
 use crate::fault::{Fault, Unserved};
 use crate::files::NamedFiles;
@@ -96,8 +97,9 @@ fn perform<'a, D: Database, F: NamedFiles, L: Entrance, R: Source, W: Sink, E: S
     errors: &mut E,
 ) -> (Result<(), Unserved<'a>>, Opened<D::Store>)
     ensures done { AreTaken (map string_bytes words.now) →
-        OnOk result.0 (IsDone (F.contents files.now) (found_by (map string_bytes words.now))
-        (R.rest input.old) (W.taken output.old) (W.taken output.new)) }
+        OnOk result.0 (IsDone (F.contents files.now) (F.is_made files.now)
+        (found_by (map string_bytes words.now)) (R.rest input.old)
+        (W.taken output.old) (W.taken output.new)) }
     ensures served { IfSome result.1 (λ conn. (serving : Serving)
         × OnOk result.0 (IsOk serving.ended)
         × HasServedAs (found_by (map string_bytes words.now)) serving
@@ -128,6 +130,7 @@ fn perform<'a, D: Database, F: NamedFiles, L: Entrance, R: Source, W: Sink, E: S
         Err(error) => return without_file::<D>(answer_words(rt.alloc(), &error, output)),
     };
     match order {
+        Job::Backup(asked) => without_file::<D>(backup(rt.alloc(), files, &asked, output)),
         Job::Check(asked) => without_file::<D>(check(rt.alloc(), files, &asked, output)),
         Job::Replay(asked) => without_file::<D>(replay(rt.alloc(), files, &asked, input, output)),
         Job::Serve(asked) => listen(rt, files, &asked, database, entrance, output, errors),
@@ -156,7 +159,7 @@ fn status_of<E: Sink>(done: Result<(), Unserved<'_>>, errors: &mut E) -> u8
 /// with and, of `serve`, the connection to its database file, where it was opened.
 ///
 /// The status is 0 where all went well or help or the version was asked for, 1 where a file, memory or
-/// standard output failed, the database can't be used or its file is taken away, the address can't be
+/// standard output failed, a file that is to be made is there already, the database can't be used or its file is taken away, the address can't be
 /// listened at or a connection can't be taken, 2 where the words aren't those of a command, 3 where
 /// settings aren't accepted, and 4 where the catalog lacks a plan that the database has in use. A status
 /// other than 0 has its line on `errors`, behind all that `serve` wrote there; a failed write there is
@@ -164,8 +167,9 @@ fn status_of<E: Sink>(done: Result<(), Unserved<'_>>, errors: &mut E) -> u8
 /// is taken.
 ///
 /// Where the words are those of a command, so no help was asked for, what was written with status 0 is
-/// the lines of `check`, the listening line of `serve`, or exactly the replies of `replay`. Without any
-/// words it replays the whole input with the built-in settings, one request.
+/// the lines of `check`, the line of `backup`, which made its file before, the listening line of `serve`,
+/// or exactly the replies of `replay`. Without any words it replays the whole input with the built-in
+/// settings, one request.
 ///
 /// `files` are the files that the words name, but for the database of `serve`, which is `database`: what
 /// is said of lives is said of each database that it may have, of the connection to it, which is there
@@ -183,8 +187,8 @@ pub fn run<D: Database, F: NamedFiles, L: Entrance, R: Source, W: Sink, E: Sink>
 ) -> (u8, Opened<D::Store>)
     ensures most { result.0 ≤ 4 }
     ensures done { AreTaken (map string_bytes words.now) → result.0 ≡ 0 →
-        IsDone (F.contents files.now) (found_by (map string_bytes words.now)) (R.rest input.old)
-        (W.taken output.old) (W.taken output.new) }
+        IsDone (F.contents files.now) (F.is_made files.now) (found_by (map string_bytes words.now))
+        (R.rest input.old) (W.taken output.old) (W.taken output.new) }
     ensures plain { words.now ≡ [] → result.0 ≡ 0 →
         IsReplayedBy (F.contents files.now) None 1 [] (R.rest input.old)
         (W.taken output.old) (W.taken output.new) }

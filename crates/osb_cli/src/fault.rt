@@ -39,6 +39,12 @@ pub(crate) enum Fault<'a> {
     Placed(SettingsFault, Place),
     /// The database file can't be looked at.
     Unseen(Unseen),
+    /// The file of that name, which is to be made, is there already.
+    IsThere(&'a str),
+    /// The same of its name with `-new` behind.
+    DraftIsThere(&'a str),
+    /// The file of that name can't be made.
+    CannotMake(&'a str),
 }
 
 /// Why `serve` ends with another status than 0.
@@ -202,7 +208,10 @@ impl Fault<'_> {
             | Fault::CannotWrite
             | Fault::CannotListen(_)
             | Fault::CannotAccept
-            | Fault::Unseen(_) => 1,
+            | Fault::Unseen(_)
+            | Fault::IsThere(_)
+            | Fault::DraftIsThere(_)
+            | Fault::CannotMake(_) => 1,
             Fault::Words(_) => 2,
             Fault::Settings(_) | Fault::Placed(_, _) => 3,
         }
@@ -232,6 +241,11 @@ impl Fault<'_> {
                 print_place(place, errors);
             }
             Fault::Unseen(unseen) => print_unseen(*unseen, errors),
+            Fault::IsThere(file) => say(errors, &["osb-broker: already there ", file, "\n"]),
+            Fault::DraftIsThere(file) => {
+                say(errors, &["osb-broker: already there ", file, "-new\n"]);
+            }
+            Fault::CannotMake(file) => say(errors, &["osb-broker: cannot make ", file, "\n"]),
         }
     }
 }

@@ -1,18 +1,21 @@
 //! The files that a command names.
 
-ghost use Rattle.std.specs.Prelude.{◌≡◌, IfOk};
+ghost use Rattle.std.specs.Prelude.{◌≡◌, ℕ, List, IfOk, OnOk};
 ghost use Rattle.osb_cli.specs.Files.{AreBytesOf, Contents, IsCopyOf};
 
 use crate::input::{ReadFault, read_whole};
-use osb_file::{Copied, Unseen};
+use osb_file::{Copied, OneFile, Unseen, Unwritten};
 use osb_frames::Counted;
 use std::alloc::Global;
-use std::fs::File;
+use std::fs::{self, File};
 
 /// The files that a command can name. What is said over `F: NamedFiles` is said of all that they may have.
 pub trait NamedFiles {
     /// What each file has, where it is known.
     ghost contents: { Self → Contents };
+
+    /// What is known once a file was made, by its name and its bytes.
+    ghost is_made: { Self → List ℕ → List ℕ → Type 0 };
 
     /// Reads a file whole. One of more than 16,777,216 bytes is too large.
     fn read(&self, alloc: Global, name: &str) -> Result<Vec<u8>, ReadFault>
@@ -21,6 +24,13 @@ pub trait NamedFiles {
     /// Reads a database file and its log, as `Copied::read` does.
     fn read_database(&self, path: &str) -> Result<Copied, Unseen>
         ensures { IfOk result (IsCopyOf (contents self.now) path.now) };
+
+    /// Makes a file that has a database, as `OneFile::write` does.
+    fn make(&self, name: &str, database: &OneFile) -> Result<(), Unwritten>
+        ensures { OnOk result (is_made self.now name.now database.now.bytes.items) };
+
+    /// Takes a file away that was made.
+    fn take_away(&self, name: &str);
 }
 
 /// The files of the machine. No contract says what they have.
@@ -36,9 +46,11 @@ impl<'a> HostFiles<'a> {
 }
 
 impl NamedFiles for HostFiles<'_> {
-    ghost use Rattle.std.specs.Prelude.{None};
+    ghost use Rattle.std.specs.Prelude.{None, ⊤};
 
     ghost contents = { λ _. record { file = λ _. None; log = λ _. None } };
+
+    ghost is_made = { λ _ _ _. ⊤ };
 
     fn read(&self, alloc: Global, name: &str) -> Result<Vec<u8>, ReadFault> {
         let Ok(file) = File::open(self.rt, name) else {
@@ -49,5 +61,13 @@ impl NamedFiles for HostFiles<'_> {
 
     fn read_database(&self, path: &str) -> Result<Copied, Unseen> {
         Copied::read(self.rt, path)
+    }
+
+    fn make(&self, name: &str, database: &OneFile) -> Result<(), Unwritten> {
+        database.write(self.rt, name)
+    }
+
+    fn take_away(&self, name: &str) {
+        let _ = fs::remove_file(self.rt, name);
     }
 }

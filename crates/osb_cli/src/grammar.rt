@@ -2,7 +2,7 @@
 
 ghost use Rattle.std.specs.Prelude.{◌≡◌, false, IfOk, IfErr, codes};
 ghost use Rattle.clap.specs.Words.{app_of, new_app, rule_of, kind_of};
-ghost use Rattle.osb_cli.specs.Grammar.{check_command, files_word, flag_option, number_option, osb_broker, replay_command, required_option, serve_command, settings_word, text_option};
+ghost use Rattle.osb_cli.specs.Grammar.{backup_command, check_command, files_word, flag_option, number_option, osb_broker, replay_command, required_option, required_word, serve_command, settings_word, text_option};
 
 use clap::error::ErrorKind;
 use clap::{Arg, ArgAction, Command, Error, value_parser};
@@ -17,14 +17,27 @@ const STATUS: &str = "With no command it does `replay`.
 
 Status:
   0  all went well, or help or the version was asked for
-  1  a file can't be read or is too large, the database is refused, isn't one
-     of this broker or is missing, its file is taken away, memory is refused,
-     standard output doesn't take what is written, or connections can't be
-     taken
+  1  a file can't be read or is too large, can't be made or is there already,
+     the database is refused, isn't one of this broker or is missing, its file
+     is taken away, memory is refused, standard output doesn't take what is
+     written, or connections can't be taken
   2  the words are not those of a command
   3  the settings are not accepted
   4  the settings lack a plan that the database has in use
 With any status but 0 a line on standard error says why.";
+
+const BACKUP: &str = "Copy a database file into one file that needs no log";
+
+const BACKUP_MORE: &str =
+    "It may be the file of a broker that runs: what was answered before is in the copy.
+The file and its log are read as they are at one moment, and all rows are
+looked at as a start does. Then the copy is made, a file that only its owner may
+read, and is on the disk when the counts are printed, as `instances 2, bindings
+1, running 0`. `serve` takes it as it is.
+Otherwise a line on standard error says why, and no copy is made: what FILE
+holds isn't a database of this broker, or none yet, as `check` would say; or TO
+is there already, or can't be made. Until the copy is whole its name is TO with
+`-new` behind.";
 
 const CHECK: &str = "Check a settings file, a database file, or both";
 
@@ -81,6 +94,17 @@ fn settings_word<'a>(alloc: Global) -> Arg<'a>
     Arg::new(alloc, "settings").value_name("FILE").help(
         "The settings file, a JSON object of at most 16777216 bytes",
     )
+}
+
+/// A word that has to be there.
+fn required_word<'a>(alloc: Global, id: &'a str, value: &'a str, help: &'a str) -> Arg<'a>
+    ensures rule { rule_of result ≡ required_word id.now }
+    ensures local { result.global ≡ false }
+{
+    Arg::new(alloc, id)
+        .value_name(value)
+        .help(help)
+        .required(true)
 }
 
 /// `--ID`.
@@ -180,6 +204,26 @@ fn begun<'a>(
         .override_usage(usage)
 }
 
+/// `backup` and its words.
+fn backup_command<'a>(alloc: Global) -> Result<Command<'a>, Error>
+    ensures app { IfOk result (λ command. app_of command ≡ backup_command) }
+    ensures err { IfErr result (λ error. kind_of error ≡ ErrorKind.OutOfMemory) }
+{
+    let path = "The database file";
+    let made = "The file that is made";
+    Ok(
+        begun(
+            alloc,
+            "backup",
+            BACKUP,
+            BACKUP_MORE,
+            "osb-broker backup FILE TO",
+        )
+        .arg(required_word(alloc, "database", "FILE", path))?
+        .arg(required_word(alloc, "to", "TO", made))?,
+    )
+}
+
 /// `check` and its words.
 fn check_command<'a>(alloc: Global) -> Result<Command<'a>, Error>
     ensures app { IfOk result (λ command. app_of command ≡ check_command) }
@@ -244,6 +288,7 @@ pub(crate) fn osb_broker<'a>(alloc: Global) -> Result<Command<'a>, Error>
             .after_help(STATUS)
             .disable_help_subcommand(true)
             .no_binary_name(true)
+            .subcommand(backup_command(alloc)?)?
             .subcommand(check_command(alloc)?)?
             .subcommand(replay_command(alloc)?)?
             .subcommand(serve_command(alloc)?)?,

@@ -2,6 +2,7 @@
 //! that the process ends with, as [`words_unread`] does where they can't be read.
 #![tactic(auto)]
 
+mod backup;
 mod check;
 mod commands;
 mod fault;

@@ -14,6 +14,15 @@ use osb_listen::ListenOptions;
 use std::alloc::{AllocError, Global};
 use std::time::Duration;
 
+/// What is copied into one file.
+#[derive(Clone, Copy, Debug)]
+pub(crate) struct Backup<'a> {
+    /// The path of the database file.
+    pub(crate) database: &'a str,
+    /// The path of the file that is made.
+    pub(crate) to: &'a str,
+}
+
 /// What is checked.
 #[derive(Clone, Copy, Debug)]
 pub(crate) struct Check<'a> {
@@ -47,6 +56,8 @@ pub(crate) struct Replay<'a> {
 /// What the words ask for.
 #[derive(Debug, Drop)]
 pub(crate) enum Job<'a> {
+    /// Copy a database file and its log into one file.
+    Backup(Backup<'a>),
     /// Check a settings file, a database file, or both.
     Check(Check<'a>),
     /// Serve connections whose bytes are all there.
@@ -115,6 +126,16 @@ fn files_of<'a>(alloc: Global, found: &ArgMatches<'a>) -> Result<Vec<&'a str>, A
     Ok(names)
 }
 
+/// The order to back up, as the words after `backup` say it.
+fn backup_order<'a>(found: &ArgMatches<'a>) -> Job<'a>
+    ensures { Asks (Some (codes "backup", rows_of (found_of found.now))) result }
+{
+    Job::Backup(Backup {
+        database: found.get_str("database").unwrap_or(""),
+        to: found.get_str("to").unwrap_or(""),
+    })
+}
+
 /// The order to check, as the words after `check` say it.
 fn check_order<'a>(found: &ArgMatches<'a>) -> Job<'a>
     ensures { Asks (Some (codes "check", rows_of (found_of found.now))) result }
@@ -128,8 +149,8 @@ fn check_order<'a>(found: &ArgMatches<'a>) -> Job<'a>
 
 /// The order to replay, as the words after `replay` say it.
 fn replay_order<'a>(alloc: Global, found: &ArgMatches<'a>) -> Result<Job<'a>, AllocError>
-    ensures { (name : List ℕ) → name ≢ codes "check" → name ≢ codes "serve" →
-        IfOk result (Asks (Some (name, rows_of (found_of found.now)))) }
+    ensures { (name : List ℕ) → name ≢ codes "backup" → name ≢ codes "check" →
+        name ≢ codes "serve" → IfOk result (Asks (Some (name, rows_of (found_of found.now)))) }
 {
     Ok(Job::Replay(Replay {
         settings: found.get_str("settings"),
@@ -167,6 +188,7 @@ pub(crate) fn read<'a>(alloc: Global, words: &'a [String]) -> Result<Job<'a>, Er
 {
     let matches = osb_broker(alloc)?.try_get_matches_from(words)?;
     match matches.subcommand() {
+        Some(("backup", found)) => Ok(backup_order(found)),
         Some(("check", found)) => Ok(check_order(found)),
         Some(("serve", found)) => Ok(serve_order(found)),
         Some((_, found)) => Ok(replay_order(alloc, found)?),

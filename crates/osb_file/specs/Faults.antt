@@ -3,7 +3,7 @@ use Rattle.std.specs.Prelude.{ℕ, List, codes}
 use Rattle.osb_statements.specs.declared.fault.StoreFault.{StoreFault}
 use Rattle.osb_statements.specs.declared.fault.StoreFault.TheVariants as store
 use Rattle.osb_file.specs.declared.fault.FileFault.{FileFault}
-use Rattle.osb_file.specs.declared.fault.FileFault.TheVariants.{Refused, NotOurs}
+use Rattle.osb_file.specs.declared.fault.FileFault.TheVariants.{Refused, NotOurs, Missing}
 use Rattle.osb_file.specs.declared.unseen.Unseen.{Unseen}
 use Rattle.osb_file.specs.declared.unseen.Unseen.TheVariants as unseen
 
@@ -15,6 +15,7 @@ file_fault_of store.NotOurs = NotOurs
 -- the fault that the opening of such a file answers
 abbrev pub unseen_fault_of : Unseen → FileFault
 unseen_fault_of unseen.NotOurs = NotOurs
+unseen_fault_of unseen.NoTables = Missing
 unseen_fault_of _ = Refused
 
 -- the cause in words
@@ -33,3 +34,4 @@ unseen_text unseen.Damaged = codes "damaged"
 unseen_text unseen.Row = codes "a row that can't be read"
 unseen_text unseen.Memory = codes "out of memory"
 unseen_text unseen.NotOurs = codes "a database of another program"
+unseen_text unseen.NoTables = codes "no tables yet"

@@ -11,6 +11,7 @@ ghost use Rattle.osb_file.specs.Looked.{IsSeenAs, image_in};
 use crate::beside::{is_log_without_file, log_path};
 use crate::database_file::is_special;
 use crate::looking::{disk_of, look_into};
+use crate::moment::{Moment, moment_of};
 use crate::seen::Seen;
 use crate::unseen::Unseen;
 use sqlite_disk::Files;
@@ -18,6 +19,9 @@ use std::alloc::Global;
 use std::fs::{self, OpenOptions};
 use std::io::{Error, ErrorKind, Read};
 use std::os::unix::fs::MetadataExt;
+
+/// How often the two files are read, where each time something comes in between.
+const MOST_TRIES: usize = 50;
 
 /// The bytes of a database file and of its log.
 #[derive(Debug, Drop)]
@@ -99,28 +103,55 @@ fn read_file(rt: &HostRuntime, path: &str) -> Result<Vec<u8>, Unseen> {
     }
 }
 
-/// The log of the file at the path, empty where there is none.
-fn read_log(rt: &HostRuntime, path: &str) -> Result<Vec<u8>, Unseen> {
-    let log = match log_path(rt, path) {
-        Ok(log) => log,
-        Err(error) => return Err(unread(error)),
-    };
-    match fs::read(rt, log.as_str()) {
+/// A log, empty where there is none.
+fn read_log(rt: &HostRuntime, log: &str) -> Result<Vec<u8>, Unseen> {
+    match fs::read(rt, log) {
         Ok(bytes) => Ok(bytes),
         Err(error) if error.kind() == ErrorKind::NotFound => Ok(Vec::new(rt.alloc())),
         Err(error) => Err(unread(error)),
     }
 }
 
-fn read_both(rt: &HostRuntime, path: &str) -> Result<Copied, Unseen> {
+/// Reads the file, and behind it its log (docs/DECISIONS.md, 'A moment of the two files').
+fn read_both(rt: &HostRuntime, path: &str, log: &str) -> Result<Copied, Unseen> {
     let database = read_file(rt, path)?;
-    let log = read_log(rt, path)?;
+    let log = read_log(rt, log)?;
     Ok(Copied { database, log })
 }
 
+fn moment_at(rt: &HostRuntime, path: &str, log: &str) -> Result<Moment, Unseen> {
+    match moment_of(rt, path, log) {
+        Ok(moment) => Ok(moment),
+        Err(error) => Err(unread(error)),
+    }
+}
+
+/// Reads both, and gives them where they belong to one moment.
+fn read_once(rt: &HostRuntime, path: &str, log: &str) -> Result<Option<Copied>, Unseen> {
+    let before = moment_at(rt, path, log)?;
+    let copied = read_both(rt, path, log)?;
+    let after = moment_at(rt, path, log)?;
+    Ok(if before == after { Some(copied) } else { None })
+}
+
+/// Reads both, again where something came in between.
+fn read_moment(rt: &HostRuntime, path: &str) -> Result<Copied, Unseen> {
+    let log = match log_path(rt, path) {
+        Ok(log) => log,
+        Err(error) => return Err(unread(error)),
+    };
+    for _ in 0..MOST_TRIES {
+        if let Some(copied) = read_once(rt, path, log.as_str())? {
+            return Ok(copied);
+        }
+    }
+    Err(Unseen::InUse)
+}
+
 impl Copied {
-    /// Reads a database file and its log, and writes nothing. They are read twice: where what was read
-    /// differs, another process writes to them.
+    /// Reads a database file and its log as they are at one moment, and writes nothing. A broker may run
+    /// over them: what it has answered before is in what is read. Where its log begins anew meanwhile, they
+    /// are read again, 50 times at most.
     ///
     /// What stands at the path has to be a file that `serve` can open: see [`Unseen`].
     pub fn read(rt: &HostRuntime, path: &str) -> Result<Copied, Unseen> {
@@ -131,12 +162,7 @@ impl Copied {
         check_kind(rt, path)?;
         check_journal(rt, path)?;
         check_mode(rt, path)?;
-        let first = read_both(rt, path)?;
-        let again = read_both(rt, path)?;
-        if first.database != again.database || first.log != again.log {
-            return Err(Unseen::InUse);
-        }
-        Ok(first)
+        read_moment(rt, path)
     }
 
     /// What the database of these bytes has, opened and audited as `serve` would. All of it happens in

@@ -7,7 +7,40 @@ ghost use Rattle.sqlite.specs.Held.{IsNew, state};
 ghost use Rattle.sqlite.specs.State.{HasCleanDisk};
 ghost use Rattle.osb_file.specs.Database.{IsOpenedTo};
 
-use sqlite::{Alter, Connection, FileFrom, FileStore, Start};
+use crate::first_page::PAGE_SIZE;
+use sqlite::{Alter, Connection, FileFrom, FileStore, Options, Start};
+use std::fs;
+use std::hash::{BuildHasher, RandomState};
+
+/// How many pages the log has before they are copied into the database file: 4 MB of pages of 1,024 bytes. A
+/// creation writes some 28, so fewer than one of a hundred waits for a copy.
+const PAGES_OF_LOG: usize = 4_000;
+
+/// How many pages of the database file are kept in memory, at least and at most.
+const LEAST_PAGES: u64 = 2_000;
+
+const MOST_PAGES: u64 = 8_000;
+
+/// How many pages of the file at the path are kept in memory: all, up to 8 MB. With fewer a start reads most
+/// of them again and again, as it looks each row up in each index.
+fn pages_to_keep(rt: &HostRuntime, path: &str) -> usize {
+    let length = match fs::metadata(rt, path) {
+        Ok(found) => found.len(),
+        Err(_) => 0,
+    };
+    let pages = length / PAGE_SIZE as u64;
+    pages.max(LEAST_PAGES).min(MOST_PAGES) as usize
+}
+
+/// How the file at the path is kept.
+fn options_for(rt: &HostRuntime, path: &str) -> Option<Options> {
+    let seed = RandomState::new(rt).ok()?.hash_one(&0u8);
+    Some(Options {
+        cache_pages: pages_to_keep(rt, path),
+        checkpoint_frames: PAGES_OF_LOG,
+        ..Options::new(seed)
+    })
+}
 
 /// A database file with its log, before it is opened.
 pub trait Database: Drop {
@@ -51,7 +84,11 @@ impl<S: Start> Database for AtPath<S> {
     ghost is_honest = { λ _. ⊤ };
 
     fn open(self, rt: &HostRuntime, path: &str) -> Option<Connection<Self::Store>> {
-        match Connection::open_from(rt, path, false, self.start) {
+        let Ok(files) = sqlite_std_file::open(rt, path, self.start) else {
+            return None;
+        };
+        let options = options_for(rt, path)?;
+        match Connection::open_files(rt.alloc(), files, options) {
             Ok(conn) => Some(conn),
             Err(_) => None,
         }

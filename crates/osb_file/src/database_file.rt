@@ -6,25 +6,30 @@ ghost use Rattle.osb_file.specs.declared.fault.FileFault.TheVariants.{NotOurs, M
 use crate::beside::{drop_second_name, is_blank, is_log_without_file, log_path};
 use crate::fault::FileFault;
 use crate::first_page::make_new;
-use std::fs;
+use std::fs::{self, Metadata};
 use std::os::unix::fs::MetadataExt;
 
 /// What tells a file from all others, whatever its name: its device and its number there.
 #[derive(Clone, Copy, Debug, PartialEq, Eq)]
-struct Node {
+pub(crate) struct Node {
     device: u64,
     number: u64,
 }
 
-/// The file that is at a path; nothing where none is, or where it can't be looked at.
-fn node_at(rt: &HostRuntime, path: &str) -> Option<Node> {
-    let Ok(found) = fs::metadata(rt, path) else {
-        return None;
-    };
-    Some(Node {
+/// Which file was found.
+pub(crate) fn node_of(found: &Metadata) -> Node {
+    Node {
         device: found.dev(),
         number: found.ino(),
-    })
+    }
+}
+
+/// The file that is at a path; nothing where none is, or where it can't be looked at.
+fn node_at(rt: &HostRuntime, path: &str) -> Option<Node> {
+    match fs::metadata(rt, path) {
+        Ok(found) => Some(node_of(&found)),
+        Err(_) => None,
+    }
 }
 
 /// Whether SQLite has another meaning for the path than a file's: a database in memory, or a URI.

@@ -3,16 +3,13 @@
 ghost use Rattle.osb_file.specs.File.{HoldsNoTables};
 
 use crate::beside::draft_path;
-use std::fs::{self, OpenOptions};
-use std::io::{Error, Write};
-use std::os::unix::fs::OpenOptionsExt;
-
-/// The permission bits of a file that is made: its owner reads and writes it.
-const OWNER_ALONE: u32 = 0o600;
+use crate::placing::{fill, make};
+use std::fs;
+use std::io::Error;
 
 /// The bytes of a page. SQLite keeps the size that a file has, and each page that a change touches is
 /// written whole.
-const PAGE_SIZE: usize = 1024;
+pub(crate) const PAGE_SIZE: usize = 1024;
 
 /// What an empty database begins with: its header of 100 bytes, which has the size of the pages, and
 /// the header of a table without rows. Zeros follow (SQLite's file format, 1.3 and 1.6).
@@ -35,13 +32,7 @@ fn first_page() -> [u8; PAGE_SIZE]
 
 /// Writes the page into a new file that only its owner may read, and waits until it is on the disk.
 fn write_page(rt: &HostRuntime, path: &str) -> Result<(), Error> {
-    let mut file = OpenOptions::new()
-        .write(true)
-        .create_new(true)
-        .mode(OWNER_ALONE)
-        .open(rt, path)?;
-    file.write_all(&first_page())?;
-    file.sync_all()
+    fill(make(rt, path)?, &first_page())
 }
 
 /// Puts a new file with that page at the path, where none is there: it has all of the page or isn't
@@ -70,9 +61,5 @@ pub(crate) fn make_new(rt: &HostRuntime, path: &str) {
     }
     let _ = make_small(rt, path);
     // Where it can't be made, the opening reports it.
-    let _ = OpenOptions::new()
-        .write(true)
-        .create_new(true)
-        .mode(OWNER_ALONE)
-        .open(rt, path);
+    let _ = make(rt, path);
 }

@@ -11,7 +11,7 @@ ghost use Rattle.osb_audit.specs.Counts.{AreCounts};
 ghost use Rattle.osb_statements.specs.declared.fault.StoreFault.TheVariants as faults;
 ghost use Rattle.osb_records.specs.Opened.{AreLivesOfDatabase};
 ghost use Rattle.osb_statements.specs.Steps.{stored};
-ghost use Rattle.osb_file.specs.declared.unseen.Unseen.TheVariants.{NotOurs};
+ghost use Rattle.osb_file.specs.declared.unseen.Unseen.TheVariants.{NotOurs, NoTables};
 ghost use Rattle.osb_file.specs.File.{AreLivesOf, HasTrees};
 ghost use Rattle.osb_tables.specs.Tables.{no_schema};
 ghost use Rattle.osb_file.specs.declared.seen.Seen.TheVariants.{New};
@@ -29,8 +29,9 @@ use std::alloc::Global;
 use std::io;
 
 /// What an opening has met.
-fn unopened(error: Error) -> Unseen
-    ensures { result ≢ NotOurs }
+pub(crate) fn unopened(error: Error) -> Unseen
+    ensures other { result ≢ NotOurs }
+    ensures some { result ≢ NoTables }
 {
     match error {
         Error::SqliteFailure(ErrorCode::OutOfMemory) => Unseen::Memory,
@@ -41,7 +42,8 @@ fn unopened(error: Error) -> Unseen
 
 /// What taking a database over has met.
 fn unadopted(fault: StoreFault) -> Unseen
-    ensures { result ≡ NotOurs → fault ≡ faults.NotOurs }
+    ensures ours { result ≡ NotOurs → fault ≡ faults.NotOurs }
+    ensures some { result ≢ NoTables }
 {
     match fault {
         StoreFault::NotOurs => Unseen::NotOurs,
@@ -55,6 +57,7 @@ fn counts_of<S: Alter + Drop>(alloc: Global, mut records: Records<S>) -> Result<
     ensures ok { IfOk result (λ counts. IsTrue (state S.Store records).is_open ×
         AreCounts (stored (state S.Store records)) counts) }
     ensures not_ours { result ≢ Err NotOurs }
+    ensures some { result ≢ Err NoTables }
 {
     match records.counts(alloc) {
         Ok(counts) => Ok(counts),
@@ -63,12 +66,16 @@ fn counts_of<S: Alter + Drop>(alloc: Global, mut records: Records<S>) -> Result<
 }
 
 /// Takes a database over and counts what it has.
-fn count_in<S: Alter + Drop>(alloc: Global, conn: Connection<S>) -> Result<Counts, Unseen>
+pub(crate) fn count_in<S: Alter + Drop>(
+    alloc: Global,
+    conn: Connection<S>,
+) -> Result<Counts, Unseen>
     requires clean { (held : Held S) → HasCleanDisk (state S.Store held) }
     ensures counted { IfOk result (λ counts. (lives : Lives) ×
         AreLivesOfDatabase (state S.Store conn).now lives × AreCounts lives counts) }
     ensures not_ours { result ≡ Err NotOurs → (lives : Lives) →
         ¬ AreLivesOfDatabase (state S.Store conn).now lives }
+    ensures some { result ≢ Err NoTables }
 {
     match Records::adopt(alloc, conn) {
         Ok(records) => counts_of(alloc, records),

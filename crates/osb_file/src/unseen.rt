@@ -31,6 +31,8 @@ pub enum Unseen {
     Memory,
     /// It is a database, and not one of this broker.
     NotOurs,
+    /// No database is there yet, and only one that is there would do.
+    NoTables,
 }
 
 impl Unseen {
@@ -40,6 +42,7 @@ impl Unseen {
     {
         match self {
             Unseen::NotOurs => FileFault::NotOurs,
+            Unseen::NoTables => FileFault::Missing,
             _ => FileFault::Refused,
         }
     }
@@ -63,6 +66,7 @@ impl Unseen {
             Unseen::Row => "a row that can't be read",
             Unseen::Memory => "out of memory",
             Unseen::NotOurs => "a database of another program",
+            Unseen::NoTables => "no tables yet",
         }
     }
 }

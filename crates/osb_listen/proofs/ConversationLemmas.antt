@@ -1,7 +1,7 @@
 -- Conversations, one after the other.
 use Rattle.std.proofs.Common.{◌≡◌, ◌∙◌, ℕ, zero, suc, ◌+◌, ◌<◌, Bool, true≢false, List, [], ◌∷◌, ◌++◌, length, Some, None, Result, Ok, Err, OnOk, OnErr, IfErr, IsErr, inl, inr, refl, sym, subst, ap, arith, append_assoc, append-nil, length-append}
 use Rattle.std.proofs.lemmas.List.{map-append}
-use Rattle.sqlite.specs.State.{State}
+use Rattle.sqlite.specs.State.{State, HasCleanDisk}
 use Rattle.osb_frames.specs.declared.limits.Limits.{Limits}
 use Rattle.osb_frames.specs.declared.limits.TheConstants.{MOST_HEAD, MOST_FIELDS, MOST_BODY}
 use Rattle.osb_frames.specs.Calls.{Call, failure_count}
@@ -12,19 +12,19 @@ use Rattle.osb_records.specs.CrashLeaves.{KeepsLives}
 use Rattle.osb_statements.specs.Steps.{stored}
 use Rattle.osb_broker.specs.declared.fault.ServeFault.{ServeFault}
 use Rattle.osb_broker.specs.declared.fault.ServeFault.TheVariants.{Read, Write}
-use Rattle.osb_broker.specs.BrokerState.{Works}
+use Rattle.osb_broker.specs.BrokerState.{LivesGo, Works}
 use Rattle.osb_broker.specs.Conversations.{Conversation, IsConversation, AreConversations}
-use Rattle.osb_broker.specs.Crashes.{EndsAsOrLost}
+use Rattle.osb_broker.specs.Crashes.{EndsAsOrLost, LeavesLives}
 use Rattle.osb_broker.specs.Inside.{Worked}
-use Rattle.osb_broker.specs.Serving.{EachGaveBytes, ReadsOf, EachWasNeeded, WritesOf}
+use Rattle.osb_broker.specs.Serving.{EachGaveBytes, EndsAs, ReadsOf, EachWasNeeded, WritesOf}
 use Rattle.osb_broker.specs.Served.{AreStandard}
 use Rattle.osb_broker.specs.Steps.{machine}
-use Rattle.osb_broker.proofs.CrashLemmas.{leaves_next, leaves_stored}
+use Rattle.osb_broker.proofs.CrashLemmas.{leaves_next, leaves_stored, leaves_weaker}
 use Rattle.osb_broker.proofs.ShutLemmas.{go_through, lives_stay}
 use Rattle.osb_listen.specs.declared.fault.ListenFault.{ListenFault}
 use Rattle.osb_listen.specs.declared.fault.ListenFault.TheVariants.{Database, PlanInUse, Memory, CannotListen, CannotWrite, CannotAccept, FileTaken}
 use Rattle.osb_listen.specs.Conversations.{AreAsMany, conversation_of, ended_by, lines_of, LeadTo, Serves}
-use Rattle.osb_listen.specs.Lines.{Says}
+use Rattle.osb_listen.specs.Lines.{line_of, Says}
 use Rattle.osb_listen.specs.Listen.{IsOfServing}
 use Rattle.osb_listen.proofs.PartLemmas.{says_more, says_none}
 
@@ -47,7 +47,7 @@ one_failed (Some [] ∷ before) each = absurd (true≢false each.0)
 one_failed (None ∷ before) each = absurd (true≢false each.0)
 
 -- how serving ended is seen by what failed
-ended_so : (ended : Result (Unit {0}) ServeFault) (calls : List Call) (failed : ℕ) → ReadsOf ended calls → WritesOf ended 0 failed → ended_by failed (failure_count calls) ≡ ended
+pub ended_so : (ended : Result (Unit {0}) ServeFault) (calls : List Call) (failed : ℕ) → ReadsOf ended calls → WritesOf ended 0 failed → ended_by failed (failure_count calls) ≡ ended
 ended_so (Ok x) calls zero (inl each) none = rw (none_failed calls each) refl
 ended_so (Ok x) calls zero (inr ends) none = rw (ap failure_count ends.is ∙ none_failed_yet ends.before ends.gave_bytes) refl
 ended_so (Ok x) calls (suc n) reads none = absurd (omega (arith, none))
@@ -108,19 +108,40 @@ module _ (rules : Rules) (limits : Limits) (k : ℕ) where
     pub none_served : (Works old → IsLives (stored old)) → (Works old → KeepsLives old (stored old)) → ServesSome 0 old journal_old said_old failed_old
     none_served whole kept = ([], refl, record { journal = sym (append-nil journal_old); lead = none_lead old whole kept; lines = says_none said_old failed_old })
 
-    pub one_served : (mid new : State) (journal_mid journal_new : List Conversation) (said_mid said_new : List ℕ) (failed_mid failed_new count : ℕ) → Worked old mid → Worked mid new
-        → ServesSome count mid journal_mid said_mid failed_mid → ((one : Conversation) × Serves rules limits k (one ∷ []) mid new journal_mid journal_new said_mid said_new failed_mid failed_new)
-        → ServesSome (count + 1) new journal_new said_new failed_new
-    one_served mid new journal_mid journal_new said_mid said_new failed_mid failed_new count before next (said, counted, so_far) (one, more) = (
-      said ++ one ∷ [],
-      grind (arith, length-append said (one ∷ []), counted),
+    pub some_more : (mid new : State) (journal_mid journal_new : List Conversation) (said_mid said_new : List ℕ) (failed_mid failed_new count more : ℕ) → Worked old mid → Worked mid new
+        → ServesSome count mid journal_mid said_mid failed_mid → ((later : List Conversation) × (length later ≡ more) × Serves rules limits k later mid new journal_mid journal_new said_mid said_new failed_mid failed_new)
+        → ServesSome (count + more) new journal_new said_new failed_new
+    some_more mid new journal_mid journal_new said_mid said_new failed_mid failed_new count more before next (said, counted, so_far) (later, are, serves) = (
+      said ++ later,
+      grind (arith, length-append said later, counted, are),
       record {
-        journal = more.journal ∙ ap (λ (j : List Conversation). j ++ one ∷ []) so_far.journal ∙ append_assoc journal_old said (one ∷ []);
-        lead = lead_on old mid new said (one ∷ []) before next so_far.lead more.lead;
-        lines = subst (λ (lines : List (List ℕ)). Says lines said_old said_new failed_old failed_new) (sym (map-append _ said (one ∷ [])))
-            (says_more (lines_of said) (lines_of (one ∷ [])) said_old said_mid said_new failed_old failed_mid failed_new so_far.lines more.lines);
+        journal = serves.journal ∙ ap (λ (j : List Conversation). j ++ later) so_far.journal ∙ append_assoc journal_old said later;
+        lead = lead_on old mid new said later before next so_far.lead serves.lead;
+        lines = subst (λ (lines : List (List ℕ)). Says lines said_old said_new failed_old failed_new) (sym (map-append _ said later))
+            (says_more (lines_of said) (lines_of later) said_old said_mid said_new failed_old failed_mid failed_new so_far.lines serves.lines);
       },
     )
+
+  -- a client of whom nothing was read before was served
+  pub client_served : (old new : State) (journal_old journal_new : List Conversation) (said_old said_new : List ℕ) (failed_old failed_new : ℕ) (calls made : List Call) (sent_old sent : List ℕ) (writes_old writes : ℕ) (met told : Bool) (ended : Result (Unit {0}) ServeFault)
+      → ReadsOf ended made → EachWasNeeded limits k (limits.head + limits.body) made → WritesOf ended writes_old writes → calls ≡ made → sent_old ≡ [] → writes_old ≡ 0 → told ≡ met
+      → ((before after : Lives) → LivesGo old new before after → EndsAs ended (machine rules) limits k before made met sent_old sent after)
+      → (Works old → HasCleanDisk new → LeavesLives new (λ lives. EndsAsOrLost ended (machine rules) limits k (stored old) made met sent_old sent lives))
+      → journal_new ≡ journal_old ++ conversation_of calls sent writes told ∷ [] → Says (line_of ended ∷ []) said_old said_new failed_old failed_new
+      → (one : Conversation) × Serves rules limits k (one ∷ []) old new journal_old journal_new said_old said_new failed_old failed_new
+  client_served old new journal_old journal_new said_old said_new failed_old failed_new calls made sent_old sent writes_old writes met told ended reads needed wrote same none unfailed is_met ends leaves journal line = (
+    conversation_of calls sent writes told,
+    record {
+      journal = journal;
+      lead = record {
+        lives = λ before after go.
+            (after, is_conversation before after calls made sent_old sent writes_old writes met told ended reads needed wrote same none unfailed is_met (record { shown = after; ends = ends before after go; is = inl refl }), refl);
+        left = λ works clean. leaves_weaker
+            (λ t lost. (t, is_conversation (stored old) t calls made sent_old sent writes_old writes met told ended reads needed wrote same none unfailed is_met lost, refl)) (leaves works clean);
+      };
+      lines = subst (λ by. Says (line_of by ∷ []) said_old said_new failed_old failed_new) (ended_by_both ended calls made writes_old writes reads wrote same unfailed) line;
+    },
+  )
 
 -- the standard limits
 pub standard : (limits : Limits) × AreStandard limits

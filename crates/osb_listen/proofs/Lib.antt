@@ -1,4 +1,5 @@
 pub mod ConversationLemmas
 mod FaultLemmas
+mod GroupLemmas
 mod HeldLemmas
 pub mod PartLemmas

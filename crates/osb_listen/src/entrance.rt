@@ -1,6 +1,6 @@
 //! Where clients come from, and what was said with each.
 
-ghost use Rattle.std.specs.Prelude.{◌≡◌, ◌++◌, ℕ, List, [], ◌∷◌, IfOk, IfErr, OnOk, IsOkUnless};
+ghost use Rattle.std.specs.Prelude.{◌≡◌, ◌++◌, ℕ, List, [], ◌∷◌, IfOk, IfErr, IfSome, OnOk, IsOkUnless};
 ghost use Rattle.osb_broker.specs.Conversations.{Conversation};
 ghost use Rattle.osb_listen.specs.declared.fault.ListenFault.TheVariants.{CannotListen};
 ghost use Rattle.osb_listen.specs.Conversations.{conversation_of, MissesFile};
@@ -50,6 +50,15 @@ pub trait Entrance {
         ensures sent { IfOk result (λ client. Self.Out.taken client.1 ≡ []) }
         ensures failed { IfOk result (λ client. Self.Out.failed_or_empty client.1 ≡ 0) }
         ensures fault { IfErr result IsOfServing };
+
+    /// Takes another client that is ready, of whom nothing was read yet, where there is one now. It waits
+    /// for nobody.
+    fn take_ready(&mut self) -> Option<(Self::In, Self::Out)>
+        ensures journal { journal self.new ≡ journal self.old }
+        ensures missed { missed self.new ≡ missed self.old }
+        ensures calls { IfSome result (λ client. Self.In.calls client.0 ≡ []) }
+        ensures sent { IfSome result (λ client. Self.Out.taken client.1 ≡ []) }
+        ensures failed { IfSome result (λ client. Self.Out.failed_or_empty client.1 ≡ 0) };
 
     /// Lets a client go that was served. One that met a framing fault may be sending still.
     fn leave(&mut self, input: Self::In, output: Self::Out, met_fault: bool)

@@ -4,6 +4,7 @@
 mod accepting;
 mod asking;
 mod client;
+mod client_end;
 mod clients;
 mod deadline;
 mod door;
@@ -12,6 +13,7 @@ mod ends;
 mod entrance;
 mod fault;
 mod file;
+mod group;
 mod listen;
 mod many;
 mod one_by_one;

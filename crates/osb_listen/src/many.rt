@@ -77,6 +77,11 @@ impl<'a> ManyClients<'a> {
         None
     }
 
+    /// Another client that can be served now.
+    pub(crate) fn next_ready(&mut self) -> Option<(Received, Reply)> {
+        self.clients.next_ready()
+    }
+
     /// Has a client that was served take its reply. Nobody waits for that.
     pub(crate) fn let_go(&mut self, reply: Reply, met_fault: bool) {
         self.clients.send(reply, met_fault);

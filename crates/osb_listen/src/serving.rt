@@ -1,51 +1,70 @@
-//! Clients of an entrance, served one after the other.
+//! Clients of an entrance that are served, one or several at a time.
 
-ghost use Rattle.std.specs.Prelude.{◌≡◌, ◌<◌, List, [], ◌∷◌, length, IfErr, OnOk, OnErr, IsTrue};
+ghost use Rattle.std.specs.Prelude.{◌≡◌, ◌<◌, ◌≤◌, List, [], ◌∷◌, length, IfOk, IfErr, OnOk, OnErr, IsTrue};
 ghost use Rattle.sqlite.specs.State.{HasCleanDisk, Survives};
 ghost use Rattle.osb_broker.specs.BrokerState.{Works, most_of, rules_in, store_of};
 ghost use Rattle.osb_broker.specs.Conversations.{Conversation};
 ghost use Rattle.osb_broker.specs.Inside.{Worked};
 ghost use Rattle.osb_broker.specs.Room.{limits_of};
 ghost use Rattle.osb_listen.specs.Conversations.{MissesFile, Serves};
-ghost use Rattle.osb_listen.specs.Lines.{line_of, Says};
 ghost use Rattle.osb_listen.specs.Listen.{IsOfServing};
 
+use crate::client_end::report_end;
 use crate::entrance::Entrance;
 use crate::fault::ListenFault;
-use osb_broker::{Broker, Buffer, ServeFault};
+use crate::group::serve_group;
+use osb_broker::{Broker, Buffer};
 use osb_file::WatchedFile;
-use osb_frames::{Sink, send_all};
+use osb_frames::Sink;
 use sqlite::Alter;
+use std::alloc::Global;
 
-/// The line that reports how serving a connection ended.
-fn line_for(ended: Result<(), ServeFault>) -> &'static [u8]
-    ensures { result.now ≡ line_of ended }
-{
-    match ended {
-        Ok(()) => b"",
-        Err(ServeFault::Read) => b"connection: read\n",
-        Err(ServeFault::Write) => b"connection: write\n",
-    }
-}
+/// How many clients are taken at a time, at most.
+const MOST: u32 = 64;
 
-/// Reports how serving a connection ended. Standard error that can't be written is passed over.
-fn report_end<E: Sink>(ended: Result<(), ServeFault>, errors: &mut E)
-    ensures { Says (line_of ended ∷ []) (E.taken errors.old) (E.taken errors.new)
+/// Serves a client of whom nothing was read yet, and lets it go.
+pub(crate) fn serve_client<S: Alter, L: Entrance, E: Sink>(
+    broker: &mut Broker<'_, S>,
+    buffer: &mut Buffer,
+    entrance: &mut L,
+    client: (L::In, L::Out),
+    errors: &mut E,
+)
+    requires unread { L.In.calls client.0 ≡ [] }
+    requires unsent { L.Out.taken client.1 ≡ [] }
+    requires unfailed { L.Out.failed_or_empty client.1 ≡ 0 }
+    ensures served { (one : Conversation) × Serves
+        (rules_in broker.old) (limits_of buffer.old) (most_of broker.old) (one ∷ [])
+        (store_of S.Store broker.old) (store_of S.Store broker.new)
+        (L.journal entrance.old) (L.journal entrance.new) (E.taken errors.old) (E.taken errors.new)
         (E.failed_or_empty errors.old) (E.failed_or_empty errors.new) }
+    ensures missed { L.missed entrance.new ≡ L.missed entrance.old }
+    ensures worked { Worked (store_of S.Store broker.old) (store_of S.Store broker.new) }
+    ensures most { most_of broker.new ≡ most_of broker.old }
+    ensures rules { rules_in broker.new ≡ rules_in broker.old }
+    ensures limits { limits_of buffer.new ≡ limits_of buffer.old }
 {
-    let _ = send_all(errors, line_for(ended));
+    let (mut input, mut output) = client;
+    let ended = broker.serve(buffer, &mut input, &mut output);
+    report_end(ended, errors);
+    entrance.leave(input, output, buffer.met_fault());
 }
 
-/// Takes the next client, serves it and lets it go.
+/// Takes a client, with those who are ready then, up to so many, serves them and lets them go. How many they
+/// were.
 fn serve_next<S: Alter, L: Entrance, E: Sink>(
+    alloc: Global,
     broker: &mut Broker<'_, S>,
     buffer: &mut Buffer,
     entrance: &mut L,
     file: &WatchedFile<'_>,
+    most: u32,
     errors: &mut E,
-) -> Result<(), ListenFault>
-    ensures served { OnOk result ((one : Conversation) × Serves
-        (rules_in broker.old) (limits_of buffer.old) (most_of broker.old) (one ∷ [])
+) -> Result<u32, ListenFault>
+    requires { 0 < most }
+    ensures served { IfOk result (λ count. (0 < count) × (count ≤ most)
+        × (conversations : List Conversation) × (length conversations ≡ count) × Serves
+        (rules_in broker.old) (limits_of buffer.old) (most_of broker.old) conversations
         (store_of S.Store broker.old) (store_of S.Store broker.new)
         (L.journal entrance.old) (L.journal entrance.new) (E.taken errors.old) (E.taken errors.new)
         (E.failed_or_empty errors.old) (E.failed_or_empty errors.new)) }
@@ -59,19 +78,31 @@ fn serve_next<S: Alter, L: Entrance, E: Sink>(
     ensures rules { rules_in broker.new ≡ rules_in broker.old }
     ensures limits { limits_of buffer.new ≡ limits_of buffer.old }
 {
-    let (mut input, mut output) = entrance.take(file)?;
-    let ended = broker.serve(buffer, &mut input, &mut output);
-    report_end(ended, errors);
-    entrance.leave(input, output, buffer.met_fault());
-    Ok(())
+    let first = entrance.take(file)?;
+    if most == 1 {
+        serve_client(broker, buffer, entrance, first, errors);
+        return Ok(1);
+    }
+    match entrance.take_ready() {
+        Some(second) => Ok(serve_group(
+            alloc, broker, buffer, entrance, first, second, most, errors,
+        )),
+        None => {
+            serve_client(broker, buffer, entrance, first, errors);
+            Ok(1)
+        }
+    }
 }
 
-/// Serves so many clients of an entrance, one after the other. A read or a write of a client that fails
-/// is a line on `errors`, `connection: read` or `connection: write`. The next client is served as ever.
+/// Serves so many clients of an entrance. Where a connection has one request, those who are ready at the same
+/// time are answered together, with one transaction for the changes of several. A read or a write of a
+/// client that fails is a line on `errors`, `connection: read` or `connection: write`. The next client is
+/// served as ever.
 ///
 /// It ends before that with `CannotAccept` where the entrance can take no client, and with `FileTaken`
 /// where the database file or its log isn't there any more as one is taken, which then isn't answered.
 pub fn serve_listener<S: Alter, L: Entrance, E: Sink>(
+    alloc: Global,
     broker: &mut Broker<'_, S>,
     buffer: &mut Buffer,
     entrance: &mut L,
@@ -98,8 +129,11 @@ pub fn serve_listener<S: Alter, L: Entrance, E: Sink>(
     ensures limits { limits_of buffer.new ≡ limits_of buffer.old }
 {
     broker.lives_are_whole();
-    for _ in 0..connections {
-        serve_next(broker, buffer, entrance, file, errors)?;
+    let mut left = connections;
+    while left > 0 {
+        let most = left.min(MOST);
+        let count = serve_next(alloc, broker, buffer, entrance, file, most, errors)?;
+        left -= count;
     }
     Ok(())
 }

@@ -60,6 +60,15 @@ impl<'a> Way<'a> {
         }
     }
 
+    /// Another client that is ready now. Of those who are taken one after the other none is.
+    fn next_ready(&mut self) -> Option<(Incoming<'a>, Outgoing<'a>)> {
+        let Way::Together(many) = self else {
+            return None;
+        };
+        let (received, reply) = many.next_ready()?;
+        Some((Incoming::Received(received), Outgoing::Reply(reply)))
+    }
+
     /// Lets the client go that was served.
     fn let_go(&mut self, output: Outgoing<'a>, met_fault: bool) {
         match (self, output) {
@@ -177,6 +186,11 @@ impl<'a> Entrance for TcpEntrance<'a> {
             return Err(ListenFault::FileTaken);
         }
         Ok((Counted::new(input), Counted::new(output)))
+    }
+
+    fn take_ready(&mut self) -> Option<(Self::In, Self::Out)> {
+        let (input, output) = self.way.next_ready()?;
+        Some((Counted::new(input), Counted::new(output)))
     }
 
     fn leave(&mut self, input: Self::In, output: Self::Out, met_fault: bool) {

@@ -2,7 +2,9 @@
 
 use crate::adopting::{WHOLE, count_orders, run};
 use osb_audit::Counts;
-use osb_file::{AtPath, Copied, DatabaseFile, FileFault, Origin, Seen, Unseen, open_file};
+use osb_file::{
+    AtPath, Copied, DatabaseFile, FileFault, OneFile, Origin, Seen, Unseen, Unwritten, open_file,
+};
 use osb_records::{Records, StoreFault};
 use sqlite::{Alter, Start, Unknown};
 use std::alloc::Global;
@@ -167,6 +169,38 @@ fn a_file_is_looked_at(rt: HostRuntime) -> Result<(), Fail> {
         running: 0,
     };
     assert!(rt; looked_at(&rt, path.as_str()) == Ok(Seen::Counted(one)));
+    Ok(())
+}
+
+/// The database of a file in one file.
+fn one_file_of(rt: &HostRuntime, path: &str) -> Result<OneFile, Unseen> {
+    OneFile::of(rt.alloc(), Copied::read(rt, path)?)
+}
+
+/// Whether the file was made that has so much of everything, and can't be made again.
+fn is_made(rt: &HostRuntime, one: &OneFile, path: &str, counts: Counts) -> bool {
+    one.counts() == counts
+        && one.write(rt, path) == Ok(())
+        && one.write(rt, path) == Err(Unwritten::Exists)
+}
+
+#[test]
+fn a_file_is_backed_up(rt: HostRuntime) -> Result<(), Fail> {
+    let path = unused(&rt, "osb_file_backed_up.db")?;
+    let to = unused(&rt, "osb_file_backup.db")?;
+    fs::write(&rt, path.as_str(), "")?;
+    assert!(rt; one_file_of(&rt, path.as_str()).err() == Some(Unseen::NoTables));
+    assert!(rt; open_and_run(&rt, path.as_str(), &WHOLE)? == 0);
+    let one = Counts {
+        instances: 1,
+        bindings: 0,
+        running: 0,
+    };
+    let made = one_file_of(&rt, path.as_str())?;
+    assert!(rt; is_made(&rt, &made, to.as_str(), one));
+    drop(made);
+    assert!(rt; looked_at(&rt, to.as_str()) == Ok(Seen::Counted(one)));
+    assert!(rt; open_and_run(&rt, to.as_str(), &[])? == 1);
     Ok(())
 }
 

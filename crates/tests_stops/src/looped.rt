@@ -72,16 +72,10 @@ fn ended_over<D: Crash + Drop>(
     Ok((ended, errors.into_inner()))
 }
 
-/// Serves so many of these clients over a new database, whose file is there or not.
-fn served(
-    rt: &HostRuntime,
-    clients: &[Client<'_>],
-    connections: u32,
-    has_file: bool,
-) -> Result<Outcome, Fail> {
+/// Serves so many of the clients of a queue over a new database.
+fn served(rt: &HostRuntime, mut queue: Queue<'_>, connections: u32) -> Result<Outcome, Fail> {
     let settings = built_in(rt.alloc())?;
     let files = empty_files(rt.alloc());
-    let mut queue = Queue::of(rt.alloc(), clients, has_file);
     let (ended, errors) = ended_over(rt, &settings, files, &mut queue, connections)?;
     Ok(Outcome {
         sent: queue.into_sent()?,
@@ -127,7 +121,7 @@ fn each_client_is_sent_its_own_reply(rt: HostRuntime) -> Result<(), Fail> {
         client(b.as_slice(), usize::MAX),
         client(a.as_slice(), 7),
     ];
-    let served = served(&rt, &clients, 3, true)?;
+    let served = served(&rt, Queue::of(rt.alloc(), &clients, true, false), 3)?;
     let statuses = ["201 Created", "201 Created", "200 OK"];
     were_sent(rt.alloc(), served.sent.as_slice(), &statuses)?;
     assert!(rt; served.ended == Ok(()));
@@ -136,8 +130,8 @@ fn each_client_is_sent_its_own_reply(rt: HostRuntime) -> Result<(), Fail> {
 }
 
 /// A client whose read fails in the midst of a request for that instance; one that takes 20 bytes of the reply to it;
-/// and one that does nothing wrong, for another instance.
-fn with_two_faults(rt: &HostRuntime) -> Result<Outcome, Fail> {
+/// and one that does nothing wrong, for another instance. They are ready at the same time, or come one after the other.
+fn with_two_faults(rt: &HostRuntime, together: bool) -> Result<Outcome, Fail> {
     let (a, b) = (put(rt.alloc(), "a")?, put(rt.alloc(), "b")?);
     let half = a.len() / 2;
     let resets = Client {
@@ -148,27 +142,64 @@ fn with_two_faults(rt: &HostRuntime) -> Result<Outcome, Fail> {
         room: 20,
         ..client(a.as_slice(), 9)
     };
-    served(rt, &[resets, deaf, client(b.as_slice(), 9)], 3, true)
+    let clients = [resets, deaf, client(b.as_slice(), 9)];
+    served(rt, Queue::of(rt.alloc(), &clients, true, together), 3)
+}
+
+/// Fails where one of these three fares otherwise than by its own fault.
+fn fare_apart(rt: &HostRuntime, together: bool) -> Result<(), Fail> {
+    let served = with_two_faults(rt, together)?;
+    let [silent, cut, whole] = served.sent.as_slice() else {
+        return Err("another number of clients")?;
+    };
+    if !silent.is_empty()
+        || !was_sent(rt.alloc(), cut.as_slice(), "201 Created", 20)?
+        || !was_sent(rt.alloc(), whole.as_slice(), "201 Created", usize::MAX)?
+    {
+        return Err("another reply")?;
+    }
+    let lines = b"database: new\nconnection: read\nconnection: write\n";
+    if served.ended != Ok(()) || served.errors.as_slice() != lines.as_slice() {
+        return Err("another end")?;
+    }
+    Ok(())
 }
 
 #[test]
 fn a_fault_of_a_client_is_none_of_the_next(rt: HostRuntime) -> Result<(), Fail> {
-    let served = with_two_faults(&rt)?;
+    fare_apart(&rt, false)
+}
+
+#[test]
+fn a_fault_of_a_client_is_none_of_those_beside_it(rt: HostRuntime) -> Result<(), Fail> {
+    fare_apart(&rt, true)
+}
+
+#[test]
+fn those_who_are_ready_together_are_sent_their_own_replies(rt: HostRuntime) -> Result<(), Fail> {
+    let (a, b) = (put(rt.alloc(), "a")?, put(rt.alloc(), "b")?);
+    let clients = [
+        client(a.as_slice(), usize::MAX),
+        client(b.as_slice(), usize::MAX),
+        client(a.as_slice(), usize::MAX),
+        client(b"", 1),
+    ];
+    let queue = Queue::of(rt.alloc(), &clients, true, true);
+    let served = served(&rt, queue, 4)?;
     let sent = served.sent.as_slice();
-    assert!(rt; sent.len() == 3);
+    assert!(rt; sent.len() == 4);
     assert!(rt; sent[0].is_empty());
-    assert!(rt; was_sent(rt.alloc(), sent[1].as_slice(), "201 Created", 20)?);
-    assert!(rt; was_sent(rt.alloc(), sent[2].as_slice(), "201 Created", usize::MAX)?);
+    let statuses = ["201 Created", "201 Created", "200 OK"];
+    were_sent(rt.alloc(), &sent[1..], &statuses)?;
     assert!(rt; served.ended == Ok(()));
-    let lines = b"database: new\nconnection: read\nconnection: write\n";
-    assert!(rt; served.errors.as_slice() == lines.as_slice());
     Ok(())
 }
 
 #[test]
 fn fewer_clients_than_asked_for_are_a_fault(rt: HostRuntime) -> Result<(), Fail> {
     let a = put(rt.alloc(), "a")?;
-    let served = served(&rt, &[client(a.as_slice(), 9)], 2, true)?;
+    let clients = [client(a.as_slice(), 9)];
+    let served = served(&rt, Queue::of(rt.alloc(), &clients, true, false), 2)?;
     assert!(rt; served.ended == Err(ListenFault::CannotAccept));
     assert_eq!(rt; served.sent.len(), 1);
     Ok(())
@@ -177,7 +208,8 @@ fn fewer_clients_than_asked_for_are_a_fault(rt: HostRuntime) -> Result<(), Fail>
 #[test]
 fn nobody_is_served_without_the_file(rt: HostRuntime) -> Result<(), Fail> {
     let a = put(rt.alloc(), "a")?;
-    let served = served(&rt, &[client(a.as_slice(), 9)], 1, false)?;
+    let clients = [client(a.as_slice(), 9)];
+    let served = served(&rt, Queue::of(rt.alloc(), &clients, false, false), 1)?;
     assert!(rt; served.ended == Err(ListenFault::FileTaken));
     assert!(rt; served.sent.is_empty());
     Ok(())

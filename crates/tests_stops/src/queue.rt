@@ -82,12 +82,19 @@ pub(crate) struct Queue<'a> {
     lost: bool,
     /// Whether the database file is there.
     has_file: bool,
+    /// Whether all of them are ready at the same time.
+    together: bool,
     served: Log<Counted<Sending<'a>>, (Counted<Taking>, bool)>,
     misses: Log<(), ()>,
 }
 
 impl<'a> Queue<'a> {
-    pub(crate) fn of(alloc: Global, clients: &'a [Client<'a>], has_file: bool) -> Queue<'a> {
+    pub(crate) fn of(
+        alloc: Global,
+        clients: &'a [Client<'a>],
+        has_file: bool,
+        together: bool,
+    ) -> Queue<'a> {
         Queue {
             alloc,
             clients,
@@ -95,9 +102,21 @@ impl<'a> Queue<'a> {
             sent: Vec::new(alloc),
             lost: false,
             has_file,
+            together,
             served: Log::new(),
             misses: Log::new(),
         }
+    }
+
+    /// What the next client sends, and what it takes.
+    fn next_client(&mut self) -> Option<(Sending<'a>, Taking)> {
+        let client = self.clients.get(self.next).copied()?;
+        self.next = self.next.saturating_add(1);
+        let taking = Taking {
+            taken: Vec::new(self.alloc),
+            room: client.room,
+        };
+        Some((Sending { client }, taking))
     }
 
     /// What was sent to those who were let go. Fails where memory was refused for one of these.
@@ -133,19 +152,22 @@ impl<'a> Entrance for Queue<'a> {
     }
 
     fn take(&mut self, _file: &WatchedFile<'_>) -> Result<(Self::In, Self::Out), ListenFault> {
-        let Some(client) = self.clients.get(self.next).copied() else {
+        let Some((sending, taking)) = self.next_client() else {
             return Err(ListenFault::CannotAccept);
         };
-        self.next = self.next.saturating_add(1);
         if !self.has_file {
             self.misses = self.misses.and(&(), &());
             return Err(ListenFault::FileTaken);
         }
-        let taking = Taking {
-            taken: Vec::new(self.alloc),
-            room: client.room,
-        };
-        Ok((Counted::new(Sending { client }), Counted::new(taking)))
+        Ok((Counted::new(sending), Counted::new(taking)))
+    }
+
+    fn take_ready(&mut self) -> Option<(Self::In, Self::Out)> {
+        if !self.together {
+            return None;
+        }
+        let (sending, taking) = self.next_client()?;
+        Some((Counted::new(sending), Counted::new(taking)))
     }
 
     fn leave(&mut self, input: Self::In, output: Self::Out, met_fault: bool) {

@@ -93,7 +93,7 @@ fn sent_in<D: Crash + Drop>(
     let Ok(files) = AtRest::new(files, OPTIONS) else {
         return Err("files that may not be used")?;
     };
-    let mut queue = Queue::of(rt.alloc(), clients, true);
+    let mut queue = Queue::of(rt.alloc(), clients, true, false);
     let left = serve_runs(
         rt,
         settings,

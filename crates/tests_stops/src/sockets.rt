@@ -37,7 +37,15 @@ fn looped_over<S: Alter>(
     let watched = file.watched(rt);
     let mut buffer = Buffer::new(rt.alloc(), &Limits::STANDARD)?;
     let mut errors = Counted::new(Vec::new(rt.alloc()));
-    let ended = serve_listener(broker, &mut buffer, entrance, &watched, 1, &mut errors);
+    let ended = serve_listener(
+        rt.alloc(),
+        broker,
+        &mut buffer,
+        entrance,
+        &watched,
+        1,
+        &mut errors,
+    );
     Ok((ended, errors.into_inner()))
 }
 
@@ -107,6 +115,7 @@ fn ended(
     let mut buffer = Buffer::new(rt.alloc(), &Limits::STANDARD)?;
     let mut errors = Counted::new(Vec::new(rt.alloc()));
     Ok(serve_listener(
+        rt.alloc(),
         &mut broker,
         &mut buffer,
         &mut entrance,

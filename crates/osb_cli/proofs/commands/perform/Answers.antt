@@ -1,27 +1,33 @@
 use Rattle.std.proofs.lemmas.Option.{IfSome_then}
 use Rattle.std.proofs.lemmas.Result.{IfErr-weaker, on_ok_weaker}
-use Rattle.osb_cli.specs.Inside.{AsksCheck, AsksReplay, AsksServe}
-use Rattle.osb_cli.proofs.DoneLemmas.{done_well, if_failed, is_checked, is_listened, is_replayed, not_both}
+use Rattle.osb_cli.specs.Inside.{AsksBackup, AsksCheck, AsksReplay, AsksServe}
+use Rattle.osb_cli.proofs.DoneLemmas.{backs_up_only, done_well, if_failed, is_backed_up, is_checked, is_listened, is_replayed, not_both}
 use Rattle.osb_cli.proofs.ReportedLemmas.{of_command, other_text, unserved_more}
 use Rattle.osb_cli.proofs.ServeLemmas.{in_vain, left_as}
 use Rattle.osb_cli.proofs.commands.perform.Goals as goal
+
+pub returns-in-Backup-clause-done : goal.returns-in-Backup-clause-done
+returns-in-Backup-clause-done g c taken =
+    let asks : AsksBackup _ c.in-Backup.asked = rw c.in-Backup.is at c.in-Ok.ensures.ok in
+    done_well c.backup.result c.without_file-in-Backup.result.0 _ c.without_file-in-Backup.ensures.well
+    (on_ok_weaker c.backup.result (λ made. is_backed_up _ _ _ _ _ _ c.in-Backup.asked asks made) c.backup.ensures.made)
 
 pub returns-in-Check-clause-done : goal.returns-in-Check-clause-done
 returns-in-Check-clause-done g c taken =
     let asks : AsksCheck _ c.in-Check.asked = rw c.in-Check.is at c.in-Ok.ensures.ok in
     done_well c.check.result c.without_file-in-Check.result.0 _ c.without_file-in-Check.ensures.well
-    (on_ok_weaker c.check.result (λ checked. is_checked _ _ _ _ _ c.in-Check.asked asks checked) c.check.ensures.checked)
+    (on_ok_weaker c.check.result (λ checked. is_checked _ _ _ _ _ _ c.in-Check.asked asks checked) c.check.ensures.checked)
 
 pub returns-in-Replay-clause-done : goal.returns-in-Replay-clause-done
 returns-in-Replay-clause-done g c taken =
     let asks : AsksReplay _ c.in-Replay.asked = rw c.in-Replay.is at c.in-Ok.ensures.ok in
     done_well c.replay.result c.without_file-in-Replay.result.0 _ c.without_file-in-Replay.ensures.well
-    (on_ok_weaker c.replay.result (λ replayed. is_replayed _ _ _ _ _ c.in-Replay.asked asks replayed) c.replay.ensures.replayed)
+    (on_ok_weaker c.replay.result (λ replayed. is_replayed _ _ _ _ _ _ c.in-Replay.asked asks replayed) c.replay.ensures.replayed)
 
 pub returns-in-Serve-clause-done : goal.returns-in-Serve-clause-done
 returns-in-Serve-clause-done g c taken =
     let asks : AsksServe _ c.in-Serve.asked = rw c.in-Serve.is at c.in-Ok.ensures.ok in
-    on_ok_weaker c.listen.result.0 (λ told. is_listened _ _ _ _ _ c.in-Serve.asked asks told) c.listen.ensures.told
+    on_ok_weaker c.listen.result.0 (λ told. is_listened _ _ _ _ _ _ c.in-Serve.asked asks told) c.listen.ensures.told
 
 pub returns-in-Err-clause-done : goal.returns-in-Err-clause-done
 returns-in-Err-clause-done g c taken =
@@ -48,6 +54,11 @@ returns-in-Serve-clause-serves g c =
     let asks : AsksServe _ c.in-Serve.asked = rw c.in-Serve.is at c.in-Ok.ensures.ok in
     if_failed c.listen.result.0 _ (λ fault plan. asks.named)
 
+pub returns-in-Backup-clause-opened : goal.returns-in-Backup-clause-opened
+returns-in-Backup-clause-opened g c taken serves =
+    let asks : AsksBackup _ c.in-Backup.asked = rw c.in-Backup.is at c.in-Ok.ensures.ok in
+    absurd (backs_up_only _ asks.named serves)
+
 pub returns-in-Check-clause-opened : goal.returns-in-Check-clause-opened
 returns-in-Check-clause-opened g c taken serves =
     let asks : AsksCheck _ c.in-Check.asked = rw c.in-Check.is at c.in-Ok.ensures.ok in
@@ -72,6 +83,12 @@ pub returns-in-Serve-clause-fault : goal.returns-in-Serve-clause-fault
 returns-in-Serve-clause-fault g c =
     let asks : AsksServe _ c.in-Serve.asked = rw c.in-Serve.is at c.in-Ok.ensures.ok in
     IfErr-weaker c.listen.result.0 _ _ (unserved_more _ _ (λ text are. record { serve = λ _. rw asks.settings at are; other = λ other. absurd (other asks.named) })) c.listen.ensures.fault
+
+pub returns-in-Backup-clause-fault : goal.returns-in-Backup-clause-fault
+returns-in-Backup-clause-fault g c =
+    of_command (λ text. ⊥) _ (λ text are. absurd are)
+    c.backup.result c.without_file-in-Backup.result.0 c.without_file-in-Backup.ensures.same
+    (IfErr-weaker c.backup.result _ _ (other_text (λ text. ⊥)) c.backup.ensures.other)
 
 pub returns-in-Check-clause-fault : goal.returns-in-Check-clause-fault
 returns-in-Check-clause-fault g c =

@@ -17,7 +17,7 @@ pub returns-clause-plain : goal.returns-clause-plain
 returns-clause-plain g c none zero =
     let taken : takes osb_broker (map string_bytes c.args.words.now) ≡ true = rw none nothing_taken in
     let found : subcommand_of osb_broker (map string_bytes c.args.words.now) ≡ None = rw none nothing_named in
-    is_plain _ _ _ _ _ found (well_if_0 c.perform-done.result.0 c.status_of.result _ c.status_of.ensures.fails zero (c.perform-done.ensures.done taken))
+    is_plain _ _ _ _ _ _ found (well_if_0 c.perform-done.result.0 c.status_of.result _ c.status_of.ensures.fails zero (c.perform-done.ensures.done taken))
 
 pub returns-clause-served : goal.returns-clause-served
 returns-clause-served g c =

@@ -10,6 +10,16 @@ returns-in_err-matches-clause-err c taken =
     let memory = c.in_err-matches.ensures.passes (ap (λ a. takes a (map string_bytes c.args.words.now)) c.in_ok-osb_broker.ensures.app ∙ taken) in
     search rules
 
+pub returns-in-Some-backup-default-clause-ok : goal.returns-in-Some-backup-default-clause-ok
+returns-in-Some-backup-default-clause-ok c =
+    let words = map string_bytes c.args.words.now in
+    let read = are_read _ words _ c.in_ok-osb_broker.ensures.app c.in_ok-matches.ensures.matches in
+    let some = c.in-Some-backup-default in
+    let rows = rows_of (found_of some.found.now) in
+    let is : some.field-0-0.now ≡ codes "backup" = search rules in
+    let found : subcommand_of osb_broker words ≡ Some (codes "backup", rows) = is_found words _ _ _ read some.ensures.name some.ensures.rows ∙ ap (λ name. Some (name, rows)) is in
+    subst (λ it. Asks it c.backup_order.result) (sym found) c.backup_order.ensures
+
 pub returns-in-Some-check-default-clause-ok : goal.returns-in-Some-check-default-clause-ok
 returns-in-Some-check-default-clause-ok c =
     let words = map string_bytes c.args.words.now in
@@ -35,13 +45,14 @@ returns-in-Some-clause-ok c =
     let words = map string_bytes c.args.words.now in
     let read = are_read _ words _ c.in_ok-osb_broker.ensures.app c.in_ok-matches.ensures.matches in
     let found = is_found words _ _ _ read c.in-Some.ensures.name c.in-Some.ensures.rows in
+    let no_backup : c.in-Some.field-0-0.now ≢ codes "backup" = search rules in
     let no_check : c.in-Some.field-0-0.now ≢ codes "check" = search rules in
     let no_serve : c.in-Some.field-0-0.now ≢ codes "serve" = search rules in
-    subst (λ it. Asks it c.in_ok-replay_order-in-Some.field-0) (sym found) (c.in_ok-replay_order-in-Some.ensures c.in-Some.field-0-0.now no_check no_serve)
+    subst (λ it. Asks it c.in_ok-replay_order-in-Some.field-0) (sym found) (c.in_ok-replay_order-in-Some.ensures c.in-Some.field-0-0.now no_backup no_check no_serve)
 
 pub returns-clause-ok : goal.returns-clause-ok
 returns-clause-ok c =
     let words = map string_bytes c.args.words.now in
     let read = are_read _ words _ c.in_ok-osb_broker.ensures.app c.in_ok-matches.ensures.matches in
     let none = none_found words _ read c.in-None.ensures.rows in
-    rw none (record { no_check = λ is. cc; no_serve = λ is. cc; settings = refl; connections = search rules; per_connection = refl })
+    rw none (record { no_backup = λ is. cc; no_check = λ is. cc; no_serve = λ is. cc; settings = refl; connections = search rules; per_connection = refl })

@@ -13,4 +13,4 @@ returns-in-Ok-clause-counted g c =
 pub returns-in-Err-clause-not_ours : goal.returns-in-Err-clause-not_ours
 returns-in-Err-clause-not_ours g c is =
     let ours : c.unadopted.result ≡ NotOurs = search rules in
-    c.in-Err.ensures.not_ours (c.requires.clean c.in-Err.left) (c.unadopted.ensures ours)
+    c.in-Err.ensures.not_ours (c.requires.clean c.in-Err.left) (c.unadopted.ensures.ours ours)

@@ -1,30 +1,34 @@
-use Rattle.std.proofs.Common.{◌∙◌, refl}
+use Rattle.std.proofs.Common.{◌+◌, ◌∙◌, refl, arith}
 use Rattle.osb_broker.specs.BrokerState.{lives_of}
 use Rattle.osb_broker.proofs.ShutLemmas.{not_touched, worked_then}
-use Rattle.osb_listen.proofs.ConversationLemmas.{none_served, one_served}
+use Rattle.osb_listen.proofs.ConversationLemmas.{none_served, some_more}
 use Rattle.osb_listen.proofs.serving.serve_listener.Goals as goal
 
-pub loop-init : goal.loop-init
+pub loop-left-init : goal.loop-left-init
 unfolding lives_of
-loop-init g c = record {
+loop-left-init g c = record {
   most = refl;
   rules = refl;
   limits = refl;
   missed = refl;
   worked = not_touched;
-  served = none_served _ _ _ _ _ _ _ c.lives_are_whole.ensures.whole c.lives_are_whole.ensures.kept;
+  served = (0, omega arith, none_served _ _ _ _ _ _ _ c.lives_are_whole.ensures.whole c.lives_are_whole.ensures.kept);
 }
 
-pub loop-preserved : goal.loop-preserved
-loop-preserved g c =
-    let before = c.loop.invariant in
+pub loop-left-preserved : goal.loop-left-preserved
+loop-left-preserved g c =
+    let before = c.loop-left.invariant in
     let next = c.serve_next.ensures in
+    let served = rw (before.rules, before.limits, before.most) at c.in_ok-count.ensures.served in
     record {
       most = next.most ∙ before.most;
       rules = next.rules ∙ before.rules;
       limits = next.limits ∙ before.limits;
-      missed = c.in_ok-serve_next.ensures.missed ∙ before.missed;
+      missed = c.in_ok-count.ensures.missed ∙ before.missed;
       worked = worked_then before.worked next.worked;
-      served = one_served _ _ _ _ _ _ _ _ _ _ _ _ _ _ _ c.loop.counter before.worked next.worked before.served
-          (rw (before.rules, before.limits, before.most) at c.in_ok-serve_next.ensures.served);
+      served = (
+        before.served.0 + c.in_ok-count.count,
+        omega (arith, before.served.1, served.1),
+        some_more _ _ _ _ _ _ _ _ _ _ _ _ _ _ _ before.served.0 c.in_ok-count.count before.worked next.worked before.served.2 (served.2, served.3, served.4),
+      );
     }

@@ -1,17 +1,20 @@
-use Rattle.std.proofs.Common.{◌≡◌}
+use Rattle.std.proofs.Common.{◌≡◌, ◌+◌, ℕ}
 use Rattle.osb_broker.specs.BrokerState.{most_of, rules_in, store_of}
 use Rattle.osb_broker.specs.Inside.{Worked}
 use Rattle.osb_broker.specs.Room.{limits_of}
 use Rattle.osb_listen.proofs.ConversationLemmas.{ServesSome}
 use Rattle.osb_listen.proofs.serving.serve_listener.Given as goal
 
-abbrev pub invariant-loop : goal.invariant-loop
-invariant-loop g l = record {
+abbrev pub decreases-loop-left : goal.decreases-loop-left
+decreases-loop-left g l = l.left
+
+abbrev pub invariant-loop-left : goal.invariant-loop-left
+invariant-loop-left g l = record {
   most : most_of l.broker ≡ most_of l.fn.broker;
   rules : rules_in l.broker ≡ rules_in l.fn.broker;
   limits : limits_of l.buffer ≡ limits_of l.fn.buffer;
   missed : g.L.Entrance.missed l.entrance ≡ g.L.Entrance.missed l.fn.entrance;
   worked : Worked (store_of g.S.Store l.fn.broker) (store_of g.S.Store l.broker);
-  served : ServesSome (rules_in l.fn.broker) (limits_of l.fn.buffer) (most_of l.fn.broker) (store_of g.S.Store l.fn.broker) (g.L.Entrance.journal l.fn.entrance) (g.E.Sink.taken l.fn.errors) (g.E.Sink.failed_or_empty l.fn.errors)
-      l.counter (store_of g.S.Store l.broker) (g.L.Entrance.journal l.entrance) (g.E.Sink.taken l.errors) (g.E.Sink.failed_or_empty l.errors);
+  served : (count : ℕ) × (count + l.left ≡ l.connections) × ServesSome (rules_in l.fn.broker) (limits_of l.fn.buffer) (most_of l.fn.broker) (store_of g.S.Store l.fn.broker) (g.L.Entrance.journal l.fn.entrance) (g.E.Sink.taken l.fn.errors) (g.E.Sink.failed_or_empty l.fn.errors)
+      count (store_of g.S.Store l.broker) (g.L.Entrance.journal l.entrance) (g.E.Sink.taken l.errors) (g.E.Sink.failed_or_empty l.errors);
 }

@@ -2,19 +2,12 @@ use Rattle.std.proofs.Common.{refl}
 use Rattle.osb_broker.proofs.CrashLemmas.{leaves_stored}
 use Rattle.osb_broker.proofs.GroupLemmas.{from_empty}
 use Rattle.osb_broker.proofs.setup.Setup.serve_each.Goals as goal
-use Rattle.osb_broker.proofs.setup.Setup.serve_each.Goals.{then-self-eq1, else-self-eq1}
 
 pub returns-clause-ok : goal.returns-clause-ok
-returns-clause-ok g c = elim c.if-self-eq1.branch [
-  | then-self-eq1 w ↦ rw (w.records-is, w.outputs-is, w.if-self-eq1.true) (from_empty c.in_ok-outputs.ensures.items w.serve_groups.ensures)
-  | else-self-eq1 w ↦ rw (w.records-is, w.outputs-is) (from_empty c.in_ok-outputs.ensures.items w.serve_singly.ensures.serves)
-]
+returns-clause-ok g c = from_empty c.in_ok-outputs.ensures.items c.serve_into_outputs.ensures.serves
 
 pub returns-clause-worked : goal.returns-clause-worked
-returns-clause-worked g c = elim c.if-self-eq1.branch [
-  | then-self-eq1 w ↦ rw w.records-is w.serve_groups.ensures.serves.worked
-  | else-self-eq1 w ↦ rw w.records-is w.serve_singly.ensures.serves.serves.worked
-]
+returns-clause-worked g c = c.serve_into_outputs.ensures.serves.serves.worked
 
 pub returns-in_err-blanks-clause-kept : goal.returns-in_err-blanks-clause-kept
 returns-in_err-blanks-clause-kept g c works = leaves_stored (c.lives_are_whole.ensures.whole works.clean works.live) (c.lives_are_whole.ensures.kept works.clean works.live) refl

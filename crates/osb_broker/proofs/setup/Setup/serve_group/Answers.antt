@@ -3,7 +3,7 @@ use Rattle.sqlite.specs.Held.{state}
 use Rattle.osb_statements.specs.Steps.{stored}
 use Rattle.osb_broker.specs.Groups.{IsGroup}
 use Rattle.osb_broker.specs.Inside.{given_rules}
-use Rattle.osb_broker.proofs.GroupLemmas.{group_given_up, group_serves, group_worked, stays_worked}
+use Rattle.osb_broker.proofs.GroupLemmas.{group_given_up, group_serves, group_worked}
 use Rattle.osb_broker.proofs.setup.Setup.serve_group.Goals as goal
 
 pub returns-in-Ok-make_all-clause-served : goal.returns-in-Ok-make_all-clause-served

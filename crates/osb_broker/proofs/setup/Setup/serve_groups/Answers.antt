@@ -1,4 +1,4 @@
-use Rattle.std.proofs.Common.{rules, ◌≡◌, ◌+◌, ◌∙◌, [], map, take, drop, length, vec_items, ap, refl, subst, sym, arith}
+use Rattle.std.proofs.Common.{rules, ◌≡◌, ◌+◌, ◌∙◌, [], map, drop, vec_items, refl, subst, sym, arith}
 use Rattle.std.proofs.lemmas.List.{nil_from_length}
 use Rattle.osb_broker.specs.Steps.{capped}
 use Rattle.osb_broker.specs.Inside.{given_rules, ServesMore}
@@ -10,6 +10,7 @@ loop-rest-init g c = record {
   blank = c.requires.blank;
   enough = c.requires.enough;
   room = c.requires.room;
+  count = search rules;
   serves = (0, refl, more_none c.args.outputs.now.items (λ works. c.lives_are_whole.ensures.whole works.clean works.live) (λ works. c.lives_are_whole.ensures.kept works.clean works.live));
 }
 
@@ -24,6 +25,7 @@ loop-rest-preserved g c =
       blank = next.blank;
       enough = omega (arith, before.enough, next.fewer, c.split_at.ensures.back_len);
       room = omega (arith, before.room, next.room, next.count, c.split_at.ensures.back_len);
+      count = omega (arith, before.count, next.count, c.split_at.ensures.back_len);
       serves = (
         done + count,
         c.split_at.ensures.back ∙ rest_next connections done count c.loop-rest.rest.now before.serves.1,
@@ -33,8 +35,8 @@ loop-rest-preserved g c =
       );
     }
 
-pub returns : goal.returns
-returns g c =
+pub returns-clause-serves : goal.returns-clause-serves
+returns-clause-serves g c =
     let last = c.loop-rest.invariant.serves in
     let connections = c.args.connections.now in
     let none : drop last.0 connections ≡ [] = sym last.1 ∙ nil_from_length c.loop-rest.rest.now (search rules) in

@@ -1,4 +1,4 @@
-use Rattle.std.proofs.Common.{◌∙◌, ◌+◌, map, vec_items, ap, subst, sym, arith}
+use Rattle.std.proofs.Common.{map, vec_items, subst, sym, arith}
 use Rattle.std.proofs.lemmas.List.{take_all}
 use Rattle.osb_broker.specs.Steps.{capped}
 use Rattle.osb_broker.specs.Inside.{given_most, given_rules, ServesMore}

@@ -1,7 +1,7 @@
 use Rattle.std.proofs.Common.{subst, ◌∷◌, []}
 use Rattle.osb_listen.specs.Lines.{Says}
 use Rattle.osb_listen.proofs.PartLemmas.{says_sent}
-use Rattle.osb_listen.proofs.serving.report_end.Goals as goal
+use Rattle.osb_listen.proofs.client_end.report_end.Goals as goal
 
 pub returns : goal.returns
 returns g c =

@@ -1,0 +1,264 @@
+use Rattle.std.proofs.Common.{◌≡◌, inl, inr, [], ◌∷◌, Some, None, ◌+◌, ◌++◌, take, drop, length, refl, sym, ap, ◌∙◌, arith}
+use Rattle.std.proofs.lemmas.List.{length-take, length-drop}
+use Rattle.std.proofs.Math.Seq.{take-add}
+use Rattle.std.proofs.lemmas.Grind.{common_steps}
+use Rattle.osb_frames.specs.Calls.{all_bytes}
+use Rattle.osb_broker.specs.Serving.{NothingWaits}
+use Rattle.osb_frames.specs.Steps.{message}
+use Rattle.osb_broker.specs.Steps.{machine}
+use Rattle.osb_broker.specs.Inside.{given_rules}
+use Rattle.osb_broker.proofs.BegunLemmas.{holds_all, last_closes, last_closes_or_lost, none_passed, reads_all, so_far_more}
+use Rattle.osb_broker.proofs.CrashLemmas.{leaves_stored, leaves_weaker}
+use Rattle.osb_broker.proofs.LostLemmas.{breaking_or_lost, closing_or_lost, shown}
+use Rattle.osb_broker.proofs.ShutLemmas.{lives_stay, not_touched}
+use Rattle.osb_broker.proofs.CallLemmas.{all_more, all_failed}
+use Rattle.osb_broker.proofs.HoldLemmas.{breaking_held, closing_held, ending_held, gave_nothing, gave_more, gave_failed, read_broken, refusing_err, refusing_ok}
+use Rattle.osb_broker.proofs.ReadLemmas.{failed_here, found_end, fruitful_yet, needed_more, none_needed, reads_so_far}
+use Rattle.osb_broker.proofs.setup.Setup.begin_in.Goals as goal
+
+pub loop-request-init : goal.loop-request-init
+loop-request-init g c = record {
+  records = refl;
+  sink = refl;
+  met = refl;
+  waiting = refl;
+  inside = omega arith;
+  received = ([], gave_nothing _ _, refl, tt, none_needed c.args.limits.now 1 _);
+}
+
+pub loop-request-preserved : goal.loop-request-preserved
+loop-request-preserved g c =
+    let before = c.loop-request.invariant.received in
+    let calls = before.0 in
+    let held = take c.loop-request.filled c.loop-request.room in
+    let n = c.in-Ok-fill.n in
+    let piece = take n (drop c.loop-request.filled c.fill.new.room) in
+    let gave_bytes = fruitful_yet c.loop-request.ended calls c.in-More.ensures.says.0 before.3 in
+    let size : length piece ≡ n = omega (arith, length-take n (drop c.loop-request.filled c.fill.new.room), length-drop c.loop-request.filled c.fill.new.room, c.in-Ok-fill.ensures.bound) in
+    let front : take (c.loop-request.filled + n) c.fill.new.room ≡ held ++ piece = take-add c.loop-request.filled n c.fill.new.room ∙ ap (λ l. l ++ piece) c.in-Ok-fill.ensures.kept in
+    record {
+      records = c.loop-request.invariant.records;
+      sink = c.loop-request.invariant.sink;
+      met = c.loop-request.invariant.met;
+      waiting = c.loop-request.invariant.waiting;
+      inside = grind (arith, common_steps, c.in-Ok-fill.ensures.bound);
+      received = (
+        calls ++ Some piece ∷ [],
+        gave_more _ _ _ _ _ _ calls piece before.1 c.in-Ok-fill.ensures.called c.in-Ok-fill.ensures.known.0 (λ none. c.in-Ok-fill.ensures.known.1 (omega (arith, size, ap length none))),
+        front ∙ ap (λ l. l ++ piece) before.2 ∙ sym (all_more calls piece),
+        so_far_more calls piece n size gave_bytes,
+        needed_more c.args.limits.now 1 _ calls (Some piece) before.4 (record {
+          left = 1;
+          some = omega arith;
+          held = held;
+          past = none_passed c.args.limits.now (all_bytes calls) held before.2;
+          waits = record {
+            request = λ q m at. c.in-More.ensures.finds q m at;
+            stop = λ f final at. let e = c.in-More.ensures.stops f final at in cc;
+            hope = c.in-More.ensures.hope;
+          };
+          free = omega (arith, c.in-More.ensures.room, c.loop-request.auto.room, c.requires);
+          fits = omega (arith, size, c.in-Ok-fill.ensures.bound, length-take c.loop-request.filled c.loop-request.room);
+        }),
+      );
+    }
+
+pub returns-then-keep-clause-begun : goal.returns-then-keep-clause-begun
+returns-then-keep-clause-begun g c =
+    let inv = c.loop-request.invariant in
+    let before = inv.received in
+    let held = take c.loop-request.filled c.loop-request.room in
+    let kept = c.keep.ensures in (
+      before.0,
+      before.1,
+      before.4,
+      (
+        held,
+        rw inv.waiting at kept.kept c.if-keep.true,
+        record {
+          reads = reads_so_far c.loop-request.ended before.0 before.3;
+          are = before.2;
+          q = message c.in-Whole.request;
+          n = c.in-Whole.field-1;
+          front = c.in-Whole.ensures.stays;
+          inside = c.in-Whole.ensures.size.1;
+          late = kept.late c.if-keep.true;
+        },
+        inv.sink,
+        inv.records,
+        inv.met,
+      ),
+    )
+
+pub returns-then-keep-clause-worked : goal.returns-then-keep-clause-worked
+returns-then-keep-clause-worked g c = rw c.loop-request.invariant.records not_touched
+
+pub returns-in-Ok-clause-begun : goal.returns-in-Ok-clause-begun
+returns-in-Ok-clause-begun g c =
+    let rules = given_rules c.args.self.now in
+    let limits = c.args.limits.now in
+    let before = c.loop-request.invariant.received in
+    let calls = before.0 in
+    let held = take c.loop-request.filled c.loop-request.room in
+    let inv = c.loop-request.invariant in
+    let answers_are = rw (inv.records, inv.sink) at c.in-Ok.ensures.answers in
+    let leaves_are = rw (inv.records, inv.sink) at c.in-Ok.ensures.leaves in
+    let q = message c.in-Whole.request in
+    let n = c.in-Whole.field-1 in (
+      calls,
+      before.1,
+      before.4,
+      (
+        c.keep.ensures.same c.if-keep.false ∙ c.loop-request.invariant.waiting,
+        reads_so_far c.loop-request.ended calls before.3,
+        rw inv.sink at c.in-Ok.ensures.ok,
+        (λ was now go. inl (closing_held (machine rules) limits 1 was (all_bytes calls) _ 1 _ was held q n 0 now _ _ _ c.in-Ok.field-0 _
+            (holds_all (machine rules) limits was (all_bytes calls) held _ q n before.2 c.in-Whole.ensures.stays c.in-Whole.ensures.size.1)
+            (answers_are was now go) (last_closes rules q was now _ _ _ _ c.in-Ok.field-0 (answers_are was now go)) c.loop-request.invariant.met)),
+        (λ works clean. leaves_weaker
+            (λ lives answers. closing_or_lost (machine rules) limits 1 _ calls _ 1 _ _ held q n 0
+            (holds_all (machine rules) limits _ (all_bytes calls) held _ q n before.2 c.in-Whole.ensures.stays c.in-Whole.ensures.size.1)
+            lives _ _ _ _ c.in-Ok.field-0 answers (last_closes_or_lost rules q _ lives _ _ _ _ c.in-Ok.field-0 answers) c.loop-request.invariant.met)
+            (leaves_are works clean)),
+      ),
+    )
+
+pub returns-in-Ok-clause-worked : goal.returns-in-Ok-clause-worked
+returns-in-Ok-clause-worked g c = rw c.loop-request.invariant.records at c.in-Ok.ensures.worked
+
+pub returns-in-Err-clause-begun : goal.returns-in-Err-clause-begun
+returns-in-Err-clause-begun g c =
+    let rules = given_rules c.args.self.now in
+    let limits = c.args.limits.now in
+    let before = c.loop-request.invariant.received in
+    let calls = before.0 in
+    let held = take c.loop-request.filled c.loop-request.room in
+    let inv = c.loop-request.invariant in
+    let answers_are = rw (inv.records, inv.sink) at c.in-Err.ensures.answers in
+    let leaves_are = rw (inv.records, inv.sink) at c.in-Err.ensures.leaves in
+    let q = message c.in-Whole.request in
+    let n = c.in-Whole.field-1 in (
+      calls,
+      before.1,
+      before.4,
+      (
+        c.keep.ensures.same c.if-keep.false ∙ c.loop-request.invariant.waiting,
+        reads_so_far c.loop-request.ended calls before.3,
+        rw inv.sink at c.in-Err.ensures.err,
+        (λ was now go. inl (breaking_held (machine rules) limits 1 was (all_bytes calls) _ 1 _ was held q n 0 now _ _ _ c.in-Err.field-0
+            (holds_all (machine rules) limits was (all_bytes calls) held _ q n before.2 c.in-Whole.ensures.stays c.in-Whole.ensures.size.1)
+            (answers_are was now go))),
+        (λ works clean. leaves_weaker
+            (λ lives answers. breaking_or_lost (machine rules) limits 1 _ calls _ 1 _ _ held q n 0
+            (holds_all (machine rules) limits _ (all_bytes calls) held _ q n before.2 c.in-Whole.ensures.stays c.in-Whole.ensures.size.1)
+            lives _ _ _ _ c.in-Err.field-0 answers)
+            (leaves_are works clean)),
+      ),
+    )
+
+pub returns-in-Err-clause-worked : goal.returns-in-Err-clause-worked
+returns-in-Err-clause-worked g c = rw c.loop-request.invariant.records at c.in-Err.ensures.worked
+
+pub returns-in-Ok-refuse-clause-begun : goal.returns-in-Ok-refuse-clause-begun
+returns-in-Ok-refuse-clause-begun g c =
+    let rules = given_rules c.args.self.now in
+    let limits = c.args.limits.now in
+    let inv = c.loop-request.invariant in
+    let before = inv.received in
+    let calls = before.0 in
+    let held = take c.loop-request.filled c.loop-request.room in
+    let writes = rw inv.sink at c.in-Ok-refuse.ensures.writes in (
+      calls,
+      before.1,
+      before.4,
+      (
+        c.loop-request.invariant.waiting,
+        reads_so_far c.loop-request.ended calls before.3,
+        writes.1,
+        (λ was now go. rw (lives_stay (rw inv.records at go)) (refusing_ok (machine rules) limits 1 was calls _ 1 _ was held c.in-Stop.kind c.loop-request.ended 0 _ _ _ _
+            (reads_all (machine rules) limits was (all_bytes calls) held _ before.2) c.in-Stop.ensures.stays (found_end c.loop-request.ended calls before.3) refl writes)),
+        (λ works clean. rw inv.records (leaves_stored (c.lives_are_whole.ensures.whole works.clean works.live) (c.lives_are_whole.ensures.kept works.clean works.live)
+            (shown (refusing_ok (machine rules) limits 1 _ calls _ 1 _ _ held c.in-Stop.kind c.loop-request.ended 0 _ _ _ _
+            (reads_all (machine rules) limits _ (all_bytes calls) held _ before.2) c.in-Stop.ensures.stays (found_end c.loop-request.ended calls before.3) refl writes)))),
+      ),
+    )
+
+pub returns-in-Err-refuse-clause-begun : goal.returns-in-Err-refuse-clause-begun
+returns-in-Err-refuse-clause-begun g c =
+    let rules = given_rules c.args.self.now in
+    let limits = c.args.limits.now in
+    let inv = c.loop-request.invariant in
+    let before = inv.received in
+    let calls = before.0 in
+    let held = take c.loop-request.filled c.loop-request.room in
+    let writes = rw inv.sink at c.in-Err-refuse.ensures.writes in (
+      calls,
+      before.1,
+      before.4,
+      (
+        c.loop-request.invariant.waiting,
+        reads_so_far c.loop-request.ended calls before.3,
+        writes.3,
+        (λ was now go. rw (lives_stay (rw inv.records at go)) (refusing_err (machine rules) limits 1 was calls _ 1 _ was held c.in-Stop.kind c.loop-request.ended 0 _ _ _ c.in-Err-refuse.field-0
+            (reads_all (machine rules) limits was (all_bytes calls) held _ before.2) c.in-Stop.ensures.stays (found_end c.loop-request.ended calls before.3) refl writes)),
+        (λ works clean. rw inv.records (leaves_stored (c.lives_are_whole.ensures.whole works.clean works.live) (c.lives_are_whole.ensures.kept works.clean works.live)
+            (shown (refusing_err (machine rules) limits 1 _ calls _ 1 _ _ held c.in-Stop.kind c.loop-request.ended 0 _ _ _ c.in-Err-refuse.field-0
+            (reads_all (machine rules) limits _ (all_bytes calls) held _ before.2) c.in-Stop.ensures.stays (found_end c.loop-request.ended calls before.3) refl writes)))),
+      ),
+    )
+
+pub returns-in-Ended-clause-begun : goal.returns-in-Ended-clause-begun
+returns-in-Ended-clause-begun g c =
+    let rules = given_rules c.args.self.now in
+    let limits = c.args.limits.now in
+    let inv = c.loop-request.invariant in
+    let before = inv.received in
+    let calls = before.0 in
+    let held = take c.loop-request.filled c.loop-request.room in
+    let over = found_end c.loop-request.ended calls before.3 c.in-Ended.ensures.says.0 in (
+      calls,
+      before.1,
+      before.4,
+      (
+        c.loop-request.invariant.waiting,
+        reads_so_far c.loop-request.ended calls before.3,
+        rw inv.sink refl,
+        (λ was now go. rw (lives_stay (rw inv.records at go), inv.sink) (inr (ending_held (machine rules) limits 1 was (all_bytes calls) _ 1 _ was held 0 _ (reads_all (machine rules) limits was (all_bytes calls) held _ before.2) refl c.in-Ended.ensures.says.1 inv.met, over))),
+        (λ works clean. rw (inv.records, inv.sink) (leaves_stored (c.lives_are_whole.ensures.whole works.clean works.live) (c.lives_are_whole.ensures.kept works.clean works.live)
+            (shown (inr (ending_held (machine rules) limits 1 _ (all_bytes calls) _ 1 _ _ held 0 _ (reads_all (machine rules) limits _ (all_bytes calls) held _ before.2) refl c.in-Ended.ensures.says.1 inv.met, over))))),
+      ),
+    )
+
+pub returns-in-Err-fill-clause-begun : goal.returns-in-Err-fill-clause-begun
+returns-in-Err-fill-clause-begun g c =
+    let rules = given_rules c.args.self.now in
+    let limits = c.args.limits.now in
+    let inv = c.loop-request.invariant in
+    let before = inv.received in
+    let calls = before.0 in
+    let held = take c.loop-request.filled c.loop-request.room in
+    let waits : NothingWaits limits held = record {
+      request = λ q m at. c.in-More.ensures.finds q m at;
+      stop = λ f final at. let e = c.in-More.ensures.stops f final at in cc;
+      hope = c.in-More.ensures.hope;
+    } in (
+      calls ++ None ∷ [],
+      gave_failed _ _ _ _ _ _ calls before.1 c.in-Err-fill.ensures.called c.in-Err-fill.ensures.known,
+      needed_more limits 1 _ calls None before.4 (record {
+        left = 1;
+        some = omega arith;
+        held = held;
+        past = none_passed limits (all_bytes calls) held before.2;
+        waits = waits;
+        free = omega (arith, c.in-More.ensures.room, c.loop-request.auto.room, c.requires);
+        fits = omega (arith, c.loop-request.auto.room, inv.inside, length-take c.loop-request.filled c.loop-request.room);
+      }),
+      (
+        c.loop-request.invariant.waiting,
+        failed_here calls (fruitful_yet c.loop-request.ended calls c.in-More.ensures.says.0 before.3),
+        rw inv.sink refl,
+        (λ was now go. rw (lives_stay (rw inv.records at go), inv.sink, all_failed calls) (read_broken (machine rules) limits 1 was (all_bytes calls) _ 1 _ was held (omega arith) waits (reads_all (machine rules) limits was (all_bytes calls) held _ before.2))),
+        (λ works clean. rw (inv.records, inv.sink) (leaves_stored (c.lives_are_whole.ensures.whole works.clean works.live) (c.lives_are_whole.ensures.kept works.clean works.live)
+            (shown (rw (all_failed calls) (read_broken (machine rules) limits 1 _ (all_bytes calls) _ 1 _ _ held (omega arith) waits (reads_all (machine rules) limits _ (all_bytes calls) held _ before.2)))))),
+      ),
+    )
