@@ -25,6 +25,8 @@ NO_TABLES = (1, b"", b"database: 3 Missing\nno tables yet\n")
 # How many clients make instances while backups are made, and how many backups.
 CLIENTS = 8
 BACKUPS = 20
+# How long a client waits between two instances.
+PAUSE = 0.02
 
 
 def ends(program, *words, **process):
@@ -99,6 +101,8 @@ class Load:
                 self.wrong.append(found)
                 return
             self.answered[number] += 1
+            # (with more the log is copied more often than a busy machine reads both files)
+            time.sleep(PAUSE)
 
     def __enter__(self):
         for client in self.clients:
@@ -130,6 +134,8 @@ def try_load(program, folder):
             to, before = place_in(folder), list(load.answered)
             status, counts, errors = ends(program, path, to)
             yield "under load", (status, errors), (0, b"")
+            if status:
+                return
             made = made_in(to)
             lacking = [(it, len(found)) for it, found in zip(before, made) if len(found) < it]
             yield "what was answered before is there", lacking, []
