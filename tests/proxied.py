@@ -163,7 +163,7 @@ def connections_to(port):
 
 
 def held_back(proxy, serving):
-    """Whether those are answered who ask while the program is stopped for a copy, and where they wait."""
+    """Whether those are answered who ask while the program is stopped for a copy, and that they wait at it, for one commit."""
     with ThreadPoolExecutor(FAST) as pool:
         serving.process.send_signal(signal.SIGSTOP)
         asked = [pool.submit(proxy.answers, closing("GET", "/v2/catalog")) for _ in range(FAST)]
@@ -172,7 +172,7 @@ def held_back(proxy, serving):
         serving.process.send_signal(signal.SIGCONT)
         found = [it.result() for it in asked]
     yield "while it is stopped for a copy", found, [GET] * FAST
-    yield "connections to it meanwhile", connected, 1 if proxy.queues else FAST
+    yield "connections to it meanwhile", connected, FAST
 
 
 def restarts(serving):

@@ -118,8 +118,6 @@ http {
     chunks = 201, "{}"
     no_head = no_body = []
     away = 502, AWAY
-    # Whether requests wait in it for their turn.
-    queues = False
 
     calls = 3
 
@@ -139,4 +137,3 @@ class HAProxy(Proxy):
     no_body = 408, '{"description":"The request took too long."}'
     chunks = CODINGS
     away = 503, AWAY
-    queues = True
