@@ -109,9 +109,8 @@ impl<'a> Queue<'a> {
     }
 
     /// What the next client sends, and what it takes.
-    fn next_client(&mut self) -> Option<(Sending<'a>, Taking)> {
+    fn next_client(&self) -> Option<(Sending<'a>, Taking)> {
         let client = self.clients.get(self.next).copied()?;
-        self.next = self.next.saturating_add(1);
         let taking = Taking {
             taken: Vec::new(self.alloc),
             room: client.room,
@@ -155,6 +154,7 @@ impl<'a> Entrance for Queue<'a> {
         let Some((sending, taking)) = self.next_client() else {
             return Err(ListenFault::CannotAccept);
         };
+        self.next = self.next.saturating_add(1);
         if !self.has_file {
             self.misses = self.misses.and(&(), &());
             return Err(ListenFault::FileTaken);
@@ -167,6 +167,7 @@ impl<'a> Entrance for Queue<'a> {
             return None;
         }
         let (sending, taking) = self.next_client()?;
+        self.next = self.next.saturating_add(1);
         Some((Counted::new(sending), Counted::new(taking)))
     }
 
