@@ -19,7 +19,7 @@ import tempfile
 from conversations import ASYNC, B, BIND, I, LATER, LEAVE, REPORT, SUCCEEDED, SYNC, SYNC_LEAVE
 from conversations import FETCHED_LARGE, LARGE, LARGE_PARAMETERS, MEMORY_1, SYNC_BIND, UPDATE, X, Y
 from conversations import REFUSED_REPLY, at, listed, operation, reply, request, with_context
-from serving import SETTINGS, Serving, new_database, tell
+from serving import SETTINGS, Serving, new_database, refused_lines, tell
 
 VERSION_1 = os.path.join(os.path.dirname(os.path.abspath(__file__)), "version-1.sql")
 R = at("r")
@@ -515,14 +515,14 @@ def instance_rows(instance, count):
     yield "contexts", (instance, 0, "{}")
 
 
-def make_pieces(path):
+def make_pieces(path, filled=("orders", "instances", "contexts")):
     """The rows of many lives, and of a long one, come in no order, with gaps between their numbers."""
     chance = random.Random(57)
     lives = [("long", LONG), *((NUMBERED(number), 1) for number in range(MANY))]
     rows = [it for life in lives for part in (order_rows, instance_rows) for it in part(*life)]
     numbers = chance.sample(range(100, 10 * len(rows)), len(rows))
     with contextlib.closing(sqlite3.connect(path)) as conn:
-        for table in ("orders", "instances", "contexts"):
+        for table in filled:
             names = ", ".join(name for _, name, *_ in conn.execute(f"PRAGMA table_info({table})"))
             of_table = [(number, *row) for number, (other, row) in zip(numbers, rows) if other == table]
             marks = ", ".join("?" * len(of_table[0]))
@@ -606,6 +606,24 @@ def try_made_before(program, folder):
         with Serving(program, path) as serving:
             yield from goes(serving, GOES_ON)
         yield "its integrity in the end", integrity(copied(path, folder)), {"ok"}
+
+
+def try_pieces_before(program, folder):
+    """Rows of version 1 of many lives are brought to version 2 where each piece of them is as it has to be, and in
+    little memory."""
+    many = made_before(folder, len(INDEXES))
+    make_pieces(many, ("orders", "instances"))
+    kept, expected = copied(many, folder), migrated(tables(copied(many, folder), TABLES_BEFORE))
+    with Serving(program, kept, preexec_fn=few_bytes) as serving:
+        yield from goes(serving, MADE_BEFORE)
+    yield "many rows are brought to version 2", tables(copied(kept, folder)), expected
+    for name, statement in WRONGED.items():
+        if "context" not in name:
+            copy = copied(many, folder)
+            run(copy, statement)
+            before = content(copied(copy, folder))
+            yield f"version 1, {name}", starts(program, copy), NOT_OURS
+            yield f"version 1, {name}: it stays", content(copied(copy, folder)), before
 
 
 def try_others(program, folder):
@@ -922,6 +940,7 @@ def try_full_disk(program, folder):
                 yield from goes(serving, known)
             os.remove(os.path.join(disk, "filling"))
             yield "the change with room", serving.sends(sent), reply(201, "{}")
+        yield "the line of a change on a full disk", refused_lines(serving.errors)[:1], [("database: disk full", 1)]
         with Serving(program, path) as serving:
             yield from goes(serving, known)
             yield "the change after a start", serving.sends(sent), reply(200, "{}")
@@ -1062,6 +1081,17 @@ def try_causes(program, folder, path):
         yield "a file that can't be read", looked_at(program, written, given=lambda: os.setuid(65534)), unseen("it can't be read")
 
 
+def try_little_memory(program, folder, path):
+    """A look at a database that gets too little memory blames no row of it."""
+    many = copied(path, folder)
+    make_pieces(many)
+    found = set()
+    for most in range(10_000_000, 110_000_000, 5_000_000):
+        found.add(looked_at(program, many, given=lambda: resource.setrlimit(resource.RLIMIT_DATA, (most, most))))
+    right = {looked_at(program, many), unseen("out of memory")}
+    yield "a look in little memory", found - {(1, b"", b"osb-broker: out of memory\n")}, right
+
+
 def try_order(program, folder):
     """Settings come before the database, and that before the address."""
     path = new_database(folder)
@@ -1086,10 +1116,12 @@ def tries(program):
         yield from try_pieces(program, folder, path)
         yield from try_harmless(program, folder, path)
         yield from try_made_before(program, folder)
+        yield from try_pieces_before(program, folder)
         yield from try_others(program, folder)
         yield from try_beside(program, folder, path)
         yield from try_looked_at(program, folder, path)
         yield from try_causes(program, folder, path)
+        yield from try_little_memory(program, folder, path)
         yield from try_plans(program, folder)
         yield from try_order(program, folder)
         yield from try_large(program, folder)

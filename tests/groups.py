@@ -8,13 +8,18 @@ The program is stopped (SIGSTOP) while clients connect and send. Then it goes on
 creations have one sync before the first reply. Groups of all kinds of requests, many of them for the same instances,
 are answered as the same requests one after the other. A kill or a power failure leaves the changes of a group all made
 or none, and those of one that was answered all made. Where a growth of memory is refused, each request is answered as
-it should be, or by the 500 or nothing, and then it changed nothing.
+it should be, or by the 500 or nothing, and then it changed nothing. Where a call of the disk fails, nothing is lost that
+was answered.
 """
 
 import contextlib
+import errno
+import itertools
+import mmap
 import os
 import random
 import signal
+import struct
 import sys
 import tempfile
 import time
@@ -26,7 +31,7 @@ from power import CHOICES, SEND, SYNCED, TAKE, WRITE, Disk, Replay
 from power import Machine as Recorded
 from refused import MANY
 from refused import Machine as Refusing
-from serving import Serving, environment_with, new_database, tell
+from serving import Serving, environment_with, new_database, refused_lines, tell
 
 SIZES = (2, 3, 8)
 CREATED, THERE = reply(201, "{}"), reply(200, "{}")
@@ -204,9 +209,67 @@ def refused(program, folder):
             yield f"growths of {size} that fail a request", failed > 0, True
 
 
+class Failing:
+    """A disk of which one call fails, and the program over it."""
+
+    # The call that fails, how many there were, and the error.
+    CONTROL = struct.Struct("3q")
+
+    def __init__(self, program, folder):
+        self.program = program
+        path = os.path.join(folder, "control")
+        with open(path, "wb") as file:
+            file.write(bytes(self.CONTROL.size))
+        with open(path, "r+b") as file:
+            self.control = mmap.mmap(file.fileno(), self.CONTROL.size)
+        self.environment = environment_with(folder, "fails", FAIL=path)
+
+    def fails(self, call, error=0):
+        self.control[:] = self.CONTROL.pack(call, 0, error)
+
+    def calls(self):
+        return self.CONTROL.unpack(self.control[:])[1]
+
+    def serving(self, path):
+        self.fails(0)
+        return Serving(self.program, path, *MANY, env=self.environment)
+
+
+def disk_fails(program, folder):
+    """Where a call of the disk fails, none that was answered is lost, and of the others all or none are there."""
+    machine = Failing(program, folder)
+    causes = {errno.EIO: ["database: disk failed"], errno.ENOSPC: ["database: disk full"]}
+    for size in SIZES:
+        names = [f"i{one}" for one in range(size)]
+        found = set()
+        for error in (errno.EIO, errno.ENOSPC):
+            for call in itertools.count(1):
+                path = new_database(folder)
+                with machine.serving(path) as serving:
+                    machine.fails(call, error)
+                    answers = together(serving, creations(names))
+                    has_failed = call <= machine.calls()
+                    # Lines are written before the next client is taken.
+                    serving.sends(GET_CATALOG)
+                refused, lines = answers.count(REFUSED_REPLY), refused_lines(serving.errors)
+                yield f"call {call} of {size}: lines", sum(count for _, count in lines), refused
+                yield f"call {call} of {size}: causes", [cause for cause, _ in lines[:1]], causes[error][: min(refused, 1)]
+                with Serving(program, path, *MANY) as serving:
+                    there = [are_there(serving, [name]) for name in names]
+                lost = [one for one, is_there in zip(answers, there) if one == CREATED and not is_there]
+                yield f"call {call} of {size}: lost", lost, []
+                yield f"call {call} of {size}: answers", set(answers) <= {b"", REFUSED_REPLY, CREATED}, True
+                if CREATED not in answers:
+                    yield f"call {call} of {size}: a part", sum(there) in (0, size), True
+                found.add(answers == [CREATED] * size)
+                if not has_failed:
+                    break
+        yield f"groups of {size} with and without an answer", found, {True, False}
+
+
 def tries(program):
     with tempfile.TemporaryDirectory() as folder:
-        for trial in (one_sync, as_one_by_one, killed, power_fails, refused):
+        for trial in (one_sync, as_one_by_one, killed, power_fails, refused, disk_fails):
             yield from trial(program, tempfile.mkdtemp(dir=folder))
 
 

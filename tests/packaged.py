@@ -169,6 +169,16 @@ told: mkdir -p -m 700 /backup
 ls /backup
 call -X PUT -d "$(body p)" $instance/d
 
+echo '# trimmed'
+call -X DELETE "$instance/d?service_id=svc&plan_id=p"
+systemctl stop osb-broker
+(
+told: osb-broker trim
+) | sed 's/bytes [0-9]*, now [0-9]*/bytes N, now N/'
+stat -c '%a' /var/lib/private/osb-broker/broker.db
+[ "$(stat -c %u /var/lib/private/osb-broker)" = "$(stat -c %u /var/lib/private/osb-broker/broker.db)" ] && echo its owner
+systemctl start osb-broker; until_it listens; call $instance/a
+
 echo '# upgraded'
 installs /root/later > /root/installed 2>&1 || cat /root/installed
 until_it listens; dpkg-query -W -f '${Version}\n' osb-broker
@@ -257,6 +267,12 @@ instances 5, bindings 0, running 0
 broker.db
 settings.json
 {} 201
+# trimmed
+{} 200
+trimmed 2, bytes N, now N
+600
+its owner
+{"parameters":{},"plan_id":"p","service_id":"svc"} 200
 # upgraded
 9.9.9
 {"parameters":{},"plan_id":"p","service_id":"svc"} 200

@@ -440,6 +440,9 @@ PLACES = [
     (lambda it: service(it).pop("bindings_retrievable"), "6 Mode", "catalog.services[0].plans[1]"),
     (lambda it: it["platform"].update(user="a:b"), "7 Credential", "platform"),
     (lambda it: it["backend"].update(password=""), "7 Credential", "backend"),
+    (lambda it: it["platform"].update(also={"user": "u"}), "2 Missing platform", "the top"),
+    (lambda it: it["platform"].update(also={"user": "a:b", "password": "p"}), "7 Credential", "platform"),
+    (lambda it: it["backend"].update(also={"user": "u", "password": ""}), "7 Credential", "backend"),
 ]
 
 
@@ -458,9 +461,12 @@ MISTAKES = [
     ('"version": "2.0.0"', '"version": "2.0"', "5 Version\nat catalog.services[0].plans[1]"),
     ('"free": true', '"schemas": {}', "4 LeftOut schemas\nat catalog.services[0].plans[0]"),
     ('"bindable": true', '"bindable": true, "dashboard_client": {}', "4 LeftOut dashboard_client\nat catalog.services[0]"),
+    ('"password": "correct horse"', '"password": "correct horse", "also": "new"', "2 Missing platform\nat the top"),
     ('"instances": "asynchronous"', '"instance": "asynchronous"', ""),
     ('"plan_updateable"', '"plan_updatable"', ""),
     ('"worker", "password": "battery staple"', '"cf", "password": "correct horse"', ""),
+    ('"backend"', '"also": { "user": "cf", "password": "new" }, "backend"', ""),
+    ('battery staple"', 'battery staple", "also": { "user": "cf", "password": "correct horse" }', ""),
     ('"name": "own"', '"name": "shared"', ""),
     ('"name": "queues"', '"name": "my queues"', ""),
 ]

@@ -94,7 +94,7 @@ class Serving:
 
     def kill(self):
         self.process.kill()
-        self.process.communicate()
+        _, self.errors = self.process.communicate()
 
     def ended(self, seconds=60):
         """The status that it ends with by itself, and the lines that it wrote."""
@@ -117,6 +117,14 @@ class Serving:
         with self.connection() as client:
             client.sendall(bytes_sent)
             return read_to_end(client)
+
+
+REFUSED_LINE = re.compile(rb"request: 500 (no memory|database: (?:disk full|disk failed|shut|refused))(?:, (\d+) times)?\n")
+
+
+def refused_lines(errors):
+    """The lines of requests that were answered 500: the cause and the number of each."""
+    return [(cause.decode(), int(count or 1)) for cause, count in REFUSED_LINE.findall(errors)]
 
 
 def read_to_end(client):

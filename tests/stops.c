@@ -90,6 +90,16 @@ int link(const char *from, const char *to)
     return status;
 }
 
+int rename(const char *from, const char *to)
+{
+    int (*next)(const char *, const char *) = dlsym(RTLD_NEXT, "rename");
+    int last = is_last();
+    int status = next(from, to);
+    if (last)
+        end();
+    return status;
+}
+
 int unlink(const char *path)
 {
     int (*next)(const char *) = dlsym(RTLD_NEXT, "unlink");

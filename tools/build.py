@@ -43,6 +43,7 @@ MINUTES = {
     "osb_laws": (0.1, 0),
     "osb_broker": (2.6, 1.0),
     "osb_listen": (3.2, 0),
+    "osb_trim": (0.5, 0.4),
     "osb_cli": (4.3, 0.9),
     "osb_program": (7.0, 0),
     "osb_restart": (3.4, 0.8),

@@ -10,26 +10,26 @@ use Rattle.osb_asks.specs.declared.door.Door.TheVariants.{Platform, Backend}
 use Rattle.osb_asks.specs.declared.ask_fault.AskFault.{AskFault}
 use Rattle.osb_asks.specs.declared.ask_fault.AskFault.TheVariants.{NoDoor, Auth, Version, NoRoute}
 use Rattle.osb_asks.specs.Reads.{◌>>=◌, needed}
-use Rattle.osb_asks.specs.Credentials.{is_login}
+use Rattle.osb_asks.specs.Credentials.{is_some_login}
 use Rattle.osb_asks.specs.Versions.{is_api_version}
 use Rattle.osb_asks.specs.Doors.{Entrance, entry_of}
 use Rattle.osb_asks.specs.Resources.{resource_at}
 use Rattle.osb_asks.specs.Routes.{Routed, method_of, route_at}
 
--- the token of a door's login
-abbrev pub token_of_door : Rules → Door → List ℕ
-token_of_door rules Platform = rules.platform_token
-token_of_door rules Backend = rules.backend_token
+-- the tokens of a door's logins
+abbrev pub tokens_of_door : Rules → Door → List (List ℕ)
+tokens_of_door rules Platform = rules.platform_tokens
+tokens_of_door rules Backend = rules.backend_tokens
 
 -- the first value of that field passes the test
 abbrev pub has_field : List ℕ → (List ℕ → Bool) → List Line → Bool
 has_field name test lines = option_map_or test (first_value (values_of name lines)) false
 
--- the request has the login of the door
+-- the request has a login of the door
 abbrev pub is_let_in : Rules → Door → List Line → Bool
-is_let_in rules door = has_field (codes "authorization") (is_login (token_of_door rules door))
+is_let_in rules door = has_field (codes "authorization") (is_some_login (tokens_of_door rules door))
 
--- the platform alone names a version
+-- only the platform names a version
 abbrev pub has_version : Door → List Line → Bool
 has_version Platform = has_field (codes "x-broker-api-version") is_api_version
 has_version Backend = λ lines. true

@@ -1,4 +1,4 @@
--- The ask of a request, or the first fault that stands.
+-- The ask of a request, or its first fault.
 use Rattle.std.specs.Prelude.{ℕ, List, Bool, true, false, Result, Ok, Err}
 use Rattle.osb_frames.specs.Cuts.{Message}
 use Rattle.osb_catalog.specs.Rules.{Rules}
@@ -30,7 +30,7 @@ ask_at rules query body (route.BindingOp i b) = binding_op_of i b query
 ask_at rules query body route.Orders = orders_of query
 ask_at rules query body (route.Report i n) = report_of i n body
 
--- The ask of a request, or the first fault that stands: NoDoor, Auth, Version and NoRoute of its admission, then Id,
+-- The ask of a request, or its first fault: NoDoor, Auth, Version and NoRoute of its admission, then Id,
 -- Query, Body and NotInCatalog.
 abbrev pub ask_of : Rules → Message → Result Ask AskFault
 ask_of rules q = admit_of rules q >>= ask_at rules (query_of q.target) q.body

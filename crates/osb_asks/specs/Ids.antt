@@ -32,6 +32,6 @@ abbrev pub is_order_number : List ℕ → Bool
 is_order_number segment =
     nat_lt 0 (length segment) && (nat_le (length segment) 7 && (not (slice_index segment 0 == 48) && list_all is_ascii_digit segment))
 
--- the number of an order, as it stands in a path
+-- the number of an order, as it is in a path
 abbrev pub order_number_of : List ℕ → Result ℕ AskFault
 order_number_of segment = if is_order_number segment then Ok (digits_value 10 segment) else Err Id

@@ -1,6 +1,6 @@
 -- What public contracts cite, in the order in which to read it.
 
--- The ask of a request, or the first fault that stands.
+-- The ask of a request, or its first fault.
 pub mod Asks
 pub mod Reads
 -- Who is let in, and by which route: the path, its door, the login, the version, the route.

@@ -4,7 +4,7 @@ use Rattle.std.specs.Prelude.{ℕ, List, [], ◌∷◌, Bool, not, ◌&&◌, ◌
 use Rattle.osb_asks.specs.declared.door.Door.{Door}
 use Rattle.osb_asks.specs.declared.door.Door.TheVariants.{Platform, Backend}
 
--- what a path names, with the segments of its ids as they stand there
+-- what a path names, with the segments of its ids as they are there
 pub data Named : Type 0 where
   catalog orders : Named
   instance instance_operation : List ℕ → Named

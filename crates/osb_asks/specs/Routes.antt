@@ -5,7 +5,7 @@ use Rattle.osb_asks.specs.declared.route.Method.{Method}
 use Rattle.osb_asks.specs.declared.route.Method.TheVariants.{Get, Put, Patch, Delete}
 use Rattle.osb_asks.specs.Resources.{Named, catalog, orders, instance, instance_operation, binding, binding_operation, order}
 
--- a route, with the segments of its ids as they stand in the path
+-- a route, with the segments of its ids as they are in the path
 pub data Routed : Type 0 where
   Catalog Orders : Routed
   Provision Fetch Update Deprovision InstanceOp : List ℕ → Routed

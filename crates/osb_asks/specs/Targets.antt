@@ -1,4 +1,4 @@
--- The path and the query of a request's target (RFC 3986, sections 3.3 and 3.4), which stands in origin form
+-- The path and the query of a request's target (RFC 3986, sections 3.3 and 3.4), which is in origin form
 -- (RFC 9112, section 3.2.1).
 use Rattle.std.specs.Prelude.{ℕ, Bool, List, ◌==◌}
 use Rattle.std.specs.List.{slice_split, before_first, after_first}
@@ -17,6 +17,6 @@ path_of target = before_first is_question_mark target
 abbrev pub query_of : List ℕ → List ℕ
 query_of target = after_first is_question_mark target
 
--- what stands between the slashes
+-- what is between the slashes
 abbrev pub segments : List ℕ → List (List ℕ)
 segments path = slice_split is_slash path

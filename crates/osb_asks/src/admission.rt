@@ -7,7 +7,7 @@ ghost use Rattle.osb_asks.specs.Admission as spec;
 ghost use Rattle.osb_asks.specs.Seen.{Admits, seen_path, seen_route};
 
 use crate::ask_fault::AskFault;
-use crate::credentials::is_login;
+use crate::credentials::is_some_login;
 use crate::door::{Door, DoorAndPath, entry_of};
 use crate::resource::resource_at;
 use crate::route::{Route, method_of, route_at};
@@ -15,17 +15,17 @@ use crate::version::is_api_version;
 use osb_catalog::Settings;
 use osb_frames::Request;
 
-/// Whether the request has the login of the door.
+/// Whether the request has a login of the door.
 fn is_let_in(request: &Request<'_>, door: Door, settings: &Settings) -> bool
     ensures { result ≡ spec.is_let_in (rules_of settings.now) door (message request.now).lines }
 {
-    let token = match door {
-        Door::Platform => settings.platform_token(),
-        Door::Backend => settings.backend_token(),
+    let tokens = match door {
+        Door::Platform => settings.platform_tokens(),
+        Door::Backend => settings.backend_tokens(),
     };
     request
         .field(b"authorization")
-        .is_some_and(|value| is_login(token.as_bytes(), value))
+        .is_some_and(|value| is_some_login(tokens, value))
 }
 
 /// Whether the request names a version that is spoken, where the door asks for one.

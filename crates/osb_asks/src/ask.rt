@@ -55,7 +55,7 @@ pub struct Deprovision {
     pub accepts_incomplete: bool,
 }
 
-/// How an operation of an instance stands ("Polling Last Operation for Service Instances").
+/// The state of an operation of an instance ("Polling Last Operation for Service Instances").
 #[derive(Debug, Drop)]
 pub struct InstanceOp {
     pub instance: Id,
@@ -100,7 +100,7 @@ pub struct Unbind {
     pub accepts_incomplete: bool,
 }
 
-/// How an operation of a binding stands ("Polling Last Operation for Service Bindings").
+/// The state of an operation of a binding ("Polling Last Operation for Service Bindings").
 #[derive(Debug, Drop)]
 pub struct BindingOp {
     pub instance: Id,

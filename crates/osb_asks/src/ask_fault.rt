@@ -3,13 +3,13 @@
 use std::alloc::AllocError;
 use thiserror::Error;
 
-/// Why a request has no ask: the first that stands, in the order of the variants.
+/// Why a request has no ask: the first fault, in the order of the variants.
 #[derive(Clone, Copy, Debug, Drop, PartialEq, Eq, Error)]
 pub enum AskFault {
     /// The target leads neither to the platform's door, `/v2`, nor to the backend's, `/backend`.
     #[error("no door")]
     NoDoor,
-    /// The first Authorization value isn't the Basic login of the door.
+    /// The first Authorization value isn't a Basic login of the door.
     #[error("the login is not the door's")]
     Auth,
     /// The platform's request names no version 2 of the API.

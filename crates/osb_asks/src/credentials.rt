@@ -1,7 +1,9 @@
-//! Whether the value of an Authorization field is the Basic login of a door.
+//! Whether the value of an Authorization field is a Basic login of a door.
 
 ghost use Rattle.std.specs.Prelude.{◌≡◌};
-ghost use Rattle.osb_asks.specs.Credentials.{after_spaces, is_spaced, is_login};
+ghost use Rattle.osb_asks.specs.Credentials.{after_spaces, is_spaced, is_login, is_some_login};
+
+use osb_text::Text;
 
 /// The bytes after the spaces at their front.
 fn after_spaces(mut bytes: &[u8]) -> &[u8]
@@ -24,11 +26,20 @@ fn is_spaced(token: &[u8], bytes: &[u8]) -> bool
 }
 
 /// Whether the value of an Authorization line is the Basic login with that token.
-pub(crate) fn is_login(token: &[u8], value: &[u8]) -> bool
+fn is_login(token: &[u8], value: &[u8]) -> bool
     ensures { result ≡ is_login token.now value.now }
 {
     if value.len() < 5 {
         return false;
     }
     value[..5].eq_ignore_ascii_case(b"basic") && is_spaced(token, &value[5..])
+}
+
+/// Whether the value of an Authorization line is the Basic login with one of the tokens.
+pub(crate) fn is_some_login(tokens: &[Text], value: &[u8]) -> bool
+    ensures { result ≡ is_some_login tokens.now value.now }
+{
+    tokens
+        .iter()
+        .any(|token| is_login(token.as_str().as_bytes(), value))
 }

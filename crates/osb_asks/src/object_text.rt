@@ -49,7 +49,7 @@ impl ObjectText {
         Ok(ObjectText { text })
     }
 
-    /// The compact text of an object that stands in one that was read.
+    /// The compact text of an object in one that was read.
     #[tactic(auto, using(osb_text::proofs::ReadableLemmas::object_text))]
     pub(crate) fn of(alloc: Global, object: ObjectRef<'_>) -> Result<ObjectText, AllocError>
         requires { IsReadable (ref_data object) }

@@ -48,7 +48,7 @@ fn ask_at(
     }
 }
 
-/// What a request asks, or the first fault that stands, in the order of `AskFault`.
+/// What a request asks, or its first fault, in the order of `AskFault`.
 ///
 /// Memory may take the place of whatever is found from the ids on; the faults before, and the ask
 /// for the catalog, take none.

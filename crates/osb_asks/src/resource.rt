@@ -10,7 +10,7 @@ use crate::target::Segments;
 
 const LAST_OPERATION: &[u8] = b"last_operation";
 
-/// What a path names, with the segments of its ids as they stand there.
+/// What a path names, with the segments of its ids as they are there.
 #[derive(Clone, Copy, Debug)]
 pub(crate) enum Resource<'a> {
     Catalog,

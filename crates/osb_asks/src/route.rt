@@ -15,7 +15,7 @@ pub(crate) enum Method {
     Delete,
 }
 
-/// What a request asks, with the segments of its ids as they stand in the path.
+/// What a request asks, with the segments of its ids as they are in the path.
 #[derive(Clone, Copy, Debug)]
 pub(crate) enum Route<'a> {
     Catalog,

@@ -38,7 +38,7 @@ impl<'a> Segments<'a> {
     }
 }
 
-/// Where the byte first stands, or the length where it doesn't.
+/// Where the byte first is, or the length where it isn't there.
 fn position_of(bytes: &[u8], byte: u8) -> usize
     ensures value { result ≡ position_or_len (λ b. b == byte) bytes.now }
     ensures bound { result ≤ length bytes.now }

@@ -11,7 +11,7 @@ pub(crate) fn are_digits(bytes: &[u8]) -> bool
     bytes.iter().all(|b| b.is_ascii_digit())
 }
 
-/// Whether the bytes are one to three digits that don't begin with a 0, unless it stands alone.
+/// Whether the bytes are one to three digits that don't begin with a 0, unless they are that only.
 fn is_minor(digits: &[u8]) -> bool
     ensures { result ≡ is_minor digits.now }
 {

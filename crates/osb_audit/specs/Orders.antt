@@ -19,7 +19,7 @@ entry_cmp a b = ordering_then (slice_cmp nat_cmp a.0 b.0) (nat_cmp a.1.number b.
 abbrev pub is_of : List ℕ → Entry → Bool
 is_of id entry = bytes_eq entry.0 id
 
--- each order stands before the later ones of its instance
+-- each order comes before the later ones of its instance
 abbrev pub lives_in : List Entry → Lives
 lives_in [] = empty
 lives_in (entry ∷ entries) = insert (lives_in entries) entry.0 (entry.1 ∷ life_of (lives_in entries) entry.0)

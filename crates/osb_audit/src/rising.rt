@@ -12,7 +12,7 @@ use osb_orders::Order;
 use osb_standing::InstanceRow;
 use osb_text::Text;
 
-/// Whether each order stands before the next, by instance and number.
+/// Whether each order comes before the next, by instance and number.
 pub(crate) fn orders_rise(orders: &[(Text, Order)]) -> bool
     ensures { (result ≡ true) ↔ IsStrictlySortedBy entry_cmp orders.now }
 {
@@ -26,14 +26,14 @@ fn is_before(entry: &(Text, Order), next: &(Text, Order)) -> bool
     ids.then(entry.1.number.cmp(&next.1.number)).is_lt()
 }
 
-/// Whether each instance stands before the next.
+/// Whether each instance comes before the next.
 pub(crate) fn instances_rise(instances: &[(Text, InstanceRow)]) -> bool
     ensures { (result ≡ true) ↔ IsStrictlySortedBy instance_cmp instances.now }
 {
     instances.is_sorted_by(|entry, next| entry.0 < next.0)
 }
 
-/// Whether each binding stands before the next, by instance and binding.
+/// Whether each binding comes before the next, by instance and binding.
 pub(crate) fn bindings_rise(bindings: &[BindingEntry]) -> bool
     ensures { (result ≡ true) ↔ IsStrictlySortedBy binding_cmp bindings.now }
 {

@@ -1,4 +1,4 @@
--- The context that stands of an instance, and what an order that is written makes of it (this project's own).
+-- The current context of an instance, and what an order that is written makes of it (this project's own).
 use Rattle.std.specs.Prelude.{ℕ, List, [], Option, None, Some}
 use Rattle.osb_orders.specs.declared.order.OrderKind.{OrderKind}
 use Rattle.osb_orders.specs.declared.order.OrderKind.TheVariants.{Create, Update, Delete}
@@ -19,6 +19,6 @@ context_over Update Succeeded context = Some context
 context_over Delete Succeeded context = Some []
 context_over _ _ context = None
 
--- the context that stands after the order; nothing where the one before it stays
+-- the current context after the order; nothing where the one before it stays
 abbrev pub context_edit : Order → Option (List ℕ)
 context_edit order = context_over order.kind order.outcome.state order.attributes.context

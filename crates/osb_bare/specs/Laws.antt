@@ -104,6 +104,6 @@ RowAfterBare = (birth_failed : Bool) (order : Order) (old : Option InstanceRow) 
 abbrev pub EditOfBare : Type 0
 EditOfBare = (order : Order) (old : Option BindingNow) → edit_of (bare_order order) old ≡ edit_of order old
 
--- the context that stands needs no look at the one before it
+-- the current context needs no look at the one before it
 abbrev pub ContextStands : Type 0
 ContextStands = (life : Life) (change : Change) (order : Order) → IsWritten life change order → standing_context (standing_of (changed change life)) ≡ unwrap_or (context_edit order) (standing_context (standing_of life))

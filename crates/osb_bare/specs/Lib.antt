@@ -1,6 +1,6 @@
 -- What public contracts cite, in the order in which to read it.
 
--- Lives without contexts, and the context that stands.
+-- Lives without contexts, and the current context.
 pub mod Bare
 pub mod Context
 -- Laws of both.

@@ -1,5 +1,5 @@
-//! Lives without contexts, and the context that stands of an instance: laws over the definitions of
-//! lives and rows alone. The tables of orders, instances and bindings have no column for a context,
+//! Lives without contexts, and the current context of an instance: laws over only the definitions of
+//! lives and rows. The tables of orders, instances and bindings have no column for a context,
 //! so what they say is bare.
 #![tactic(auto)]
 
@@ -53,7 +53,7 @@ pub fn bare_edits()
     ensures edit { EditOfBare }
 {}
 
-/// The context that stands after an order was written, read off the order and the context before.
+/// The current context after an order was written, read off the order and the context before.
 pub fn context_that_stands()
     ensures { ContextStands }
 {}

@@ -35,4 +35,6 @@ mod RepliedLemmas
 mod ShardLemmas
 mod LoginLemmas
 mod ErrorLemmas
+mod TrimmedRunLemmas
+mod TrimmedEpisodeLemmas
 mod Vectors

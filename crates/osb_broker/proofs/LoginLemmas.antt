@@ -1,9 +1,10 @@
--- What lacks the login of its door changes nothing and learns nothing, and each door has its own asks.
+-- What lacks the logins of its door changes nothing and learns nothing, and each door has its own asks.
 use Rattle.std.proofs.Common.{◌≡◌, ℕ, Bool, true, false, not, ◌==◌, List, [], ◌∷◌, drop, take, codes, bytes_eq, Option, Some, None, IfSome, Result, Ok, Err, refl, sym, ap, subst, ◌∙◌, inl, inr, ◌⊎◌}
-use Rattle.std.specs.Prelude.{if◌then◌else◌, ◌≢◌}
+use Rattle.std.specs.Prelude.{if◌then◌else◌}
 use Rattle.std.specs.Option.{option_map_or, option_and_then}
 use Rattle.std.specs.Str.{str_to_ascii_lowercase}
 use Rattle.std.proofs.lemmas.Bool.{and_parts}
+use Rattle.std.proofs.lemmas.List.Folds.{Any-from_list_any}
 use Rattle.std.proofs.lemmas.Slice.Eq.{bytes_eq-Decides}
 use Rattle.osb_frames.specs.Fields.{values_of, first_value}
 use Rattle.osb_frames.specs.Cuts.{Message}
@@ -13,7 +14,7 @@ use Rattle.osb_asks.specs.declared.ask.Ask.TheVariants as the
 use Rattle.osb_asks.specs.declared.ask_fault.AskFault.{AskFault}
 use Rattle.osb_asks.specs.declared.ask_fault.AskFault.TheVariants.{Auth, Version, NoDoor, NoRoute}
 use Rattle.osb_asks.specs.Reads.{◌>>=◌, needed}
-use Rattle.osb_asks.specs.Credentials.{after_spaces, is_spaced, is_login}
+use Rattle.osb_asks.specs.Credentials.{after_spaces, is_spaced, is_login, is_some_login}
 use Rattle.osb_asks.specs.Targets.{query_of}
 use Rattle.osb_asks.specs.Doors.{Entrance, entry_of}
 use Rattle.osb_asks.specs.Resources.{Named, catalog, orders, instance, instance_operation, binding, binding_operation, order, resource_at}
@@ -33,7 +34,7 @@ use Rattle.osb_orders.specs.Lives.{Lives}
 use Rattle.osb_orders.proofs.GrowLemmas.{choose}
 use Rattle.osb_broker.specs.Faults.{fault_answer}
 use Rattle.osb_broker.specs.Steps.{machine, step_for}
-use Rattle.osb_broker.specs.Logins.{IsUnknown, is_of_backend, has_login}
+use Rattle.osb_broker.specs.Logins.{IsUnknown, is_of_backend, has_login, ShareOne}
 
 -- ---- without a login
 
@@ -199,10 +200,10 @@ came_by places rules q ask asked = entering (entry_of q.target) asked
         letting true let_in is = versioning let_in (has_version e.door q.lines) is
 
 abbrev HasOwn : Rules → Message → Ask → Type 0
-HasOwn rules q ask = ((is_of_backend ask ≡ true) × (has_login rules.backend_token q ≡ true)) ⊎ ((is_of_backend ask ≡ false) × (has_login rules.platform_token q ≡ true))
+HasOwn rules q ask = ((is_of_backend ask ≡ true) × (has_login rules.backend_tokens q ≡ true)) ⊎ ((is_of_backend ask ≡ false) × (has_login rules.platform_tokens q ≡ true))
 
 pub asks_have_logins : PlacesHaveDoors → (rules : Rules) (q : Message) (ask : Ask) → ask_of rules q ≡ Ok ask →
-    ((is_of_backend ask ≡ true) × (has_login rules.backend_token q ≡ true)) ⊎ ((is_of_backend ask ≡ false) × (has_login rules.platform_token q ≡ true))
+    ((is_of_backend ask ≡ true) × (has_login rules.backend_tokens q ≡ true)) ⊎ ((is_of_backend ask ≡ false) × (has_login rules.platform_tokens q ≡ true))
 asks_have_logins places rules q ask asked =
     let it = came_by places rules q ask asked in
     by it.named it.let_in it.own
@@ -224,15 +225,22 @@ one_token t u (byte ∷ bytes) a b =
     sym ((bytes_eq-Decides (after_spaces bytes) t).0 (and_parts (byte == 32) (bytes_eq (after_spaces bytes) t) a).1)
     ∙ (bytes_eq-Decides (after_spaces bytes) u).0 (and_parts (byte == 32) (bytes_eq (after_spaces bytes) u) b).1
 
-one_login : (t u : List ℕ) (value : Option (List ℕ)) → option_map_or (is_login t) value false ≡ true → option_map_or (is_login u) value false ≡ true → t ≡ u
-one_login t u None a b = cc
-one_login t u (Some value) a b =
+one_login : (t u value : List ℕ) → is_login t value ≡ true → is_login u value ≡ true → t ≡ u
+one_login t u value a b =
     let basic = bytes_eq (str_to_ascii_lowercase (take 5 value)) (codes "basic") in
     one_token t u (drop 5 value) (and_parts basic (is_spaced t (drop 5 value)) a).1 (and_parts basic (is_spaced u (drop 5 value)) b).1
 
-pub platform_reports_nothing : PlacesHaveDoors → (rules : Rules) (q : Message) (ask : Ask) → rules.platform_token ≢ rules.backend_token → has_login rules.platform_token q ≡ true → ask_of rules q ≡ Ok ask → is_of_backend ask ≡ false
-platform_reports_nothing places rules q ask differ let_in asked = by (asks_have_logins places rules q ask asked)
+-- what is a login of both has a token of both
+in_both : (tokens others : List (List ℕ)) (value : Option (List ℕ)) → option_map_or (is_some_login tokens) value false ≡ true → option_map_or (is_some_login others) value false ≡ true → ShareOne tokens others
+in_both tokens others None a b = cc
+in_both tokens others (Some value) a b =
+    let one = Any-from_list_any (λ token. is_login token value) tokens a in
+    let other = Any-from_list_any (λ token. is_login token value) others b in
+    (one.0, one.1, one.2, one.3, (other.0, other.1, other.2, other.3, one_login one.1 other.1 value one.4 other.4))
+
+pub platform_reports_nothing : PlacesHaveDoors → (rules : Rules) (q : Message) (ask : Ask) → ¬ ShareOne rules.platform_tokens rules.backend_tokens → has_login rules.platform_tokens q ≡ true → ask_of rules q ≡ Ok ask → is_of_backend ask ≡ false
+platform_reports_nothing places rules q ask apart let_in asked = by (asks_have_logins places rules q ask asked)
   where
     by : HasOwn rules q ask → is_of_backend ask ≡ false
-    by (inl both) = absurd (differ (one_login rules.platform_token rules.backend_token (first_value (values_of (codes "authorization") q.lines)) let_in both.1))
+    by (inl both) = absurd (apart (in_both rules.platform_tokens rules.backend_tokens (first_value (values_of (codes "authorization") q.lines)) let_in both.1))
     by (inr it) = it.0

@@ -1,5 +1,5 @@
 -- What the definitions of marks, repeats, attempts, refusals, reports, conversations, shards and logins say of short lists, computed.
-use Rattle.std.proofs.Common.{◌≡◌, ℕ, Bool, true, false, List, [], ◌∷◌, length, None, Some, Ok, Err, refl, inl, inr, arith}
+use Rattle.std.proofs.Common.{◌≡◌, ℕ, zero, suc, ◌<◌, Bool, true, false, List, [], ◌∷◌, length, None, Some, Ok, Err, slice_index_or, refl, sym, ◌∙◌, inl, inr, arith}
 use Rattle.std.specs.Prelude.{codes, bytes_eq}
 use Rattle.std.proofs.lemmas.Bool.{false≢true}
 use Rattle.std.proofs.lemmas.Slice.Eq.{bytes_eq-Decides}
@@ -16,7 +16,7 @@ use Rattle.osb_broker.specs.Reported.{is_reading, request_was_answered}
 use Rattle.osb_broker.specs.Conversations.{Conversation, IsNoAnswer, IsAttemptOf, AreAttemptsOf}
 use Rattle.osb_broker.specs.Replied.{SomeGotAnswer}
 use Rattle.osb_broker.specs.Shards.{asks_here, is_answerable, is_at, went_to}
-use Rattle.osb_broker.specs.Logins.{is_of_backend}
+use Rattle.osb_broker.specs.Logins.{is_of_backend, ShareOne}
 
 abbrev a : List ℕ
 a = 97 ∷ []
@@ -206,3 +206,16 @@ lists_for_the_backend = refl
 
 fetches_for_the_platform : is_of_backend (Fetch (record { instance = a })) ≡ false
 fetches_for_the_platform = refl
+
+-- of two and two, the second of the one is the first of the other
+share_the_second : ShareOne (a ∷ b ∷ []) (b ∷ [] ∷ [])
+share_the_second = (1, b, omega arith, refl, (0, b, omega arith, refl, refl))
+
+the_only_one : (t x : List ℕ) (k : ℕ) → k < 1 → slice_index_or (t ∷ []) k x ≡ x → t ≡ x
+the_only_one t x zero first is = is
+the_only_one t x (suc k) first is = absurd (omega arith)
+
+-- with one login each, they share one only if both have the same
+share_the_only_one : (t u : List ℕ) → ShareOne (t ∷ []) (u ∷ []) → t ≡ u
+share_the_only_one t u share =
+    the_only_one t share.1 share.0 share.2 share.3 ∙ share.4.4 ∙ sym (the_only_one u share.4.1 share.4.0 share.4.2 share.4.3)

@@ -63,7 +63,7 @@ IsOfInstance asked None = Unit {0}
 IsOfInstance asked (Some one) = (ask : Ask) × (asked ≡ Ok ask) × (instance_in ask ≡ Some one.instance)
 
 -- The answer to what was asked is ready, up to its change. What is early takes no memory, and what needs no lives leaves
--- the records alone.
+-- only the records.
 pub record GivesPrepared {S E : Type 0} (g : Ghosts S) (rules : catalog.Rules) (asked : Result Ask AskFault) (old new : Held S) (result : Result Prepared E) : Type 0 where
   pub ok : Works (state g old) → HasCleanDisk (state g new) → IfOk result (λ prepared. Prepares (stored (state g old)) prepared (step_for rules (stored (state g old)) asked))
   pub quiet : IfOk result (λ prepared. is_early asked ≡ true → prepared.pending ≡ None)

@@ -39,8 +39,11 @@ pub mod Shards
 -- A reply that reports an error has changed nothing, and who lacks the login learns nothing.
 pub mod Errors
 pub mod Logins
+-- Trimmed lives answer as the lives do.
+pub mod Trimmed
 -- For contracts inside the crate.
 pub mod Answering
 pub mod Groups
 pub mod Inside
 pub mod Prepared
+pub mod Refused

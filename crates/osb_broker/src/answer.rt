@@ -12,7 +12,7 @@ use osb_frames::Request;
 use osb_machine::Answer;
 use osb_replies::{Body, FixedError, Reply, Status};
 
-/// A status alone, with the body `{}`.
+/// Only a status, with the body `{}`.
 fn plain<'s>(status: Status) -> Answer<'s>
     ensures { answer_parts result ≡ plain status }
 {

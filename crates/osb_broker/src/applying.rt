@@ -10,29 +10,27 @@ ghost use Rattle.osb_broker.specs.BrokerState.{Works};
 ghost use Rattle.osb_broker.specs.Prepared.{IsApplicable};
 ghost use Rattle.osb_broker.specs.Inside.{AppliesPending};
 
+use crate::refused::Refused;
 use crate::rooms::{Room, make_room};
 use osb_records::{LifeChange, Records};
 use osb_replies::Reply;
 use sqlite::Alter;
-use std::alloc::AllocError;
 
 /// Makes a change to the life of an instance.
-fn commit<S: Alter>(records: &mut Records<S>, pending: &LifeChange) -> Result<(), AllocError>
+fn commit<S: Alter>(records: &mut Records<S>, pending: &LifeChange) -> Result<(), Refused>
     requires { Works (state S.Store records.old) →
         IsApplicable (Some pending.now) (stored (state S.Store records.old)) }
     ensures { AppliesPending S.Store (Some pending.now) records.old records.new result }
 {
-    match records.commit(pending.instance.as_str(), &pending.change) {
-        Ok(()) => Ok(()),
-        Err(_) => Err(AllocError),
-    }
+    records.commit(pending.instance.as_str(), &pending.change)?;
+    Ok(())
 }
 
 /// Makes the change that is pending. Where the records refuse it, the lives stay.
 pub(crate) fn apply_pending<S: Alter>(
     records: &mut Records<S>,
     pending: &Option<LifeChange>,
-) -> Result<(), AllocError>
+) -> Result<(), Refused>
     requires { Works (state S.Store records.old) →
         IsApplicable pending.now (stored (state S.Store records.old)) }
     ensures applies { AppliesPending S.Store pending.now records.old records.new result }
@@ -51,7 +49,7 @@ pub(crate) fn apply_pending_within<S: Alter, W: Room>(
     reply: &Reply<'_>,
     room: &mut W,
     spare: usize,
-) -> Result<(), AllocError>
+) -> Result<(), Refused>
     requires { Works (state S.Store records.old) →
         IsApplicable pending.now (stored (state S.Store records.old)) }
     ensures applies { AppliesPending S.Store pending.now records.old records.new result }

@@ -29,7 +29,7 @@ use crate::rooms::Room;
 use crate::setup::Setup;
 use osb_catalog::Settings;
 use osb_frames::Request;
-use osb_records::Records;
+use osb_records::{Records, Refusals};
 use osb_replies::Reply;
 use sqlite::Alter;
 use std::alloc::Global;
@@ -102,6 +102,13 @@ impl<'s, S: Alter> Broker<'s, S> {
         ensures crash { Survives (store_of S.Store self.entry) (state S.Store result) (λ _. ⊥) }
     {
         self.records
+    }
+
+    /// How many requests were answered by the fixed 500 since this was last called, for each cause.
+    pub fn take_refusals(&mut self) -> Refusals
+        ensures { self.new ≡ self.old }
+    {
+        self.records.take_refusals()
     }
 
     /// What a store that works has: well-formed lives, of which a crash now leaves a database and

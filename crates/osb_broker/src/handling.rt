@@ -25,6 +25,7 @@ use crate::answer::{fault_answer, reply_to};
 use crate::applying::{apply_pending, apply_pending_within};
 use crate::laws::never_fails;
 use crate::prepared::{Prepared, pending_for};
+use crate::refused::Refused;
 use crate::rooms::Room;
 use crate::setup::Setup;
 use osb_asks::{Ask, AskFault, read_ask};
@@ -57,7 +58,7 @@ impl<'s> Setup<'s> {
     ghost use Rattle.osb_broker.specs.Inside.{AreAnsweredAlike, given_rules, GivesPrepared, GivesReply, Handles, IsOfInstance, LivesStay};
 
     /// The facts that an ask needs.
-    fn view<S: Alter>(&self, records: &mut Records<S>, ask: &Ask) -> Result<View, AllocError>
+    fn view<S: Alter>(&self, records: &mut Records<S>, ask: &Ask) -> Result<View, Refused>
         ensures ok { HasCleanDisk (state S.Store records.new) →
             IfOk result (λ view.
             data_in view ≡ view_of (stored (state S.Store records.old)) ask.now) }
@@ -65,10 +66,7 @@ impl<'s> Setup<'s> {
             OnOk result (IsTrue (state S.Store records.old).is_open) }
         ensures stays { LivesStay (state S.Store records.old) (state S.Store records.new) }
     {
-        match records.view(self.alloc, ask) {
-            Ok(view) => Ok(view),
-            Err(_) => Err(AllocError),
-        }
+        Ok(records.view(self.alloc, ask)?)
     }
 
     /// What the table has for an ask.
@@ -76,7 +74,7 @@ impl<'s> Setup<'s> {
         &self,
         records: &mut Records<S>,
         ask: &Ask,
-    ) -> Result<AnswerAndChange<'s>, AllocError>
+    ) -> Result<AnswerAndChange<'s>, Refused>
         ensures ok { HasCleanDisk (state S.Store records.new) →
             IfOk result (λ step. decision step ≡
             answer_to (given_rules self.now) (stored (state S.Store records.old)) ask.now) }
@@ -85,15 +83,11 @@ impl<'s> Setup<'s> {
         ensures stays { LivesStay (state S.Store records.old) (state S.Store records.new) }
     {
         let view = self.view(records, ask)?;
-        decide_by(self.alloc, self.settings, view, ask)
+        Ok(decide_by(self.alloc, self.settings, view, ask)?)
     }
 
     /// The machine's step for an ask, up to its change.
-    fn step<S: Alter>(
-        &self,
-        records: &mut Records<S>,
-        ask: &Ask,
-    ) -> Result<Prepared<'s>, AllocError>
+    fn step<S: Alter>(&self, records: &mut Records<S>, ask: &Ask) -> Result<Prepared<'s>, Refused>
         requires { AskHasValidTexts ask.now }
         ensures alike { Works (state S.Store records.old) →
             HasCleanDisk (state S.Store records.new) → IfOk result (λ prepared. (lives : Lives) →
@@ -115,11 +109,7 @@ impl<'s> Setup<'s> {
     }
 
     /// The answer to an ask, up to its change. The catalog takes no memory and no view.
-    fn asked<S: Alter>(
-        &self,
-        records: &mut Records<S>,
-        ask: &Ask,
-    ) -> Result<Prepared<'s>, AllocError>
+    fn asked<S: Alter>(&self, records: &mut Records<S>, ask: &Ask) -> Result<Prepared<'s>, Refused>
         requires { AskHasValidTexts ask.now }
         ensures { GivesPrepared S.Store (given_rules self.now) (Ok ask.now)
             records.old records.new result }
@@ -148,7 +138,7 @@ impl<'s> Setup<'s> {
         &self,
         records: &mut Records<S>,
         request: &Request<'_>,
-    ) -> Result<Prepared<'s>, AllocError>
+    ) -> Result<Prepared<'s>, Refused>
         ensures gives { GivesPrepared S.Store (given_rules self.now)
             (ask_of (given_rules self.now) (message request.now)) records.old records.new result }
         ensures kept { Works (state S.Store records.old) →
@@ -161,7 +151,7 @@ impl<'s> Setup<'s> {
                 drop(ask);
                 prepared
             }
-            Err(AskFault::Memory) => Err(AllocError),
+            Err(AskFault::Memory) => Err(AllocError.into()),
             Err(fault) => Ok(Prepared::quiet(fault_answer(fault))),
         }
     }
@@ -172,7 +162,7 @@ impl<'s> Setup<'s> {
         records: &mut Records<S>,
         request: &Request<'a>,
         last: bool,
-    ) -> Result<Reply<'a>, AllocError>
+    ) -> Result<Reply<'a>, Refused>
     where
         's: 'a,
         ensures gives { GivesReply S.Store (given_rules self.now) (message request.now) last
@@ -187,10 +177,10 @@ impl<'s> Setup<'s> {
                 drop(pending);
                 Ok(reply)
             }
-            Err(error) => {
+            Err(refused) => {
                 drop(pending);
                 drop(reply);
-                Err(error)
+                Err(refused)
             }
         }
     }
@@ -211,7 +201,10 @@ impl<'s> Setup<'s> {
         never_fails();
         match self.replied(records, request, last) {
             Ok(reply) => reply,
-            Err(_) => REFUSED,
+            Err(refused) => {
+                records.note_refusal(refused.cause);
+                REFUSED
+            }
         }
     }
 
@@ -223,7 +216,7 @@ impl<'s> Setup<'s> {
         last: bool,
         room: &mut W,
         spare: usize,
-    ) -> Result<Reply<'a>, AllocError>
+    ) -> Result<Reply<'a>, Refused>
     where
         's: 'a,
         ensures gives { GivesReply S.Store (given_rules self.now) (message request.now) last
@@ -240,10 +233,10 @@ impl<'s> Setup<'s> {
                 drop(pending);
                 Ok(reply)
             }
-            Err(error) => {
+            Err(refused) => {
                 drop(pending);
                 drop(reply);
-                Err(error)
+                Err(refused)
             }
         }
     }
@@ -270,7 +263,10 @@ impl<'s> Setup<'s> {
         never_fails();
         match self.replied_in(records, request, last, room, spare) {
             Ok(reply) => reply,
-            Err(_) => REFUSED,
+            Err(refused) => {
+                records.note_refusal(refused.cause);
+                REFUSED
+            }
         }
     }
 }

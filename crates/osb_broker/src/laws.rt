@@ -1,4 +1,4 @@
-//! Laws of texts, runs and histories, over the definitions alone.
+//! Laws of texts, runs and histories, over only the definitions.
 
 ghost use Rattle.std.specs.Prelude.{◌≡◌, [], ◌∷◌, ◌++◌, ℕ, List, Bool, Result, map};
 ghost use Rattle.osb_frames.specs.declared.limits.Limits.{Limits};
@@ -24,6 +24,7 @@ ghost use Rattle.osb_broker.specs.Begun.{GroupsAreConversations};
 ghost use Rattle.osb_broker.specs.Replied.{RepliedRequestsActOnce, SentRequestsActAtMostOnce};
 ghost use Rattle.osb_broker.specs.Shards.{ShardsAreApart, ShardsKeepOut, UnnamedMayBeLeftOut, ShardsAreOne, HistoriesAreOne};
 ghost use Rattle.osb_broker.specs.Errors.{ErrorsStay};
+ghost use Rattle.osb_broker.specs.Trimmed.{RunsStay, EpisodesStay};
 ghost use Rattle.osb_broker.specs.Logins.{UnknownLearnNothing, AsksHaveLogins, PlatformReportsNothing};
 
 use osb_asks::laws::{never_memory, one_place, valid_texts};
@@ -102,7 +103,7 @@ pub fn resend()
 }
 
 /// The connections that ask something of an instance have the texts, and leave the life, that they
-/// have alone.
+/// have only.
 pub fn apart()
     ensures { InstancesAreApart }
 {
@@ -182,17 +183,26 @@ pub fn errors()
     ensures { ErrorsStay }
 {}
 
-/// A request that names a door and lacks its login has the fixed answer 401, the same from any lives,
+/// A request that names a door and lacks its logins has the fixed answer 401, the same from any lives,
 /// and leaves these. It is never refused memory.
 pub fn unknown()
     ensures { UnknownLearnNothing }
 {}
 
-/// Orders are listed and reported only with the backend's login, and all else is asked with the
-/// platform's. So with two different logins nothing that has the platform's reports an order.
+/// Orders are listed and reported only with a login of the backend, and all else is asked with one of
+/// the platform. So if platform and backend share no login, nothing that has one of the platform
+/// reports an order.
 pub fn logins()
     ensures own { AsksHaveLogins }
     ensures platform { PlatformReportsNothing }
 {
     one_place();
 }
+
+/// Connections, one after the other, have the same outputs from trimmed lives as from the lives, whatever
+/// their bytes are and whichever requests are refused. All that is said with clients over stops and starts
+/// could have been said without trimming, and the other way round.
+pub fn trimmed()
+    ensures runs { RunsStay }
+    ensures episodes { EpisodesStay }
+{}

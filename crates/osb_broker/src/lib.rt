@@ -20,6 +20,7 @@ mod per_connection;
 mod plans;
 mod prepared;
 pub mod refuse;
+mod refused;
 mod rooms;
 mod runs;
 mod serve;
@@ -32,7 +33,8 @@ pub use buffer::Buffer;
 pub use fault::{NewFault, ServeFault};
 pub use laws::{
     apart, episodes, errors, histories, logins, never_fails, reads_are_bounded, refusals_show,
-    replied, reported, resend, runs_go_on, shards, texts_are_of_the_cut, together, unknown,
+    replied, reported, resend, runs_go_on, shards, texts_are_of_the_cut, together, trimmed,
+    unknown,
 };
 pub use rooms::Room;
 pub use waiting::Waiting;

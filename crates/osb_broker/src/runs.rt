@@ -341,7 +341,7 @@ impl<S: Alter> Broker<'_, S> {
     /// What is said of outputs and lives is said where the store works still. Where a fault of the disk
     /// had shut it before the call, the outputs are as from any lives, and the lives stay (`shut`).
     ///
-    /// Each output first gets room for a fixed reply, and only there want of memory is an error,
+    /// Each output first gets room for a fixed reply, and only there a refusal of memory is an error,
     /// with nothing changed. Later each reply asks for its room before its change is made; where
     /// that is refused it is the fixed 500, whatever the request is, and the connection ends.
     ///

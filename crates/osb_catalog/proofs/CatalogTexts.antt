@@ -19,6 +19,7 @@ name_text the.Modes text = refl
 name_text the.OrdersPerInstance text = refl
 name_text the.User text = refl
 name_text the.Password text = refl
+name_text the.Also text = refl
 name_text the.Services text = refl
 name_text the.Id text = refl
 name_text the.Name text = refl

@@ -372,14 +372,14 @@ contents_are file readable h =
     }
 
 -- the same of settings whose parts are those of the file
-pub parts_are : (file : Data) (s : SettingsData) → IsReadable file → first_fault file ≡ None → s.catalog ≡ (contents_of file).catalog → s.services ≡ (contents_of file).services → s.plans ≡ (contents_of file).plans → s.order_limit ≡ (contents_of file).order_limit → s.platform_token ≡ (contents_of file).platform_token → s.backend_token ≡ (contents_of file).backend_token → IsSettings s
+pub parts_are : (file : Data) (s : SettingsData) → IsReadable file → first_fault file ≡ None → s.catalog ≡ (contents_of file).catalog → s.services ≡ (contents_of file).services → s.plans ≡ (contents_of file).plans → s.order_limit ≡ (contents_of file).order_limit → s.platform_tokens ≡ (contents_of file).platform_tokens → s.backend_tokens ≡ (contents_of file).backend_tokens → IsSettings s
 parts_are file s readable h catalog services plans limit platform backend =
     let same : contents_of file ≡ s = λ i. record {
       catalog = (sym catalog) i;
       services = (sym services) i;
       plans = (sym plans) i;
       order_limit = (sym limit) i;
-      platform_token = (sym platform) i;
-      backend_token = (sym backend) i;
+      platform_tokens = (sym platform) i;
+      backend_tokens = (sym backend) i;
     } in
     subst (λ (d : SettingsData). IsSettings d) same (contents_are file readable h)

@@ -13,7 +13,7 @@ abbrev pub with_member : Field → (Data → Data) → Option Data → Members �
 with_member field show None others = others
 with_member field show (Some d) others = member (field_name field) (show d) others
 
--- each field stands with how its value is shown
+-- each field, with how its value is shown
 abbrev pub shown_members : List (Field × (Data → Data)) → Data → Members
 shown_members [] v = no_members
 shown_members (f ∷ fs) v = with_member f.0 f.1 (value_at f.0 v) (shown_members fs v)

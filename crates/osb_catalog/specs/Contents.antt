@@ -14,7 +14,7 @@ use Rattle.osb_catalog.specs.declared.plan.Service.{Service}
 use Rattle.osb_catalog.specs.Fields.{value_at, text_at, flag_at, services_of, plans_of, mode_of_plan}
 use Rattle.osb_catalog.specs.Items.{each, all_of_each}
 use Rattle.osb_catalog.specs.Modes.{timing_at}
-use Rattle.osb_catalog.specs.Logins.{token_at}
+use Rattle.osb_catalog.specs.Logins.{tokens_at}
 use Rattle.osb_catalog.specs.Catalog.{catalog_text}
 use Rattle.osb_catalog.specs.SettingsData.{SettingsData}
 
@@ -61,6 +61,6 @@ contents_of file = record {
   services = each service_of (services_of file);
   plans = all_of_each (plans_of_service file) (services_of file);
   order_limit = order_limit_of file;
-  platform_token = token_at the.Platform file;
-  backend_token = token_at the.Backend file;
+  platform_tokens = tokens_at the.Platform file;
+  backend_tokens = tokens_at the.Backend file;
 }

@@ -1,4 +1,4 @@
--- Which settings a file has, or the first fault that stands anywhere in it.
+-- Which settings a file has, or the first fault anywhere in it.
 use Rattle.std.specs.Prelude.{ℕ, List, [], ◌∷◌, Bool, Option, Some, None, option_map, Result, Ok, Err, if◌then◌else◌}
 use Rattle.serde_json.specs.Data.{Data}
 use Rattle.osb_text.specs.Reading.{object_of}

@@ -26,7 +26,7 @@ use Rattle.osb_catalog.specs.Logins.{refuses_login}
 abbrev pub breaks_at : List FieldRule → Field → Data → Bool
 breaks_at rules field v = is_some_and (λ found. bytes_eq (field_name found) (field_name field)) (first_broken rules v)
 
--- the id stands twice among these
+-- the id is twice among these
 abbrev pub stands_twice : List (List ℕ) → List ℕ → Bool
 stands_twice [] id = false
 stands_twice (other ∷ ids) id = if bytes_eq id other then is_among id ids else stands_twice ids id

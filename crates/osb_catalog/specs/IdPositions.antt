@@ -7,7 +7,7 @@ use Rattle.osb_catalog.specs.declared.id_positions.IdPositions.{IdPositions}
 abbrev pub id_position_in : IdPositions → List ℕ → Option ℕ
 id_position_in places id = get_by_text places.by_id id
 
--- the first place of the id, where the first of the ids stands at `from`
+-- the first place of the id, where the first of the ids is at `from`
 abbrev pub id_position_from : ℕ → List (List ℕ) → List ℕ → Option ℕ
 id_position_from from ids id = position_from (λ other. bytes_eq other id) from ids
 

@@ -1,4 +1,4 @@
--- Ids, and those that stand twice.
+-- Ids, and those that are there twice.
 use Rattle.std.specs.Prelude.{ℕ, List, [], ◌∷◌, bytes_eq, Bool, false, ◌||◌}
 use Rattle.std.specs.List.{list_any}
 use Rattle.serde_json.specs.Data.{Data, Items}
@@ -9,7 +9,7 @@ use Rattle.osb_catalog.specs.Items.{each, all_of_each}
 abbrev pub is_among : List ℕ → List (List ℕ) → Bool
 is_among id ids = list_any (bytes_eq id) ids
 
--- some id stands twice
+-- some id is there twice
 abbrev pub has_double : List (List ℕ) → Bool
 has_double [] = false
 has_double (id ∷ ids) = is_among id ids || has_double ids

@@ -13,11 +13,11 @@ data_of s = record {
   services = s.services.items;
   plans = s.plans.items;
   order_limit = s.order_limit;
-  platform_token = s.platform_token;
-  backend_token = s.backend_token;
+  platform_tokens = s.platform_tokens.items;
+  backend_tokens = s.backend_tokens.items;
 }
 
--- the settings are sound, and their services and plans stand at the places that are kept of their ids
+-- the settings are sound, and their services and plans are at the places that are kept of their ids
 pub record AreIndexed (s : Inside) : Type 0 where
   pub sound : IsSettings (data_of s)
   pub services : AreIdPositionsOf s.service_places (map (λ (service : Service). service.id) s.services.items)

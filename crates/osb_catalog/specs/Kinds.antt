@@ -52,8 +52,12 @@ abbrev pub has_text : Field → Data → Bool
 has_text field d = is_some_and is_text (value_at field d)
 
 -- an object with the texts `user` and `password`
+abbrev pub is_plain_login : Data → Bool
+is_plain_login d = is_object d && has_text the.User d && has_text the.Password d
+
+-- the same, and if it has an `also`, that is such an object too
 abbrev pub is_login_object : Data → Bool
-is_login_object d = is_object d && has_text the.User d && has_text the.Password d
+is_login_object d = is_plain_login d && is_none_or is_plain_login (value_at the.Also d)
 
 -- an object with the text `version`, and where it has a `description` that is a text
 abbrev pub is_maintenance_info : Data → Bool

@@ -4,7 +4,7 @@
 pub mod Rules
 pub mod SettingsData
 pub mod Sound
--- Which settings a file has, or the first fault that stands anywhere in it.
+-- Which settings a file has, or the first fault anywhere in it.
 pub mod Faults
 pub mod Order
 pub mod FaultNames

@@ -27,7 +27,7 @@ abbrev pub item_pieces : (Data → Data) → Items → List (List ℕ)
 item_pieces show no_items = []
 item_pieces show (item d ds) = compact_text (show d) ∷ item_pieces show ds
 
--- with commas between them, and one before the first where something stands before
+-- with commas between them, and one before the first where something comes before
 abbrev pub joined_by_commas : Bool → List (List ℕ) → List ℕ
 joined_by_commas later [] = []
 joined_by_commas later (t ∷ ts) = (comma_if later ++ t) ++ joined_by_commas true ts

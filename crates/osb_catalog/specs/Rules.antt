@@ -14,8 +14,8 @@ pub record Rules : Type 0 where
   pub plan : List ℕ → List ℕ → Option PlanFacts
   pub mode : List ℕ → Option Mode
   pub order_limit : ℕ
-  pub platform_token : List ℕ
-  pub backend_token : List ℕ
+  pub platform_tokens : List (List ℕ)
+  pub backend_tokens : List (List ℕ)
 
 abbrev pub service_named : List Service → List ℕ → Option Service
 service_named services id = find (λ s. bytes_eq s.id id) services
@@ -34,8 +34,8 @@ rules_of s = record {
   plan = λ service plan. option_and_then (facts_in service) (plan_named s.plans plan);
   mode = λ plan. option_map (λ p. p.mode) (plan_named s.plans plan);
   order_limit = s.order_limit;
-  platform_token = s.platform_token;
-  backend_token = s.backend_token;
+  platform_tokens = s.platform_tokens;
+  backend_tokens = s.backend_tokens;
 }
 
 -- whether an update may change the context of the service's instances, false for an unknown service

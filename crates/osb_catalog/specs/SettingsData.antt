@@ -8,5 +8,5 @@ pub record SettingsData : Type 0 where
   pub services : List Service
   pub plans : List Plan
   pub order_limit : ℕ
-  pub platform_token : List ℕ
-  pub backend_token : List ℕ
+  pub platform_tokens : List (List ℕ)
+  pub backend_tokens : List (List ℕ)

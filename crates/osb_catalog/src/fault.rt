@@ -6,7 +6,7 @@ use crate::field::Field;
 use std::alloc::{AllocError, AllocFailed};
 use thiserror::Error;
 
-/// Why a file gives no settings: of the faults that stand anywhere in it, the one of the lowest number.
+/// Why a file gives no settings: of the faults anywhere in it, the one of the lowest number.
 ///
 /// Its text is the number and the name, and the field of `Missing` and `LeftOut`, as `2 Missing id`.
 #[derive(Clone, Copy, Debug, Drop, PartialEq, Eq, Error)]

@@ -7,7 +7,7 @@ use std::fmt;
 
 /// The fields that a settings file may have, and those of the standard that it must leave out.
 ///
-/// One name may stand in several objects, as `id` in services and plans.
+/// One name may be in several objects, as `id` in services and plans.
 #[derive(Clone, Copy, Debug, Drop, PartialEq, Eq)]
 pub enum Field {
     Platform,
@@ -17,6 +17,7 @@ pub enum Field {
     OrdersPerInstance,
     User,
     Password,
+    Also,
     Services,
     Id,
     Name,
@@ -55,6 +56,7 @@ impl Field {
             Field::OrdersPerInstance => "orders_per_instance",
             Field::User => "user",
             Field::Password => "password",
+            Field::Also => "also",
             Field::Services => "services",
             Field::Id => "id",
             Field::Name => "name",

@@ -6,7 +6,7 @@ ghost use Rattle.osb_catalog.specs.IdSet.{texts};
 use std::alloc::{AllocError, Global};
 use std::collections::BTreeMap;
 
-/// Where each id of a list stands in it, so that a look-up takes the logarithm of their number.
+/// Where each id of a list is in it, so that a look-up takes the logarithm of their number.
 #[derive(Drop)]
 pub struct IdPositions {
     by_id: BTreeMap<String, usize>,

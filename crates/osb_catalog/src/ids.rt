@@ -1,4 +1,4 @@
-//! The ids of services and plans, and whether one of them stands twice.
+//! The ids of services and plans, and whether one of them is there twice.
 
 ghost use Rattle.std.specs.Prelude.{◌≡◌, ◌++◌, ℕ, List, IfOk, OnOk};
 ghost use Rattle.serde_json.specs.View.{view, items_view};
@@ -52,7 +52,7 @@ fn push_ids<'a>(ids: &mut Vec<&'a str>, items: &'a [Value]) -> Result<(), AllocE
     Ok(())
 }
 
-/// Whether some id stands twice.
+/// Whether some id is there twice.
 fn has_double(alloc: Global, ids: &[&str]) -> Result<bool, AllocError>
     ensures { IfOk result (λ b. b ≡ has_double (texts ids.now)) }
 {

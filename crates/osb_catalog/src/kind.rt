@@ -3,7 +3,7 @@
 ghost use Rattle.std.specs.Prelude.{◌≡◌};
 ghost use Rattle.serde_json.specs.View.{view, items_view, members_view};
 ghost use Rattle.osb_catalog.specs.Items.{all_items, all_members};
-ghost use Rattle.osb_catalog.specs.Kinds.{fits, is_empty, is_text, is_object_or_null, are_objects, are_some_objects, has_text, is_login_object, is_maintenance_info, is_timing, is_order_limit};
+ghost use Rattle.osb_catalog.specs.Kinds.{fits, is_empty, is_text, is_object_or_null, are_objects, are_some_objects, has_text, is_plain_login, is_login_object, is_maintenance_info, is_timing, is_order_limit};
 
 use crate::field::Field;
 use crate::member::value_at;
@@ -18,7 +18,8 @@ pub enum Kind {
     ObjectOfObjects,
     ObjectList,
     NonEmptyObjectList,
-    /// An object with the texts `user` and `password`.
+    /// An object with the texts `user` and `password`, whose `also`, if it has one, is such an
+    /// object too.
     Login,
     /// A text of 1 to 256 bytes without control characters.
     IdText,
@@ -34,7 +35,7 @@ pub enum Kind {
     MaintenanceInfo,
     /// `synchronous` or `asynchronous`.
     Timing,
-    /// False alone.
+    /// Only `false`.
     False,
     EmptyList,
     /// No value is of this kind.
@@ -123,10 +124,20 @@ fn has_text(object: &Value, field: Field) -> bool
     value_at(object, field).is_some_and(|found| found.is_string())
 }
 
+fn is_plain_login(value: &Value) -> bool
+    ensures { result ≡ is_plain_login (view value.now) }
+{
+    value.is_object() && has_text(value, Field::User) && has_text(value, Field::Password)
+}
+
 fn is_login_object(value: &Value) -> bool
     ensures { result ≡ is_login_object (view value.now) }
 {
-    value.is_object() && has_text(value, Field::User) && has_text(value, Field::Password)
+    let also_fits = match value_at(value, Field::Also) {
+        Some(also) => is_plain_login(also),
+        None => true,
+    };
+    is_plain_login(value) && also_fits
 }
 
 fn is_maintenance_info(value: &Value) -> bool

@@ -9,8 +9,8 @@ ghost use Rattle.osb_catalog.specs.SettingsData.{SettingsData};
 ghost use Rattle.osb_catalog.specs.declared.fault.SettingsFault.{SettingsFault as TheFault};
 ghost use Rattle.osb_catalog.specs.declared.fault.SettingsFault.TheVariants.{Text};
 
-/// A file has settings only where no fault stands anywhere in it, and otherwise the fault that is
-/// named stands, and none of a lower number does.
+/// A file has settings only where no fault is anywhere in it, and otherwise the fault that is
+/// named is there, and none of a lower number.
 #[tactic(auto, using(crate::proofs::FaultOrder::judged))]
 pub fn lowest()
     ensures { (bytes : List ℕ) → IsJudged (Stands bytes) (settings_of bytes) }

@@ -2,7 +2,7 @@
 //! orders an instance may have, and the logins of platform and backend.
 //!
 //! `Settings::read` reads them from a JSON file, or names the fault of the lowest number that
-//! stands anywhere in it. What a file must and may have is a table, `specs/Tables.antt`; what the
+//! is anywhere in it. What a file must and may have is a table, `specs/Tables.antt`; what the
 //! platform is shown of it is another, `specs/Catalog.antt`.
 #![tactic(auto)]
 

@@ -2,7 +2,7 @@
 
 ghost use Rattle.std.specs.Prelude.{◌≡◌, IfOk};
 ghost use Rattle.serde_json.specs.View.{view};
-ghost use Rattle.osb_catalog.specs.Logins.{has_colon, is_user, is_password, refuses_login, refuses_login_at, refuses_logins, token, token_at};
+ghost use Rattle.osb_catalog.specs.Logins.{has_colon, is_user, is_password, refuses_plain_login, refuses_login, refuses_login_at, refuses_logins, token, token_of_login, tokens_of_login, tokens_at};
 
 use crate::field::Field;
 use crate::member::{text_at, value_at};
@@ -27,8 +27,16 @@ fn refuses_login_at(file: &Value, door: Field) -> bool
     }
 }
 
+/// Whether a user or password of the login, or of its `also`, is not usable.
 pub(crate) fn refuses_login(login: &Value) -> bool
     ensures { result ≡ refuses_login (view login.now) }
+{
+    refuses_plain_login(login)
+        || value_at(login, Field::Also).is_some_and(|also| refuses_plain_login(also))
+}
+
+fn refuses_plain_login(login: &Value) -> bool
+    ensures { result ≡ refuses_plain_login (view login.now) }
 {
     !is_user(text_at(login, Field::User)) || !is_password(text_at(login, Field::Password))
 }
@@ -52,18 +60,35 @@ fn has_colon(text: &str) -> bool
     text.as_bytes().iter().any(|byte| *byte == b':')
 }
 
-/// The token of the login under the field.
-pub(crate) fn token_at(alloc: Global, file: &Value, door: Field) -> Result<Text, AllocError>
-    ensures { IfOk result (λ t. t ≡ token_at door (view file.now)) }
+/// The tokens of the login under the field: its own, and behind it that of its `also`.
+pub(crate) fn tokens_at(alloc: Global, file: &Value, door: Field) -> Result<Vec<Text>, AllocError>
+    ensures { IfOk result (λ tokens. tokens.items ≡ tokens_at door (view file.now)) }
 {
     match value_at(file, door) {
-        Some(login) => token(
-            alloc,
-            text_at(login, Field::User),
-            text_at(login, Field::Password),
-        ),
-        None => token(alloc, "", ""),
+        Some(login) => tokens_of_login(alloc, login),
+        None => Ok(Vec::new(alloc)),
     }
+}
+
+fn tokens_of_login(alloc: Global, login: &Value) -> Result<Vec<Text>, AllocError>
+    ensures { IfOk result (λ tokens. tokens.items ≡ tokens_of_login (view login.now)) }
+{
+    let mut tokens = Vec::new(alloc);
+    tokens.push(token_of_login(alloc, login)?)?;
+    if let Some(also) = value_at(login, Field::Also) {
+        tokens.push(token_of_login(alloc, also)?)?;
+    }
+    Ok(tokens)
+}
+
+fn token_of_login(alloc: Global, login: &Value) -> Result<Text, AllocError>
+    ensures { IfOk result (λ t. t ≡ token_of_login (view login.now)) }
+{
+    token(
+        alloc,
+        text_at(login, Field::User),
+        text_at(login, Field::Password),
+    )
 }
 
 /// User, colon and password in padded standard base64 (RFC 7617, section 2).

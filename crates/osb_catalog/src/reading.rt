@@ -11,7 +11,7 @@ use crate::fault::SettingsFault;
 use crate::field::Field;
 use crate::id_positions::IdPositions;
 use crate::ids::{has_double_id, plan_ids, service_ids};
-use crate::login::{refuses_logins, token_at};
+use crate::login::{refuses_logins, tokens_at};
 use crate::member::services_of;
 use crate::missing::{first_left_out, first_missing};
 use crate::mode::refuses_modes;
@@ -23,7 +23,7 @@ use serde_json::Value;
 use std::alloc::Global;
 
 impl Settings {
-    /// The settings of a file, or the fault of the lowest number that stands anywhere in it.
+    /// The settings of a file, or the fault of the lowest number anywhere in it.
     ///
     /// `Memory` comes only where an allocation failed, and then in place of any of these. The time
     /// grows as the file's length times the logarithm of its number of plans, modes and names.
@@ -84,7 +84,7 @@ fn read_contents(alloc: Global, file: &Value) -> Result<Settings, SettingsFault>
         plans: read_plans(alloc, file, services)?,
         plan_places: IdPositions::new(alloc, plan_ids.as_slice())?,
         order_limit: read_order_limit(file),
-        platform_token: token_at(alloc, file, Field::Platform)?,
-        backend_token: token_at(alloc, file, Field::Backend)?,
+        platform_tokens: tokens_at(alloc, file, Field::Platform)?,
+        backend_tokens: tokens_at(alloc, file, Field::Backend)?,
     })
 }

@@ -22,8 +22,8 @@ pub struct Settings {
     pub(crate) plans: Vec<Plan>,
     pub(crate) plan_places: IdPositions,
     pub(crate) order_limit: u32,
-    pub(crate) platform_token: Text,
-    pub(crate) backend_token: Text,
+    pub(crate) platform_tokens: Vec<Text>,
+    pub(crate) backend_tokens: Vec<Text>,
 }
 
 impl Model for Settings {
@@ -95,19 +95,19 @@ impl Settings {
         self.order_limit
     }
 
-    /// What follows `Basic ` in the platform's requests: its user, a colon and its password in
-    /// padded standard base64 (RFC 7617, section 2).
-    pub fn platform_token(&self) -> &str
-        ensures { result.now ≡ (rules_of self.now).platform_token }
+    /// What may follow `Basic ` in the platform's requests: user, colon and password in padded
+    /// standard base64 (RFC 7617, section 2). Behind that of its login is that of `also`.
+    pub fn platform_tokens(&self) -> &[Text]
+        ensures { result.now ≡ (rules_of self.now).platform_tokens }
     {
-        self.platform_token.as_str()
+        self.platform_tokens.as_slice()
     }
 
     /// The same for the backend's requests.
-    pub fn backend_token(&self) -> &str
-        ensures { result.now ≡ (rules_of self.now).backend_token }
+    pub fn backend_tokens(&self) -> &[Text]
+        ensures { result.now ≡ (rules_of self.now).backend_tokens }
     {
-        self.backend_token.as_str()
+        self.backend_tokens.as_slice()
     }
 
     /// The numbers of services and of plans.

@@ -254,7 +254,7 @@ fn list_text(alloc: Global, items: &[Text]) -> Result<Text, AllocError>
     enclosed(alloc, "[", items, "]")
 }
 
-/// The texts with commas between them, and what stands before and after.
+/// The texts with commas between them, and what comes before and after.
 fn enclosed(alloc: Global, before: &str, texts: &[Text], after: &str) -> Result<Text, AllocError>
     ensures { IfOk result (λ t. t ≡ enclosed before.now texts.now after.now) }
 {

@@ -1,18 +1,20 @@
 -- What a command has done.
-use Rattle.std.proofs.Common.{◌≡◌, ◌≢◌, ◌∙◌, ◌++◌, refl, sym, ap, subst, Bor, true, bytes_eq, ℕ, List, [], ◌∷◌, map, codes, Option, None, option_map, unwrap_or, Result, Ok, Err, IsOk, OnOk, IfErr}
+use Rattle.std.proofs.Common.{◌≡◌, ◌≢◌, ◌∙◌, ◌++◌, refl, sym, ap, subst, Bor, true, false, bytes_eq, ℕ, List, [], ◌∷◌, map, codes, Option, None, option_map, unwrap_or, Result, Ok, Err, IsOk, OnOk, IfErr}
 use Rattle.std.proofs.lemmas.Bool.{false≢true}
+use Rattle.std.proofs.lemmas.Slice.Eq.{bytes_eq-Decides}
 use Rattle.clap.specs.Words.{subcommand_of, takes}
 use Rattle.clap.proofs.OnLiterals.{clap_on_literals}
-use Rattle.osb_cli.specs.Done.{AreChecked, AreConnections, IsBackedUp, IsDone, IsReplayedBy}
+use Rattle.osb_cli.specs.Done.{AreChecked, AreConnections, IsBackedUp, IsDone, IsReplayedBy, IsTrimmed}
 use Rattle.osb_listen.specs.Listen.{listening_line}
 use Rattle.osb_cli.specs.Files.{AreBytesOfAll, Contents}
-use Rattle.osb_cli.specs.Inside.{IsReplayedFor, AsksBackup, AsksCheck, AsksReplay, AsksServe}
+use Rattle.osb_cli.specs.Inside.{IsReplayedFor, AsksBackup, AsksCheck, AsksReplay, AsksServe, AsksTrim}
 use Rattle.osb_cli.specs.Grammar.{osb_broker}
 use Rattle.osb_cli.specs.Words.{FoundCommand, Names}
 use Rattle.osb_cli.specs.declared.words.Backup.{Backup}
 use Rattle.osb_cli.specs.declared.words.Check.{Check}
 use Rattle.osb_cli.specs.declared.words.Listen.{Listen}
 use Rattle.osb_cli.specs.declared.words.Replay.{Replay}
+use Rattle.osb_cli.specs.declared.words.Trim.{Trim}
 
 -- without words there is no command
 pub nothing_named : subcommand_of osb_broker [] ≡ None
@@ -30,14 +32,10 @@ of_files contents [] input files some are = absurd (some refl)
 of_files contents (name ∷ names) input files some are = are
 
 -- no words name two commands
-pub not_both : (found : FoundCommand) → Names (codes "check") found → Names (codes "serve") found → ⊥
-not_both found checks serves = false≢true (sym (ap (λ (name : Option (List ℕ)). bytes_eq (unwrap_or name []) (codes "check")) (sym checks ∙ serves)))
-
-pub backs_up_only : (found : FoundCommand) → Names (codes "backup") found → Names (codes "serve") found → ⊥
-backs_up_only found backs_up serves = false≢true (sym (ap (λ (name : Option (List ℕ)). bytes_eq (unwrap_or name []) (codes "backup")) (sym backs_up ∙ serves)))
-
-checks_only : (found : FoundCommand) → Names (codes "backup") found → Names (codes "check") found → ⊥
-checks_only found backs_up checks = false≢true (sym (ap (λ (name : Option (List ℕ)). bytes_eq (unwrap_or name []) (codes "backup")) (sym backs_up ∙ checks)))
+pub not_both : (found : FoundCommand) (one other : List ℕ) → bytes_eq one other ≡ false → Names one found → Names other found → ⊥
+not_both found one other apart first second =
+    let same : one ≡ other = ap (λ (name : Option (List ℕ)). unwrap_or name []) (sym first ∙ second) in
+    false≢true (sym apart ∙ (bytes_eq-Decides one other).1 same)
 
 -- what was done well without a file was done well
 pub done_well : {A B E F : Type 0} (done : Result A E) (told : Result B F) (P : Type 0) → OnOk told (IsOk done) → OnOk done P → OnOk told P
@@ -58,19 +56,21 @@ module _ (contents : Contents) (IsMade : List ℕ → List ℕ → Type 0) (foun
       → IsDone contents IsMade found input old new
   is_backed_up asked asks done = record {
     backup = λ _. rw (asks.database, asks.to) at done;
-    check = λ is. absurd (checks_only found asks.named is);
-    serve = λ is. absurd (backs_up_only found asks.named is);
-    replay = λ other another one. absurd (other asks.named);
+    check = λ is. absurd (not_both found (codes "backup") (codes "check") refl asks.named is);
+    serve = λ is. absurd (not_both found (codes "backup") (codes "serve") refl asks.named is);
+    trim = λ is. absurd (not_both found (codes "backup") (codes "trim") refl asks.named is);
+    replay = λ other _ _ _. absurd (other asks.named);
   }
 
   pub is_checked : (asked : Check) → AsksCheck found asked
       → AreChecked contents (option_map (λ it. it.now) asked.settings) (option_map (λ it. it.now) asked.database) old new
       → IsDone contents IsMade found input old new
   is_checked asked asks checked = record {
-    backup = λ is. absurd (checks_only found is asks.named);
+    backup = λ is. absurd (not_both found (codes "check") (codes "backup") refl asks.named is);
     check = λ _. rw (asks.settings, asks.database) at checked;
-    serve = λ is. absurd (not_both found asks.named is);
-    replay = λ other another one. absurd (another asks.named);
+    serve = λ is. absurd (not_both found (codes "check") (codes "serve") refl asks.named is);
+    trim = λ is. absurd (not_both found (codes "check") (codes "trim") refl asks.named is);
+    replay = λ _ other _ _. absurd (other asks.named);
   }
 
   pub is_replayed : (asked : Replay) → AsksReplay found asked
@@ -80,16 +80,28 @@ module _ (contents : Contents) (IsMade : List ℕ → List ℕ → Type 0) (foun
     backup = λ is. absurd (asks.no_backup is);
     check = λ is. absurd (asks.no_check is);
     serve = λ is. absurd (asks.no_serve is);
-    replay = λ _ _ _. (asked.per_connection.number, asks.per_connection, rw (asks.settings, asks.connections) at replayed);
+    trim = λ is. absurd (asks.no_trim is);
+    replay = λ _ _ _ _. (asked.per_connection.number, asks.per_connection, rw (asks.settings, asks.connections) at replayed);
   }
 
   pub is_listened : (asked : Listen) → AsksServe found asked → new ≡ old ++ listening_line asked.place.address.now
       → IsDone contents IsMade found input old new
   is_listened asked asks told = record {
-    backup = λ is. absurd (backs_up_only found is asks.named);
-    check = λ checks. absurd (not_both found checks asks.named);
+    backup = λ is. absurd (not_both found (codes "serve") (codes "backup") refl asks.named is);
+    check = λ is. absurd (not_both found (codes "serve") (codes "check") refl asks.named is);
     serve = λ _. rw asks.address at told;
-    replay = λ other another one. absurd (one asks.named);
+    trim = λ is. absurd (not_both found (codes "serve") (codes "trim") refl asks.named is);
+    replay = λ _ _ other _. absurd (other asks.named);
+  }
+
+  pub is_trimmed : (asked : Trim) → AsksTrim found asked → IsTrimmed contents IsMade asked.database.now old new
+      → IsDone contents IsMade found input old new
+  is_trimmed asked asks done = record {
+    backup = λ is. absurd (not_both found (codes "trim") (codes "backup") refl asks.named is);
+    check = λ is. absurd (not_both found (codes "trim") (codes "check") refl asks.named is);
+    serve = λ is. absurd (not_both found (codes "trim") (codes "serve") refl asks.named is);
+    trim = λ _. rw asks.database at done;
+    replay = λ _ _ _ other. absurd (other asks.named);
   }
 
   -- without words the input is replayed
@@ -98,5 +110,5 @@ module _ (contents : Contents) (IsMade : List ℕ → List ℕ → Type 0) (foun
     where
       plain : IsDone contents IsMade None input old new → IsReplayedBy contents None 1 [] input old new
       plain it =
-          let replay = it.replay (λ is. cc) (λ is. cc) (λ is. cc) in
+          let replay = it.replay (λ is. cc) (λ is. cc) (λ is. cc) (λ is. cc) in
           subst (λ most. IsReplayedBy contents None most [] input old new) replay.1 replay.2

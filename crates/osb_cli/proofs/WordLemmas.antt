@@ -14,7 +14,7 @@ has_no_globals true false true rest h = cc
 has_no_globals true true c rest h = cc
 has_no_globals false b c rest h = cc
 
--- a text that is lent, or what stands in its place
+-- a text that is lent, or what takes its place
 pub text_or : (o : Option (Bor (List ℕ))) (result other : Bor (List ℕ)) (text : Option (List ℕ))
     → result ≡ unwrap_or o other → option_map (λ it. it.now) o ≡ text → result.now ≡ unwrap_or text other.now
 text_or None result other text is found = ap (λ it. it.now) is ∙ ap (λ o. unwrap_or o other.now) found

@@ -9,6 +9,7 @@ use Rattle.osb_file.specs.declared.seen.Seen.TheVariants.{New, Counted}
 use Rattle.osb_file.specs.File.{HasTrees}
 use Rattle.osb_file.specs.Looked.{IsSeenAs, image_in}
 use Rattle.osb_file.specs.OneFile.{IsInOne}
+use Rattle.osb_file.specs.Trimmed.{IsTrimmedInOne}
 use Rattle.osb_audit.specs.declared.counting.Counts.{Counts}
 use Rattle.osb_cli.specs.Replay.{IsReplayed}
 use Rattle.osb_listen.specs.Listen.{listening_line}
@@ -81,7 +82,23 @@ pub record IsReplayedBy (contents : Contents) (file : Option (List ℕ)) (most :
   pub given : AreConnections contents names input connections
   pub replayed : IsReplayed (rules_of settings) most connections old new
 
--- what `backup` has made and written, what `check` has written, what `serve`, and what `replay`, also without its name
+abbrev pub trimmed_line : ℕ → ℕ → ℕ → List ℕ
+trimmed_line count before after =
+    codes "trimmed " ++ (decimal count ++ (codes ", bytes " ++ (decimal before
+    ++ (codes ", now " ++ (decimal after ++ codes "\n")))))
+
+-- In the place of a database file and its log is one file, in which their lives are trimmed, and the line was written.
+pub record IsTrimmed (contents : Contents) (IsMade : List ℕ → List ℕ → Type 0) (name old new : List ℕ) : Type 0 where
+  pub files : Copied
+  pub copy : IsCopyOf contents name files
+  pub bytes : List ℕ
+  pub made : IsMade name bytes
+  pub trimmed : IsTrimmedInOne (image_in files) bytes
+  pub count : ℕ
+  pub written : new ≡ old ++ trimmed_line count (length files.database.items) (length bytes)
+
+-- what `backup` has made and written, what `check` has written, what `serve`, what `trim` has made and written, and what
+-- `replay` has written, also without its name
 pub record IsDone (contents : Contents) (IsMade : List ℕ → List ℕ → Type 0) (found : FoundCommand) (input : Option (List ℕ)) (old new : List ℕ) : Type 0 where
   pub backup : Names (codes "backup") found → IsBackedUp contents IsMade
       (unwrap_or (text_in (codes "database") found) []) (unwrap_or (text_in (codes "to") found) []) old new
@@ -89,6 +106,8 @@ pub record IsDone (contents : Contents) (IsMade : List ℕ → List ℕ → Type
       AreChecked contents (text_in (codes "settings") found) (text_in (codes "database") found) old new
   pub serve : Names (codes "serve") found →
       new ≡ old ++ listening_line (unwrap_or (text_in (codes "listen") found) [])
+  pub trim : Names (codes "trim") found →
+      IsTrimmed contents IsMade (unwrap_or (text_in (codes "database") found) []) old new
   pub replay : ¬ Names (codes "backup") found → ¬ Names (codes "check") found → ¬ Names (codes "serve") found
-      → (most : ℕ) × HasPerConnection found most
+      → ¬ Names (codes "trim") found → (most : ℕ) × HasPerConnection found most
       × IsReplayedBy contents (text_in (codes "settings") found) most (texts_in (codes "connections") found) input old new

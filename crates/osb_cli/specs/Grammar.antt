@@ -60,9 +60,13 @@ serve_command = with_rule (with_rule (with_rule (with_rule (with_rule (with_rule
     (number_option (codes "connections") 1000000)) (number_option (codes "time-limit") 86400))
     (number_option (codes "together") 1024)
 
+abbrev pub trim_command : App
+trim_command = with_rule (new_app (codes "trim")) (required_word (codes "database"))
+
 -- the words come without the program's name, and `help` is no command
 abbrev pub osb_broker : App
-osb_broker = with_subcommand (with_subcommand (with_subcommand (with_subcommand
+osb_broker = with_subcommand (with_subcommand (with_subcommand (with_subcommand (with_subcommand
     (on_top (λ s. record s { no_binary_name = true; disable_help_subcommand = true; has_version = true })
     (new_app (codes "osb-broker")))
-    backup_command.top) check_command.top) replay_command.top) serve_command.top
+    backup_command.top) check_command.top) replay_command.top) serve_command.top)
+    trim_command.top

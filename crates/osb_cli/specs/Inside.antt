@@ -1,7 +1,11 @@
 -- What the words ask for, and what was done of it. For contracts inside the crate.
-use Rattle.std.specs.Prelude.{ℕ, List, map, Option, option_map, ◌≡◌, ⊤, ◌*◌, [], codes, unwrap_or}
+use Rattle.std.specs.Prelude.{ℕ, List, length, map, Option, option_map, ◌≡◌, ⊤, ◌*◌, [], codes, unwrap_or}
 use Rattle.osb_cli.specs.declared.words.Replay.{Replay}
-use Rattle.osb_cli.specs.Files.{Contents}
+use Rattle.osb_file.specs.declared.copied.Copied.{Copied}
+use Rattle.osb_file.specs.Looked.{image_in}
+use Rattle.osb_file.specs.Trimmed.{IsTrimmedInOne}
+use Rattle.osb_cli.specs.declared.trim.Trimmed.{Trimmed}
+use Rattle.osb_cli.specs.Files.{Contents, IsCopyOf}
 use Rattle.osb_cli.specs.Done.{IsReplayedBy}
 use Rattle.sqlite.specs.Tree.{Trees}
 use Rattle.osb_listen.specs.declared.fault.ListenFault.{ListenFault}
@@ -19,6 +23,7 @@ use Rattle.clap.specs.declared.parser.matches.ArgMatches.{ArgMatches}
 use Rattle.osb_cli.specs.declared.words.Backup.{Backup}
 use Rattle.osb_cli.specs.declared.words.Check.{Check}
 use Rattle.osb_cli.specs.declared.words.Listen.{Listen}
+use Rattle.osb_cli.specs.declared.words.Trim.{Trim}
 use Rattle.osb_cli.specs.declared.words.Job.{Job}
 use Rattle.osb_cli.specs.declared.words.Job.TheVariants as order
 use Rattle.osb_cli.specs.Words.{FoundCommand, Names, text_in, texts_in, one_text_in, HasNumber, HasPerConnection, HasConnections, HasExisting, HasTogether}
@@ -58,6 +63,7 @@ pub record AsksReplay (found : FoundCommand) (asked : Replay) : Type 0 where
   pub no_backup : ¬ Names (codes "backup") found
   pub no_check : ¬ Names (codes "check") found
   pub no_serve : ¬ Names (codes "serve") found
+  pub no_trim : ¬ Names (codes "trim") found
   pub settings : option_map (λ it. it.now) asked.settings ≡ text_in (codes "settings") found
   pub connections : map (λ it. it.now) asked.connections.items ≡ texts_in (codes "connections") found
   pub per_connection : HasPerConnection found asked.per_connection.number
@@ -85,12 +91,24 @@ pub record AsksBackup (found : FoundCommand) (asked : Backup) : Type 0 where
   pub database : asked.database.now ≡ unwrap_or (text_in (codes "database") found) []
   pub to : asked.to.now ≡ unwrap_or (text_in (codes "to") found) []
 
+pub record AsksTrim (found : FoundCommand) (asked : Trim) : Type 0 where
+  pub named : Names (codes "trim") found
+  pub database : asked.database.now ≡ unwrap_or (text_in (codes "database") found) []
+
+-- the lives of the file of this name and its log, trimmed
+pub record IsTrimmedOf (contents : Contents) (name : List ℕ) (trimmed : Trimmed) : Type 0 where
+  pub files : Copied
+  pub copy : IsCopyOf contents name files
+  pub is : IsTrimmedInOne (image_in files) trimmed.file.bytes.items
+  pub before : trimmed.before ≡ length files.database.items
+
 -- the order is what the words ask for
 abbrev pub Asks : FoundCommand → Job → Type 0
 Asks found (order.Backup asked) = AsksBackup found asked
 Asks found (order.Check asked) = AsksCheck found asked
 Asks found (order.Replay asked) = AsksReplay found asked
 Asks found (order.Serve asked) = AsksServe found asked
+Asks found (order.Trim asked) = AsksTrim found asked
 
 -- the fault isn't one of settings
 abbrev pub IsOther : faults.Fault → Type 0

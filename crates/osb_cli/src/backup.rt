@@ -18,7 +18,7 @@ use osb_frames::Sink;
 use std::alloc::Global;
 
 /// The fault, with the name of the file that wasn't made.
-fn unmade(fault: Unwritten, name: &str) -> Fault<'_>
+pub(crate) fn unmade(fault: Unwritten, name: &str) -> Fault<'_>
     ensures { IsOther result }
 {
     match fault {

@@ -39,7 +39,11 @@ fn write_counts<W: Sink>(
 }
 
 /// Writes a word and a number behind it. It takes no memory.
-fn write_number<W: Sink>(word: &[u8], number: usize, output: &mut W) -> Result<(), Fault<'static>>
+pub(crate) fn write_number<W: Sink>(
+    word: &[u8],
+    number: usize,
+    output: &mut W,
+) -> Result<(), Fault<'static>>
     ensures written { OnOk result (W.taken output.new
         ≡ W.taken output.old ++ (word.now ++ decimal number)) }
     ensures other { IfErr result IsOther }

@@ -23,6 +23,7 @@ use crate::listen::listen;
 use crate::output::write;
 use crate::replay::{replay_files, replay_input};
 use crate::settings::settings_or_built_in;
+use crate::trim::trim;
 use crate::words::{Job, Replay, read};
 use clap::Error;
 use clap::error::ErrorKind;
@@ -133,6 +134,7 @@ fn perform<'a, D: Database, F: NamedFiles, L: Entrance, R: Source, W: Sink, E: S
         Job::Backup(asked) => without_file::<D>(backup(rt.alloc(), files, &asked, output)),
         Job::Check(asked) => without_file::<D>(check(rt.alloc(), files, &asked, output)),
         Job::Replay(asked) => without_file::<D>(replay(rt.alloc(), files, &asked, input, output)),
+        Job::Trim(asked) => without_file::<D>(trim(rt.alloc(), files, &asked, output)),
         Job::Serve(asked) => listen(rt, files, &asked, database, entrance, output, errors),
     }
 }
@@ -167,8 +169,8 @@ fn status_of<E: Sink>(done: Result<(), Unserved<'_>>, errors: &mut E) -> u8
 /// is taken.
 ///
 /// Where the words are those of a command, so no help was asked for, what was written with status 0 is
-/// the lines of `check`, the line of `backup`, which made its file before, the listening line of `serve`,
-/// or exactly the replies of `replay`. Without any words it replays the whole input with the built-in
+/// the lines of `check`, the line of `backup` or `trim`, which made its file before, the listening line of
+/// `serve`, or exactly the replies of `replay`. Without any words it replays the whole input with the built-in
 /// settings, one request.
 ///
 /// `files` are the files that the words name, but for the database of `serve`, which is `database`: what

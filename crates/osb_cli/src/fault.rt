@@ -9,7 +9,8 @@ ghost use Rattle.osb_cli.specs.Lines.{database_fault_line, place_line, settings_
 use itoa::Buffer;
 use osb_catalog::{Place, SettingsFault};
 use osb_file::{FileFault, Unseen};
-use osb_frames::{Sink, send_all};
+use osb_frames::Sink;
+use osb_listen::say;
 use osb_records::StoreFault;
 use osb_text::Text;
 use std::alloc::AllocError;
@@ -98,19 +99,6 @@ impl<'a> From<Fault<'a>> for Unserved<'a> {
 
     fn from(fault: Fault<'a>) -> Self {
         Unserved::Fault(fault)
-    }
-}
-
-/// Writes the pieces, one behind the other. A failed write is passed over.
-pub(crate) fn say<E: Sink>(errors: &mut E, pieces: &[&str])
-    ensures { Says (concat (map (λ it. it.now) pieces.now) ∷ [])
-        (E.taken errors.old) (E.taken errors.new)
-        (E.failed_or_empty errors.old) (E.failed_or_empty errors.new) }
-{
-    for piece in pieces {
-        if send_all(errors, piece.as_bytes()).is_err() {
-            return;
-        }
     }
 }
 

@@ -4,7 +4,7 @@ ghost use Rattle.std.specs.Prelude.{◌≡◌, ℕ, List, IfOk, OnOk};
 ghost use Rattle.osb_cli.specs.Files.{AreBytesOf, Contents, IsCopyOf};
 
 use crate::input::{ReadFault, read_whole};
-use osb_file::{Copied, OneFile, Unseen, Unwritten};
+use osb_file::{Copied, Held, OneFile, Unseen, Unwritten, hold, replace};
 use osb_frames::Counted;
 use std::alloc::Global;
 use std::fs::{self, File};
@@ -31,6 +31,14 @@ pub trait NamedFiles {
 
     /// Takes a file away that was made.
     fn take_away(&self, name: &str);
+
+    /// Locks a database file and its log, as `hold` of osb_file does.
+    fn hold(&self, path: &str) -> Result<Held, Unseen>;
+
+    /// Puts a database in the place of the one that a file of that path and its log have, as `replace` of
+    /// osb_file does.
+    fn replace(&self, held: Held, path: &str, database: &OneFile) -> Result<(), Unwritten>
+        ensures { OnOk result (is_made self.now path.now database.now.bytes.items) };
 }
 
 /// The files of the machine. No contract says what they have.
@@ -69,5 +77,13 @@ impl NamedFiles for HostFiles<'_> {
 
     fn take_away(&self, name: &str) {
         let _ = fs::remove_file(self.rt, name);
+    }
+
+    fn hold(&self, path: &str) -> Result<Held, Unseen> {
+        hold(self.rt, path)
+    }
+
+    fn replace(&self, held: Held, path: &str, database: &OneFile) -> Result<(), Unwritten> {
+        replace(self.rt, held, path, database)
     }
 }

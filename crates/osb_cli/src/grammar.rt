@@ -2,7 +2,7 @@
 
 ghost use Rattle.std.specs.Prelude.{◌≡◌, false, IfOk, IfErr, codes};
 ghost use Rattle.clap.specs.Words.{app_of, new_app, rule_of, kind_of};
-ghost use Rattle.osb_cli.specs.Grammar.{backup_command, check_command, files_word, flag_option, number_option, osb_broker, replay_command, required_option, required_word, serve_command, settings_word, text_option};
+ghost use Rattle.osb_cli.specs.Grammar.{backup_command, check_command, files_word, flag_option, number_option, osb_broker, replay_command, required_option, required_word, serve_command, settings_word, text_option, trim_command};
 
 use clap::error::ErrorKind;
 use clap::{Arg, ArgAction, Command, Error, value_parser};
@@ -74,6 +74,20 @@ standard error, `database: new`; with `--existing` none is begun, and the
 program ends with `database: 3 Missing`. What has not been copied into the file
 yet is in a second one, its name with `-wal` behind. Once one of the two is
 taken away, no connection is answered, and the program ends.";
+
+const TRIM: &str = "Erase what no answer rests on from a database file";
+
+const TRIM_MORE: &str =
+    "Of the orders of an instance up to its last deletion that succeeded it erases
+what they were asked with: service, plan, organization, space, parameters,
+maintenance version and context. No answer changes. Then the file is written
+anew, with nothing of them in it and as small as it can be, and what is printed
+says how many orders were erased and how many bytes the file had and has, as
+`trimmed 3, bytes 12288, now 8192`.
+No broker may run over the file meanwhile. Whatever stops the command, the file
+is the old one or the new one. Otherwise a line on standard error says why, and
+the file stays as it was. Until the new file is whole its name is FILE with
+`-new` behind. Copies made before, as by `backup`, keep what they have.";
 
 const SERVE_USAGE: &str =
     "osb-broker serve --settings FILE --database FILE [--existing] --listen ADDR [--per-connection N] [--connections N] [--time-limit SECONDS] [--together N]";
@@ -276,6 +290,17 @@ fn serve_command<'a>(alloc: Global) -> Result<Command<'a>, Error>
     )
 }
 
+/// `trim` and its words.
+fn trim_command<'a>(alloc: Global) -> Result<Command<'a>, Error>
+    ensures app { IfOk result (λ command. app_of command ≡ trim_command) }
+    ensures err { IfErr result (λ error. kind_of error ≡ ErrorKind.OutOfMemory) }
+{
+    let path = "The database file";
+    Ok(begun(alloc, "trim", TRIM, TRIM_MORE, "osb-broker trim FILE").arg(required_word(
+        alloc, "database", "FILE", path,
+    ))?)
+}
+
 /// All commands and their words.
 pub(crate) fn osb_broker<'a>(alloc: Global) -> Result<Command<'a>, Error>
     ensures app { IfOk result (λ command. app_of command ≡ osb_broker) }
@@ -291,6 +316,7 @@ pub(crate) fn osb_broker<'a>(alloc: Global) -> Result<Command<'a>, Error>
             .subcommand(backup_command(alloc)?)?
             .subcommand(check_command(alloc)?)?
             .subcommand(replay_command(alloc)?)?
-            .subcommand(serve_command(alloc)?)?,
+            .subcommand(serve_command(alloc)?)?
+            .subcommand(trim_command(alloc)?)?,
     )
 }

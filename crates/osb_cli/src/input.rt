@@ -78,7 +78,7 @@ pub(crate) fn read_whole<R: Source>(alloc: Global, source: &mut R) -> Result<Vec
     Err(ReadFault::TooLarge)
 }
 
-/// Reads standard input, or what stands in its place.
+/// Reads standard input, or what takes its place.
 pub(crate) fn read_input<R: Source>(alloc: Global, input: &mut R) -> Result<Vec<u8>, Fault<'static>>
     ensures read { IfOk result (λ bytes. IfSome (R.rest input.old) (λ all. all ≡ bytes.items)) }
     ensures other { IfErr result IsOther }

@@ -15,6 +15,7 @@ mod per_connection;
 mod replay;
 mod settings;
 mod stack;
+mod trim;
 mod unread;
 mod words;
 

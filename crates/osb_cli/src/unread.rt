@@ -3,8 +3,8 @@
 ghost use Rattle.std.specs.Prelude.{◌≡◌, ◌≤◌};
 ghost use Rattle.std.specs.IoError.{error_kind};
 
-use crate::fault::say;
 use osb_frames::Sink;
+use osb_listen::say;
 use std::io::{self, ErrorKind};
 
 /// Reports on `errors` why the words couldn't be read, and gives the status that the process ends

@@ -53,6 +53,13 @@ pub(crate) struct Replay<'a> {
     pub(crate) connections: Vec<&'a str>,
 }
 
+/// What is trimmed.
+#[derive(Clone, Copy, Debug)]
+pub(crate) struct Trim<'a> {
+    /// The path of the database file.
+    pub(crate) database: &'a str,
+}
+
 /// What the words ask for.
 #[derive(Debug, Drop)]
 pub(crate) enum Job<'a> {
@@ -64,6 +71,8 @@ pub(crate) enum Job<'a> {
     Replay(Replay<'a>),
     /// Serve TCP connections.
     Serve(Listen<'a>),
+    /// Erase from a database file what no answer rests on.
+    Trim(Trim<'a>),
 }
 
 /// The most connections that one run takes.
@@ -150,7 +159,8 @@ fn check_order<'a>(found: &ArgMatches<'a>) -> Job<'a>
 /// The order to replay, as the words after `replay` say it.
 fn replay_order<'a>(alloc: Global, found: &ArgMatches<'a>) -> Result<Job<'a>, AllocError>
     ensures { (name : List ℕ) → name ≢ codes "backup" → name ≢ codes "check" →
-        name ≢ codes "serve" → IfOk result (Asks (Some (name, rows_of (found_of found.now)))) }
+        name ≢ codes "serve" → name ≢ codes "trim" →
+        IfOk result (Asks (Some (name, rows_of (found_of found.now)))) }
 {
     Ok(Job::Replay(Replay {
         settings: found.get_str("settings"),
@@ -179,8 +189,16 @@ fn serve_order<'a>(found: &ArgMatches<'a>) -> Job<'a>
     })
 }
 
-/// Reads the words that follow the program's name. Words that are those of a command fail for want of
-/// memory alone; others, and those that ask for help or the version, have an error with its text.
+/// The order to trim, as the words after `trim` say it.
+fn trim_order<'a>(found: &ArgMatches<'a>) -> Job<'a>
+    ensures { Asks (Some (codes "trim", rows_of (found_of found.now))) result }
+{
+    let database = found.get_str("database").unwrap_or("");
+    Job::Trim(Trim { database })
+}
+
+/// Reads the words that follow the program's name. Words that are those of a command fail only where
+/// memory is refused; others, and those that ask for help or the version, have an error with its text.
 pub(crate) fn read<'a>(alloc: Global, words: &'a [String]) -> Result<Job<'a>, Error>
     ensures ok { IfOk result (Asks (found_by (map string_bytes words.now))) }
     ensures err { AreTaken (map string_bytes words.now) →
@@ -191,6 +209,7 @@ pub(crate) fn read<'a>(alloc: Global, words: &'a [String]) -> Result<Job<'a>, Er
         Some(("backup", found)) => Ok(backup_order(found)),
         Some(("check", found)) => Ok(check_order(found)),
         Some(("serve", found)) => Ok(serve_order(found)),
+        Some(("trim", found)) => Ok(trim_order(found)),
         Some((_, found)) => Ok(replay_order(alloc, found)?),
         None => Ok(Job::Replay(Replay {
             settings: None,

@@ -9,5 +9,7 @@ pub mod WholeLemmas
 pub mod PieceLemmas
 pub mod TableReads
 pub mod FormatLemmas
+pub mod PageTexts
+pub mod PageLemmas
 pub mod MigrationLemmas
 pub mod OrderLemmas

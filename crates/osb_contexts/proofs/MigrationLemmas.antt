@@ -1,5 +1,5 @@
 -- The contexts that go in one after another, and the migration.
-use Rattle.std.proofs.Common.{◌≡◌, inl, IsTrue, ℕ, zero, suc, ◌+◌, ◌<◌, add-one, List, [], ◌∷◌, ◌++◌, length, take, get_or, filter, false, Less, Greater, is_eq, refl, sym, ap, subst, ◌∙◌, arith}
+use Rattle.std.proofs.Common.{append-nil, ◌≡◌, inl, IsTrue, ℕ, zero, suc, ◌+◌, ◌<◌, add-one, List, [], ◌∷◌, ◌++◌, length, take, get_or, filter, false, Less, Greater, is_eq, refl, sym, ap, subst, ◌∙◌, arith}
 use Rattle.std.specs.List.{AllByRecursion}
 use Rattle.std.specs.Ordering.{ordering_reverse}
 use Rattle.sqlite.specs.State.{State, HasCleanDisk, KeepsCommit, Survives}
@@ -30,6 +30,16 @@ below [] at entry up low is = absurd (omega (arith, low))
 below (first ∷ entries) zero entry up low is = tt
 below (first ∷ entries) (suc at) entry up low is = (item_of _ entries at entry (omega (arith, low)) is up.0, below entries at entry up.1 (omega (arith, low)) is)
 
+-- and so are those before them all
+module _ (entries : List ContextEntry) (at : ℕ) (entry : ContextEntry) (low : at < length entries) (is : entry ≡ get_or entries at entry) where
+  item_behind : (P : ContextEntry → Type 0) (first : List ContextEntry) → AllByRecursion P (first ++ entries) → P entry
+  item_behind P [] all = item_of P entries at entry low is all
+  item_behind P (other ∷ first) all = item_behind P first all.1
+
+  below_behind : (first : List ContextEntry) → AreRising (first ++ entries) → Below entry (first ++ take at entries)
+  below_behind [] up = below entries at entry up low is
+  below_behind (other ∷ first) up = (item_behind (λ item. context_cmp other item ≡ Less) first up.0, below_behind first up.1)
+
 take_next : (entries : List ContextEntry) (at : ℕ) (entry : ContextEntry) → at < length entries → entry ≡ get_or entries at entry → take at entries ++ entry ∷ [] ≡ take (suc at) entries
 take_next [] at entry low is = absurd (omega (arith, low))
 take_next (first ∷ entries) zero entry low is = ap (λ e. e ∷ []) is
@@ -52,35 +62,47 @@ none_keyed entry (other ∷ entries) up =
 
 -- ---- one after another
 
--- so far these entries went in, and nothing else was changed
+-- so far these entries went in behind those that were there, and nothing else was changed
 pub record HasInserted (old now : State) (entries : List ContextEntry) (count : ℕ) : Type 0 where
   pub shows : ShowsContexts now
   pub survives : Survives old now (λ _. ⊥)
   pub inside : HasCleanDisk now → IsTrue old.in_transaction → KeepsCommit old now × IsTrue now.in_transaction
-  pub are : HasCleanDisk now → IsTrue now.is_open → contexts now ≡ take count entries
-  pub steps : HasCleanDisk now → IsRunning old → ContextSteps old now (take count entries)
+  pub was_open : HasCleanDisk now → IsTrue now.is_open → IsTrue old.is_open
+  pub are : HasCleanDisk now → IsTrue now.is_open → contexts now ≡ contexts old ++ take count entries
+  pub steps : HasCleanDisk now → IsRunning old → ContextSteps old now (contexts old ++ take count entries)
 
-pub none_inserted : (s : State) (entries : List ContextEntry) → ShowsContexts s → (HasCleanDisk s → IsTrue s.is_open → contexts s ≡ []) → HasInserted s s entries 0
-none_inserted s entries shows blank = record {
+pub none_inserted : (s : State) (entries : List ContextEntry) → ShowsContexts s → HasInserted s s entries 0
+none_inserted s entries shows = record {
   shows = shows;
   survives = record { clean = omega arith; shield = λ shielded. shielded; counts = omega arith; limit = refl; closes = λ _ live. inl live; crash = λ _ db left. inl left };
   inside = λ _ inside. (record { was_open = λ live. live; committed = λ _. refl }, inside);
-  are = blank;
+  was_open = λ _ live. live;
+  are = λ _ _. sym (append-nil (contexts s));
   steps = λ clean running. record {
     within = record { was_inside = running.inside; inside = running.inside; was_open = running.is_open; is_open = running.is_open; committed = refl };
     tables = shows clean running.is_open;
-    contexts_are = blank clean running.is_open;
+    contexts_are = sym (append-nil (contexts s));
     kept = (refl, (refl, (refl, (refl, tt))));
     sound = running.sound;
   };
 }
 
--- the next entry has no row yet
-pub next_free : (old now : State) (entries : List ContextEntry) (at : ℕ) (entry : ContextEntry) → HasInserted old now entries at → AreRising entries → at < length entries → entry ≡ get_or entries at entry
-    → HasCleanDisk now → IsTrue now.is_open → filter (is_context entry.instance entry.number) (contexts now) ≡ []
-next_free old now entries at entry so_far up low is clean live = ap (filter (is_context entry.instance entry.number)) (so_far.are clean live) ∙ none_keyed entry (take at entries) (below entries at entry up low is)
+-- a clean connection that is open has contexts that rise before these
+abbrev pub RiseBefore : State → List ContextEntry → Type 0
+RiseBefore s entries = HasCleanDisk s → IsTrue s.is_open → AreRising (contexts s ++ entries)
 
-steps_then : (old mid new : State) (first next : List ContextEntry) → ContextSteps old mid first → ContextSteps mid new next → ContextSteps old new next
+-- the next entry is above those that are there
+next_below : (old now : State) (entries : List ContextEntry) (at : ℕ) (entry : ContextEntry) → HasInserted old now entries at → RiseBefore old entries → at < length entries → entry ≡ get_or entries at entry
+    → HasCleanDisk now → IsTrue now.is_open → Below entry (contexts old ++ take at entries)
+next_below old now entries at entry so_far up low is clean live = below_behind entries at entry low is (contexts old) (up (clean_before old now _ so_far.survives clean) (so_far.was_open clean live))
+
+-- and has no row yet
+pub next_free : (old now : State) (entries : List ContextEntry) (at : ℕ) (entry : ContextEntry) → HasInserted old now entries at → RiseBefore old entries → at < length entries → entry ≡ get_or entries at entry
+    → HasCleanDisk now → IsTrue now.is_open → filter (is_context entry.instance entry.number) (contexts now) ≡ []
+next_free old now entries at entry so_far up low is clean live =
+    ap (filter (is_context entry.instance entry.number)) (so_far.are clean live) ∙ none_keyed entry (contexts old ++ take at entries) (next_below old now entries at entry so_far up low is clean live)
+
+pub steps_then : (old mid new : State) (first next : List ContextEntry) → ContextSteps old mid first → ContextSteps mid new next → ContextSteps old new next
 steps_then old mid new first next one it = record {
   within = within_then old mid new one.within it.within;
   tables = it.tables;
@@ -98,25 +120,28 @@ module _ (old now next : State) (entries : List ContextEntry) (at : ℕ) (so_far
       let before = so_far.inside (clean_before now next _ survives clean) inside in
       keeps_then old now next before.0 (kept clean before.1)
 
-  pub next_inserted : (entry : ContextEntry) → AreRising entries → at < length entries → entry ≡ get_or entries at entry → (HasCleanDisk next → ContextSteps now next (insert_sorted context_cmp entry (contexts now))) → HasInserted old next entries (at + 1)
+  pub next_inserted : (entry : ContextEntry) → RiseBefore old entries → at < length entries → entry ≡ get_or entries at entry → (HasCleanDisk next → ContextSteps now next (insert_sorted context_cmp entry (contexts now))) → HasInserted old next entries (at + 1)
   next_inserted entry up low is steps =
-      let more : HasCleanDisk next → ContextSteps now next (take (at + 1) entries) = λ clean.
-      let it = steps clean in
-      let were = so_far.are (clean_before now next _ survives clean) it.within.was_open in
-      let grown : insert_sorted context_cmp entry (contexts now) ≡ take (at + 1) entries =
-      ap (insert_sorted context_cmp entry) were ∙ last_in entry (take at entries) (below entries at entry up low is) ∙ take_next entries at entry low is ∙ ap (λ n. take n entries) (sym (add-one at)) in
-      subst (ContextSteps now next) grown it in
+      let grown : (it : ContextSteps now next (insert_sorted context_cmp entry (contexts now))) → HasCleanDisk now → insert_sorted context_cmp entry (contexts now) ≡ contexts old ++ take (at + 1) entries = λ it clean.
+      ap (insert_sorted context_cmp entry) (so_far.are clean it.within.was_open) ∙ last_in entry (contexts old ++ take at entries) (next_below old now entries at entry so_far up low is clean it.within.was_open)
+      ∙ sym (joined (contexts old) (take at entries) (entry ∷ [])) ∙ ap (λ more. contexts old ++ more) (take_next entries at entry low is ∙ ap (λ n. take n entries) (sym (add-one at))) in
+      let more : HasCleanDisk next → ContextSteps now next (contexts old ++ take (at + 1) entries) = λ clean. let it = steps clean in subst (ContextSteps now next) (grown it (clean_before now next _ survives clean)) it in
       record {
         shows = λ clean live. (more clean).tables;
         survives = survives_on;
         inside = λ clean inside. (keeps_on clean inside, (more clean).within.inside);
+        was_open = λ clean live. so_far.was_open (clean_before now next _ survives clean) (more clean).within.was_open;
         are = λ clean live. (more clean).contexts_are;
         steps = λ clean running. steps_then old now next _ _ (so_far.steps (clean_before now next _ survives clean) running) (more clean);
       }
+    where
+      joined : (xs ys zs : List ContextEntry) → xs ++ (ys ++ zs) ≡ (xs ++ ys) ++ zs
+      joined [] ys zs = refl
+      joined (x ∷ xs) ys zs = ap (λ rest. x ∷ rest) (joined xs ys zs)
 
 -- all of them went in
-pub all_inserted : (old now : State) (entries : List ContextEntry) (count : ℕ) → HasInserted old now entries count → count ≡ length entries → HasCleanDisk now → IsRunning old → ContextSteps old now entries
-all_inserted old now entries count so_far whole clean running = subst (ContextSteps old now) (ap (λ n. take n entries) whole ∙ take_whole entries) (so_far.steps clean running)
+pub all_inserted : (old now : State) (entries : List ContextEntry) (count : ℕ) → HasInserted old now entries count → count ≡ length entries → HasCleanDisk now → IsRunning old → ContextSteps old now (contexts old ++ entries)
+all_inserted old now entries count so_far whole clean running = subst (ContextSteps old now) (ap (λ items. contexts old ++ items) (ap (λ n. take n entries) whole ∙ take_whole entries)) (so_far.steps clean running)
   where
     take_whole : (items : List ContextEntry) → take (length items) items ≡ items
     take_whole [] = refl

@@ -1,16 +1,17 @@
 -- What is read of the rows of some instances, and that each row has the id of one.
-use Rattle.std.proofs.Common.{◌≡◌, ℕ, pos, List, [], ◌∷◌, map, filter, Bool, true, false, not, ◌&&◌, Option, None, Some, Ordering, Less, Equal, Greater, is_gt, refl, sym, ap, subst, subst₂, ◌∙◌, IsPermutation}
+use Rattle.std.proofs.Common.{◌≡◌, ℕ, pos, List, [], ◌∷◌, length, map, filter, Bool, true, false, not, ◌&&◌, Option, None, Some, Ordering, Less, Equal, Greater, is_gt, refl, sym, ap, subst, subst₂, ◌∙◌, IsPermutation}
 use Rattle.std.specs.Prelude.{◌↔◌, unwrap_or}
 use Rattle.std.specs.Ordering.{is_le}
-use Rattle.std.specs.List.{AllByRecursion, list_all}
-use Rattle.std.proofs.lemmas.List.Sorted.{IsPermutation-map, IsPermutation-sym, IsPermutation-trans}
+use Rattle.std.specs.List.{list_all}
+use Rattle.std.proofs.lemmas.List.{length-map}
+use Rattle.std.proofs.lemmas.List.Sorted.{IsPermutation-map, IsPermutation-sym, IsPermutation-trans, length_permutation}
 use Rattle.sqlite.specs.declared.types.Value.{Value}
 use Rattle.sqlite.specs.declared.types.Value.TheVariants.{Null, Int, Real, Text, Blob}
 use Rattle.sqlite.specs.Order.{Row, column, value_cmp}
 use Rattle.sqlite.specs.Ops.{binary, is_true, from_truth}
 use Rattle.sqlite.specs.Program.{overlay}
 use Rattle.sqlite.specs.Query.{Output, IsAnswer, output_cmp}
-use Rattle.sqlite.specs.Term.{Term, col, holds}
+use Rattle.sqlite.specs.Term.{Term, holds}
 use Rattle.sqlite.specs.Tree.{Trees}
 use Rattle.sqlite_sql.specs.declared.ops.BinaryOp.TheVariants.{And, Compare}
 use Rattle.sqlite_sql.specs.declared.ops.CompareOp.TheVariants.{Gt, Le}
@@ -18,16 +19,14 @@ use Rattle.sqlite_sql.specs.Ops.{is_null, truth, and3}
 use Rattle.sqlite_sql.proofs.QueryLemmas.{output_cmp_total}
 use Rattle.sqlite_value.specs.declared.keys.Collation.TheVariants.{Binary}
 use Rattle.sqlite_value.specs.declared.keys.Key.{Key}
-use Rattle.sqlite_trees.proofs.ListLemmas.{all-permutation}
-use Rattle.sqlite_keyed.proofs.ListLemmas.{all-filter, all_map, all_unmap, all_weaker, ascending-filter, ascending-map, ascending_weaker, filter_same, map-map, map_same}
+use Rattle.sqlite_keyed.proofs.ListLemmas.{all-filter, ascending-filter, ascending-map, ascending_weaker, filter_same, map-map, map_same}
 use Rattle.sqlite_keyed.proofs.SortLemmas.{sorted_unique}
 use Rattle.osb_rows.specs.Rows.{Apart, AreRows, Stores}
 use Rattle.osb_rows.proofs.AnswerLemmas.{over, out, answered}
-use Rattle.osb_contexts.specs.Pieces.{beyond, is_between, is_row_between, AreNamed}
-use Rattle.osb_contexts.specs.Read.{AreRowids, HaveRowids}
+use Rattle.osb_contexts.specs.Pieces.{beyond, is_between, is_row_between}
+use Rattle.osb_contexts.specs.Read.{HaveRowids}
 use Rattle.osb_contexts.proofs.TestLemmas.{truth_back, and_true}
-use Rattle.osb_contexts.proofs.Texts.{every, between_tests, named_test, named_rows, by_rowid}
-use Rattle.osb_contexts.proofs.WholeLemmas.{all_shown, have_rowids}
+use Rattle.osb_contexts.proofs.Texts.{every, between_tests}
 
 -- ---- the tests
 
@@ -115,6 +114,10 @@ module _ (tree : ℕ) (db : Trees) (after : List ℕ) (to : Value) where
         subst (λ own. IsPermutation (map told own) a.ordered) (filter_same _ _ (at_between after to) (seen tree) ∙ ap (filter (is_row_between after to)) sees)
         (answered tree between_tests project order every seen bounds rows a)
 
+    -- as many rows as the piece has
+    pub piece_counted : length rows ≡ length kept
+    piece_counted = ap length a.shown ∙ length-map a.ordered _ ∙ length_permutation _ _ told_rows ∙ length-map kept told
+
     module _ {E : Type 0} (cells : Row → Row) (shown : E → Row) (cmp : E → E → Ordering)
         (told_shows : (row : Row) → (told row).1 ≡ cells row) (told_cells : (row : Row) → told row ≡ told (Null ∷ cells row))
         (shows : (e : E) → (told (Null ∷ shown e)).1 ≡ shown e)
@@ -153,7 +156,7 @@ module _ (tree : ℕ) (db : Trees) (after : List ℕ) (to : Value) where
 -- ---- rows that are named
 
 -- what the column beside the rowid has
-abbrev named_cell : Row → Value
+abbrev pub named_cell : Row → Value
 named_cell row = binary And (binary (Compare Gt Binary) (column row 1) (Text [])) (binary (Compare Le Binary) (column row 1) beyond)
 
 both_true : (a b : Option Bool) → from_truth (and3 a b) ≡ Int (pos 1) → (unwrap_or a false && unwrap_or b false) ≡ true
@@ -177,25 +180,8 @@ and_cell : (a b : Value) → (binary And a b ≡ Int (pos 1)) ↔ ((is_true a &&
 unfolding binary
 and_cell a b = (both_true (truth a) (truth b), true_of_both (truth a) (truth b))
 
-named_is : (row : Row) → (named_cell row ≡ Int (pos 1)) ↔ (is_row_between [] beyond row ≡ true)
+pub named_is : (row : Row) → (named_cell row ≡ Int (pos 1)) ↔ (is_row_between [] beyond row ≡ true)
 named_is row =
     let both = and_cell (binary (Compare Gt Binary) (column row 1) (Text [])) (binary (Compare Le Binary) (column row 1) beyond) in
     let is = between_test [] beyond (column row 1) in
     (λ one. sym is ∙ both.0 one, λ between. both.1 (is ∙ between))
-
-module _ (tree : ℕ) (db : Trees) (sees : overlay db [] tree ≡ db tree) (rows : List Row) (a : IsAnswer (named_rows tree) (overlay db []) [] rows) where
-  abbrev row_of : Row → Row
-  row_of row = column row 0 ∷ named_cell row ∷ []
-
-  named_shown : IsPermutation (map row_of (db tree)) rows
-  named_shown = all_shown tree db sees (col 1 0 ∷ named_test ∷ []) by_rowid rows a
-
-  pub named_rowids : AreRowids rows → HaveRowids (db tree)
-  named_rowids are = have_rowids (λ row. named_cell row ∷ []) (db tree) rows named_shown are
-
-  pub are_named : AllByRecursion (λ row. column row 1 ≡ Int (pos 1)) rows ↔ AreNamed (db tree)
-  are_named = (
-    λ all. all_weaker (λ row. named_cell row ≡ Int (pos 1)) _ (λ row is. (named_is row).0 is) (db tree)
-        (all_unmap (λ row. column row 1 ≡ Int (pos 1)) row_of (db tree) (all-permutation _ _ _ (IsPermutation-sym _ _ named_shown) all)),
-    λ all. all-permutation _ _ _ named_shown (all_map (λ row. column row 1 ≡ Int (pos 1)) row_of (db tree) (all_weaker _ (λ row. named_cell row ≡ Int (pos 1)) (λ row is. (named_is row).1 is) (db tree) all)),
-  )

@@ -1,10 +1,8 @@
 -- What is read of the table of contexts, and of the rowids of the format.
-use Rattle.std.proofs.Common.{◌≡◌, ℕ, pos, [], ◌∷◌, List, map, refl, sym, ap, ◌∙◌}
-use Rattle.std.specs.Prelude.{◌↔◌}
-use Rattle.std.specs.List.{AllByRecursion}
+use Rattle.std.proofs.Common.{◌≡◌, ℕ, [], ◌∷◌, List, map, refl, sym, ap, ◌∙◌}
 use Rattle.sqlite.specs.declared.types.Value.{Value}
-use Rattle.sqlite.specs.declared.types.Value.TheVariants.{Null, Int, Text}
-use Rattle.sqlite.specs.Order.{Row, column}
+use Rattle.sqlite.specs.declared.types.Value.TheVariants.{Null, Text}
+use Rattle.sqlite.specs.Order.{Row}
 use Rattle.sqlite.specs.State.{State, Shown}
 use Rattle.sqlite.proofs.Callers.{reads_as}
 use Rattle.sqlite_keyed.proofs.ListLemmas.{map_back}
@@ -12,21 +10,15 @@ use Rattle.osb_tables.specs.Tables.{second_schema}
 use Rattle.osb_joined.specs.declared.entry.ContextEntry.{ContextEntry}
 use Rattle.osb_joined.specs.Contexts.{context_cmp}
 use Rattle.osb_contexts.specs.Contexts.{context_row, context_cells, context_decoded, AreContextsOf}
-use Rattle.osb_contexts.specs.Pieces.{piece, AreNamed}
+use Rattle.osb_contexts.specs.Pieces.{piece}
 use Rattle.osb_contexts.specs.Read.{AreRowids, HaveRowids, context_columns}
-use Rattle.osb_contexts.proofs.PieceLemmas.{named_rowids, are_named as names_all, piece_read}
+use Rattle.osb_contexts.proofs.PieceLemmas.{piece_read}
 use Rattle.osb_contexts.proofs.SortLemmas.{context_back}
 use Rattle.osb_contexts.proofs.TestLemmas.{by_both}
-use Rattle.osb_contexts.proofs.Texts.{all_cells, by_key, named_contexts, named_contexts_is, select_contexts, select_contexts_is, version_rowids, version_rowids_is}
+use Rattle.osb_contexts.proofs.Texts.{all_cells, by_key, select_contexts, select_contexts_is, version_rowids, version_rowids_is}
 use Rattle.osb_contexts.proofs.WholeLemmas.{rowids_shown}
 
 module _ (old new : State) (has : old.now.schema ≡ second_schema) (rows : List Row) where
-  pub contexts_named : Shown named_contexts [] old new rows → AreRowids rows → HaveRowids (old.now.trees 7) × (AllByRecursion (λ row. column row 1 ≡ Int (pos 1)) rows ↔ AreNamed (old.now.trees 7))
-  contexts_named shown are =
-      let read = reads_as named_contexts [] old new second_schema has _ named_contexts_is.0 named_contexts_is.2 named_contexts_is.1 rows shown in
-      let answer = read.answer Null in
-      (named_rowids 7 old.now.trees refl rows answer are, names_all 7 old.now.trees refl rows answer)
-
   pub contexts_read : (after : List ℕ) (to : Value) (entries : List ContextEntry) → Shown select_contexts (Text after ∷ to ∷ []) old new rows → map context_row entries ≡ map context_columns rows → HaveRowids (old.now.trees 7)
       → AreContextsOf (piece after to old.now.trees) entries
   contexts_read after to entries shown is have =

@@ -183,16 +183,6 @@ between_tests = between (col 0 0) (col 0 1)
 abbrev pub named_test : Term
 named_test = op2 And (op2 (Compare Gt Binary) (col 1 1) (lit (Text []))) (op2 (Compare Le Binary) (col 1 1) (lit beyond))
 
-abbrev pub named_rows : ℕ → Query
-named_rows tree = over tree [] (col 1 0 ∷ named_test ∷ []) by_rowid every
-
-abbrev pub named_contexts : List ℕ
-named_contexts = codes "SELECT rowid, instance_id > '' AND instance_id <= x'' AS named FROM contexts ORDER BY rowid"
-
-pub named_contexts_is : IsQuery named_contexts (named_rows 7) (codes "rowid" ∷ codes "named" ∷ [])
-unfolding understood everything
-named_contexts_is = (refl, refl, (refl, refl))
-
 abbrev pub select_contexts : List ℕ
 select_contexts = codes "SELECT instance_id, seq, context FROM contexts WHERE instance_id > ?1 AND instance_id <= ?2 ORDER BY instance_id, seq"
 

@@ -17,7 +17,7 @@ use Rattle.sqlite_value.proofs.OrderLemmas.{value_cmp_total}
 use Rattle.sqlite_trees.specs.Tree.{rowid, IsAscending}
 use Rattle.sqlite_trees.specs.View.{is_int}
 use Rattle.sqlite_trees.proofs.ListLemmas.{all-permutation}
-use Rattle.sqlite_keyed.proofs.ListLemmas.{map-map, ascending_from_map, all_unmap}
+use Rattle.sqlite_keyed.proofs.ListLemmas.{map-map, map_same, ascending_from_map, all_unmap}
 use Rattle.osb_contexts.specs.Read.{AreRowids, HaveRowids, rowid_shown}
 use Rattle.osb_rows.proofs.AnswerLemmas.{over, out, answered}
 use Rattle.osb_rows.proofs.RowLemmas.{ascending_permuted, untied_back}
@@ -52,10 +52,10 @@ pub all_ints : (ids : List ℕ) → AllByRecursion (λ value. is_int value ≡ t
 all_ints [] = tt
 all_ints (id ∷ ids) = (refl, all_ints ids)
 
--- the rows of the table have the rowids that were read, beside other columns
-pub have_rowids : (more : Row → Row) (rows read : List Row) → IsPermutation (map (λ row. rowid row ∷ more row) rows) read → AreRowids read → HaveRowids rows
-have_rowids more rows read same are =
-    let ids = subst₂ IsPermutation (map-map rowid (λ row. rowid row ∷ more row) rows) (sym are.shown) (IsPermutation-map rowid _ _ same) in
+-- the rows of the table have the rowids that were read
+pub have_rowids : (told : Row → Row) → ((row : Row) → rowid (told row) ≡ rowid row) → (rows read : List Row) → IsPermutation (map told rows) read → AreRowids read → HaveRowids rows
+have_rowids told ids_told rows read same are =
+    let ids = subst₂ IsPermutation (map-map rowid told rows ∙ map_same _ rowid ids_told rows) (sym are.shown) (IsPermutation-map rowid _ _ same) in
     let back = IsPermutation-sym _ _ ids in
     record {
       apart = ascending_from_map (λ a b. is_eq (value_cmp a b) ≡ false) rowid rows (ascending_permuted (λ a b. is_eq (value_cmp a b) ≡ false) (untied_back value_cmp value_cmp_total) _ _ back (apart_ids are.ids are.rising));
@@ -76,4 +76,4 @@ module _ (tree : ℕ) (db : Trees) where
         subst₂ IsPermutation (map-map (λ (o : Output). o.1) (out tree [] project order every seen []) (db tree)) (sym a.shown) (IsPermutation-map (λ (o : Output). o.1) _ _ whole)
 
     pub rowids_shown : (rows : List Row) → IsAnswer (rowids_of tree) seen [] rows → AreRowids rows → HaveRowids (db tree)
-    rowids_shown rows a are = have_rowids (λ _. []) (db tree) rows (all_shown (col 1 0 ∷ []) by_rowid rows a) are
+    rowids_shown rows a are = have_rowids (λ row. rowid row ∷ []) (λ _. refl) (db tree) rows (all_shown (col 1 0 ∷ []) by_rowid rows a) are

@@ -13,6 +13,6 @@ version_row version = Int (pos version) ∷ []
 abbrev pub version_cells : Row → Row
 version_cells cells = column cells 1 ∷ []
 
--- the table holds this version alone
+-- the table holds only this version
 abbrev pub HoldsVersion : ℕ → Trees → Type 0
 HoldsVersion version db = Stores version_cells version_row nat_cmp (db 0) (version ∷ [])

@@ -8,8 +8,9 @@ pub mod Steps
 pub mod Contexts
 pub mod Format
 pub mod Ended
--- Tables that are read in pieces.
+-- Tables that are read in pieces, and in pages by the ids of rows.
 pub mod Pieces
+pub mod Pages
 -- For contracts inside the crate.
 pub mod Made
 pub mod Read

@@ -15,7 +15,8 @@ ghost use Rattle.osb_contexts.specs.Made.{MakesContexts};
 ghost use Rattle.osb_contexts.specs.Steps.{contexts, ShowsContexts, ContextSteps};
 ghost use Rattle.osb_contexts.specs.Reads.{Reads, Finds, behind, StaysInside, Does};
 
-use crate::cells::{are_named, check_rowids, number_in, text_in};
+use crate::cells::{number_in, text_in};
+use crate::pages::{NamedTable, are_rows_named};
 use crate::sql::{execute, select};
 use osb_joined::ContextEntry;
 use osb_text::Text;
@@ -36,7 +37,7 @@ pub(crate) fn create_contexts<S: Alter>(tx: &mut Transaction<'_, S>) -> Result<u
     )
 }
 
-/// Inserts the context of an order, or with the number 0 of what stands, where there is none of that key.
+/// Inserts the context of an order, unless there is one. The number 0 names the context of the current state.
 pub fn insert_context<S: Alter>(
     tx: &mut Transaction<'_, S>,
     instance: &str,
@@ -148,13 +149,7 @@ pub fn are_contexts_named<S: Alter>(
         HaveRowids (s.now.trees 7) × ((yes ≡ true) ↔ AreNamed (s.now.trees 7))) }
     ensures reads { Reads S.Store tx.old tx.new result }
 {
-    let rows = select(
-        tx,
-        "SELECT rowid, instance_id > '' AND instance_id <= x'' AS named FROM contexts ORDER BY rowid",
-        &[],
-    )?;
-    check_rowids(alloc, &rows)?;
-    are_named(&rows)
+    are_rows_named(tx, alloc, NamedTable::Contexts)
 }
 
 /// The rows of the contexts of the instances with ids above the first and up to the second, by their keys.

@@ -119,7 +119,7 @@ fn replace_indexes<S: Alter>(tx: &mut Transaction<'_, S>, indexes: Indexes) -> R
     }
 }
 
-/// Gives a database of version 1 the tables and indexes of version 2. The indexes stand behind the table of
+/// Gives a database of version 1 the tables and indexes of version 2. The indexes come behind the table of
 /// contexts, as in a new database, so those that are there are made again.
 #[tactic(auto, using(crate::proofs::SchemaLemmas::reshaped))]
 pub fn reshape<S: Alter>(tx: &mut Transaction<'_, S>, indexes: Indexes) -> Result<(), Error>

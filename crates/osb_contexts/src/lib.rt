@@ -8,6 +8,7 @@ mod format;
 mod indexes;
 mod migration;
 mod orders;
+mod pages;
 mod sql;
 
 pub use contexts::{
@@ -15,5 +16,6 @@ pub use contexts::{
 };
 pub use format::set_version;
 pub use indexes::{complete, reshape};
-pub use migration::{insert_contexts, migrate};
+pub use migration::insert_contexts;
 pub use orders::{append_context, end_context};
+pub use pages::{NamedTable, are_rows_named};

@@ -27,7 +27,7 @@ fn context_edit(order: &Order) -> Option<&str>
     }
 }
 
-/// Inserts the context that stands of a new instance, or updates that of another one.
+/// Inserts the current context of a new instance, or updates that of another one.
 fn put_standing<S: Alter>(
     tx: &mut Transaction<'_, S>,
     instance: &str,
@@ -78,7 +78,7 @@ pub fn append_context<S: Alter>(
     Ok(())
 }
 
-/// Makes the context of an Update that succeeded the one that stands.
+/// Makes the context of an Update that succeeded the current one.
 fn stand_updated<S: Alter>(
     tx: &mut Transaction<'_, S>,
     instance: &str,
@@ -95,7 +95,7 @@ fn stand_updated<S: Alter>(
     Ok(())
 }
 
-/// Writes the context that stands after the end of an order, where it is another one. The order needn't have
+/// Writes the current context after the end of an order, where it is another one. The order needn't have
 /// its own context, which is read.
 pub fn end_context<S: Alter>(
     tx: &mut Transaction<'_, S>,

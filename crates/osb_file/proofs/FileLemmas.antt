@@ -97,7 +97,7 @@ one_database one other is_one is_other same =
     ap₂ (λ (schema : Schema) (trees : Trees). record { schema = schema; trees = trees }) (lists_once _ _ _ again.lists is_other.lists) same
 
 -- no lives are in trees without tables
-bare_lives : (db : Trees) (lives : Lives) → HasNoTables db → AreLivesOf db lives → lives ≡ empty
+pub bare_lives : (db : Trees) (lives : Lives) → HasNoTables db → AreLivesOf db lives → lives ≡ empty
 bare_lives db lives bare are =
     let found : Database = record { schema = are.0; trees = db } in
     let none : Database = record { schema = no_schema; trees = db } in
@@ -193,11 +193,11 @@ seen_opened conn db (seen.Counted counts) opens live shows is = (
 
 -- the fault of a file is NotOurs only where that of its records is, and never Missing
 pub store_not_ours : (fault : StoreFault) (told : FileFault) → told ≡ file_fault_of fault → told ≡ NotOurs → fault ≡ store.NotOurs
-store_not_ours store.Refused told is ours = cc
+store_not_ours (store.Refused cause) told is ours = cc
 store_not_ours store.NotOurs told is ours = refl
 
 pub store_not_missing : (fault : StoreFault) (told : FileFault) → told ≡ file_fault_of fault → told ≡ Missing → ⊥
-store_not_missing store.Refused told is missing = cc
+store_not_missing (store.Refused cause) told is missing = cc
 store_not_missing store.NotOurs told is missing = cc
 
 -- a database that shows no tables is new

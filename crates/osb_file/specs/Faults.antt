@@ -9,7 +9,7 @@ use Rattle.osb_file.specs.declared.unseen.Unseen.TheVariants as unseen
 
 -- the fault of a file whose records can't be taken over
 abbrev pub file_fault_of : StoreFault → FileFault
-file_fault_of store.Refused = Refused
+file_fault_of (store.Refused cause) = Refused
 file_fault_of store.NotOurs = NotOurs
 
 -- the fault that the opening of such a file answers

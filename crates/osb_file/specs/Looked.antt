@@ -13,7 +13,7 @@ use Rattle.osb_file.specs.File.{AreLivesOf, HasNoTables}
 abbrev pub image_in : Copied → Image
 image_in copied = record { log = copied.log.items; db = copied.database.items }
 
--- the lives that stand in these trees have so much of everything
+-- the lives in these trees have so much of everything
 abbrev pub IsCounted : Trees → Counts → Type 0
 IsCounted db counts = (lives : Lives) × AreLivesOf db lives × AreCounts lives counts
 

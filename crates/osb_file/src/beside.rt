@@ -20,6 +20,11 @@ fn path_beside(rt: &HostRuntime, path: &str, ending: &str) -> Result<String, Err
     }
 }
 
+/// The path of a database file. Where that is a link, it is the one to which the link leads.
+pub(crate) fn real_path(rt: &HostRuntime, path: &str) -> Result<String, Error> {
+    path_beside(rt, path, "")
+}
+
 /// The path of the log of a database file.
 pub(crate) fn log_path(rt: &HostRuntime, path: &str) -> Result<String, Error> {
     path_beside(rt, path, "-wal")

@@ -1,6 +1,6 @@
 //! A database file and its log, read into memory.
 
-ghost use Rattle.std.specs.Prelude.{◌≡◌, [], Err, IfOk};
+ghost use Rattle.std.specs.Prelude.{◌≡◌, [], Err, IfOk, length};
 ghost use Rattle.sqlite_trees.specs.Tree.{Trees};
 ghost use Rattle.osb_orders.specs.Lives.{Lives};
 ghost use Rattle.osb_file.specs.declared.seen.Seen.TheVariants.{New};
@@ -31,14 +31,14 @@ pub struct Copied {
 }
 
 /// What a call on a file that is there has met.
-fn unread(error: Error) -> Unseen {
+pub(crate) fn unread(error: Error) -> Unseen {
     match error.kind() {
         ErrorKind::OutOfMemory => Unseen::Memory,
         _ => Unseen::CannotRead,
     }
 }
 
-/// Refuses what stands at the path unless it is a regular file with one name.
+/// Refuses what is at the path unless it is a regular file with one name.
 fn check_kind(rt: &HostRuntime, path: &str) -> Result<(), Unseen> {
     let found = match fs::metadata(rt, path) {
         Ok(found) => found,
@@ -148,21 +148,33 @@ fn read_moment(rt: &HostRuntime, path: &str) -> Result<Copied, Unseen> {
     Err(Unseen::InUse)
 }
 
+/// Refuses a path where `serve` couldn't open a database file that is there.
+pub(crate) fn check_file(rt: &HostRuntime, path: &str) -> Result<(), Unseen> {
+    if is_special(path) {
+        return Err(Unseen::NoFile);
+    }
+    check_log(rt, path)?;
+    check_kind(rt, path)?;
+    check_journal(rt, path)?;
+    check_mode(rt, path)
+}
+
 impl Copied {
     /// Reads a database file and its log as they are at one moment, and writes nothing. A broker may run
     /// over them: what it has answered before is in what is read. Where its log begins anew meanwhile, they
     /// are read again, 50 times at most.
     ///
-    /// What stands at the path has to be a file that `serve` can open: see [`Unseen`].
+    /// What is at the path has to be a file that `serve` can open: see [`Unseen`].
     pub fn read(rt: &HostRuntime, path: &str) -> Result<Copied, Unseen> {
-        if is_special(path) {
-            return Err(Unseen::NoFile);
-        }
-        check_log(rt, path)?;
-        check_kind(rt, path)?;
-        check_journal(rt, path)?;
-        check_mode(rt, path)?;
+        check_file(rt, path)?;
         read_moment(rt, path)
+    }
+
+    /// How many bytes the database file has, without its log.
+    pub fn len(&self) -> usize
+        ensures { result ≡ length self.now.database.items }
+    {
+        self.database.len()
     }
 
     /// What the database of these bytes has, opened and audited as `serve` would. All of it happens in

@@ -9,7 +9,7 @@ use crate::first_page::make_new;
 use std::fs::{self, Metadata};
 use std::os::unix::fs::MetadataExt;
 
-/// What tells a file from all others, whatever its name: its device and its number there.
+/// What a file differs from all others in, whatever its name: its device and its number there.
 #[derive(Clone, Copy, Debug, PartialEq, Eq)]
 pub(crate) struct Node {
     device: u64,

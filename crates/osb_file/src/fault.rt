@@ -25,7 +25,7 @@ impl From<StoreFault> for FileFault {
 
     fn from(fault: StoreFault) -> FileFault {
         match fault {
-            StoreFault::Refused => FileFault::Refused,
+            StoreFault::Refused(_) => FileFault::Refused,
             StoreFault::NotOurs => FileFault::NotOurs,
         }
     }

@@ -22,7 +22,7 @@ const BEGINNING: [u8; 108] = *b"SQLite format 3\0\
 \x00\x2e\x63\x01\x0d\x00\x00\x00\x00\x04\x00\x00";
 
 /// The page of a new file, which holds a database without tables by itself.
-fn first_page() -> [u8; PAGE_SIZE]
+pub(crate) fn first_page() -> [u8; PAGE_SIZE]
     ensures { HoldsNoTables result }
 {
     let mut page = [0u8; PAGE_SIZE];

@@ -22,32 +22,45 @@ use crate::origin::{Origin, origin_of};
 use crate::seen::Seen;
 use crate::unseen::Unseen;
 use osb_audit::Counts;
-use osb_records::{Records, StoreFault};
+use osb_records::{Cause, Records, StoreFault};
 use sqlite::{Alter, Connection, Error, ErrorCode, FileStore, Options};
 use sqlite_disk::{Disk, Files, Memory};
 use std::alloc::Global;
 use std::io;
 
-/// What an opening has met.
+/// What an opening has met. The files are in memory, so a read or a write of them fails only for lack of memory.
 pub(crate) fn unopened(error: Error) -> Unseen
     ensures other { result ≢ NotOurs }
     ensures some { result ≢ NoTables }
 {
     match error {
-        Error::SqliteFailure(ErrorCode::OutOfMemory) => Unseen::Memory,
+        Error::SqliteFailure(
+            ErrorCode::OutOfMemory | ErrorCode::SystemIoFailure | ErrorCode::DiskFull,
+        ) => Unseen::Memory,
         Error::SqliteFailure(ErrorCode::NotADatabase) => Unseen::NoDatabase,
         _ => Unseen::Damaged,
     }
 }
 
+/// Why the rows of a database in memory weren't read.
+fn unread_rows(cause: Cause) -> Unseen
+    ensures other { result ≢ NotOurs }
+    ensures some { result ≢ NoTables }
+{
+    match cause {
+        Cause::Memory | Cause::DiskFull | Cause::DiskFailed | Cause::Shut => Unseen::Memory,
+        Cause::Other => Unseen::Row,
+    }
+}
+
 /// What taking a database over has met.
-fn unadopted(fault: StoreFault) -> Unseen
+pub(crate) fn unadopted(fault: StoreFault) -> Unseen
     ensures ours { result ≡ NotOurs → fault ≡ faults.NotOurs }
     ensures some { result ≢ NoTables }
 {
     match fault {
         StoreFault::NotOurs => Unseen::NotOurs,
-        StoreFault::Refused => Unseen::Row,
+        StoreFault::Refused(cause) => unread_rows(cause),
     }
 }
 
@@ -61,7 +74,8 @@ fn counts_of<S: Alter + Drop>(alloc: Global, mut records: Records<S>) -> Result<
 {
     match records.counts(alloc) {
         Ok(counts) => Ok(counts),
-        Err(_) => Err(Unseen::Row),
+        Err(StoreFault::Refused(cause)) => Err(unread_rows(cause)),
+        Err(StoreFault::NotOurs) => Err(Unseen::Row),
     }
 }
 

@@ -1,6 +1,6 @@
 //! A log, copied into its database file in memory.
 
-ghost use Rattle.std.specs.Prelude.{◌≡◌, ◌≢◌, true, Err, IsTrue, IfOk};
+ghost use Rattle.std.specs.Prelude.{◌≡◌, ◌≢◌, true, Err, IsTrue, IfOk, OnOk};
 ghost use Rattle.sqlite_disk.specs.Memory.{memory_bytes};
 ghost use Rattle.sqlite.specs.Files.{HoldsDatabase, file_state, image_of};
 ghost use Rattle.sqlite_trees.specs.Tree.{Trees};
@@ -20,10 +20,11 @@ use sqlite_disk::{Disk, Files, Memory};
 use std::alloc::Global;
 
 /// Closes a connection, which copies its log into its database file.
-fn close<D: Disk + Drop>(conn: Connection<FileStore<D>>) -> Result<Files<D>, Unseen>
+pub(crate) fn close<D: Disk + Drop>(conn: Connection<FileStore<D>>) -> Result<Files<D>, Unseen>
     requires honest { (disk : D) → D.Disk.is_clean disk ≡ true }
     ensures written { IfOk result (λ files.
         ∥ HoldsDatabase (alone (D.Disk.seen files.db)) (file_state conn).committed.trees ∥₁) }
+    ensures open { OnOk result (IsTrue (file_state conn).is_open) }
     ensures other { result ≢ Err NotOurs }
     ensures some { result ≢ Err NoTables }
 {
@@ -72,7 +73,7 @@ fn merge<D: Disk + Drop>(alloc: Global, files: Files<D>) -> Result<Files<D>, Uns
 }
 
 /// The bytes of a file in memory.
-fn bytes_of(alloc: Global, disk: &Memory) -> Result<Vec<u8>, Unseen>
+pub(crate) fn bytes_of(alloc: Global, disk: &Memory) -> Result<Vec<u8>, Unseen>
     ensures bytes { IfOk result (λ bytes. bytes.items ≡ memory_bytes disk.now) }
     ensures other { result ≢ Err NotOurs }
     ensures some { result ≢ Err NoTables }

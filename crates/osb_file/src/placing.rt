@@ -11,7 +11,7 @@ use std::path::Path;
 const OWNER_ALONE: u32 = 0o600;
 
 /// What a call that makes a file has met.
-fn unwritten(error: Error) -> Unwritten {
+pub(crate) fn unwritten(error: Error) -> Unwritten {
     match error.kind() {
         ErrorKind::OutOfMemory => Unwritten::Memory,
         ErrorKind::AlreadyExists => Unwritten::Exists,
@@ -28,8 +28,8 @@ fn check_free(rt: &HostRuntime, path: &str) -> Result<(), Unwritten> {
     }
 }
 
-/// Waits until what stands in the folder of the path is on the disk.
-fn sync_folder(rt: &HostRuntime, path: &str) -> Result<(), Error> {
+/// Waits until what is in the folder of the path is on the disk.
+pub(crate) fn sync_folder(rt: &HostRuntime, path: &str) -> Result<(), Error> {
     let folder = match Path::new(path).parent() {
         Some(folder) if !folder.as_str().is_empty() => folder.as_str(),
         _ => ".",

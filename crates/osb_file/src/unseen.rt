@@ -11,7 +11,7 @@ use std::fmt;
 /// these files, too; of a full disk it learns only when it writes.
 #[derive(Clone, Copy, Debug, Drop, PartialEq, Eq)]
 pub enum Unseen {
-    /// Nothing stands at the path, or SQLite has another meaning for it than a file's.
+    /// Nothing is at the path, or SQLite has another meaning for it than a file's.
     NoFile,
     /// Its log has changes, and it isn't there or has no bytes.
     LogOnly,

@@ -44,7 +44,7 @@ body_length lines = number_or_zero (length_given (values_of (codes "content-leng
 abbrev pub closes : Message → Bool
 closes q = (q.minor == 0) || list_any (lists_item (codes "close")) (values_of (codes "connection") q.lines)
 
--- what stands at the front of bytes: nothing, a fault, or a request of so many bytes
+-- what is at the front of bytes: nothing, a fault, or a request of so many bytes
 pub data Front : Type 0 where
   nothing : Front
   fault : StopKind → Front
@@ -69,7 +69,7 @@ front_from h rest None = with_body h rest (body_length (lines_of h))
 abbrev pub front_of : Limits → RequestHead → List ℕ → Front
 front_of limits h rest = front_from h rest (fault_of limits h.minor (lines_of h))
 
--- what stands at the front of bytes
+-- what is at the front of bytes
 pub data IsFront (limits : Limits) (bytes : List ℕ) (front : Front) : Type 0 where
   empty : bytes ≡ [] → front ≡ nothing → IsFront limits bytes front
   headless : 0 < length bytes → HasNoHead limits bytes → front ≡ fault NoHead → IsFront limits bytes front
@@ -97,7 +97,7 @@ Follows more bytes (whole q n) requests end =
     (later : List Message) × (requests ≡ q ∷ later) × Goes (closes q) (more (drop n bytes)) later end
 
 -- The bytes of a connection on which k requests may come are these requests, with that end. The first request is what
--- stands at the front. Nothing after a request that closes is read as one, nor after the k-th.
+-- is at the front. Nothing after a request that closes is read as one, nor after the k-th.
 abbrev pub Cuts : Limits → ℕ → List ℕ → List Message → End → Type 0
 Cuts limits zero bytes requests end = Closes requests end
 Cuts limits (suc k) bytes requests end =

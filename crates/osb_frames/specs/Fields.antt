@@ -24,7 +24,7 @@ abbrev pub first_value : List (List ℕ) → Option (List ℕ)
 first_value [] = None
 first_value (value ∷ values) = Some value
 
--- what stands between the commas of a value (RFC 9110, 5.6.1)
+-- what is between the commas of a value (RFC 9110, 5.6.1)
 abbrev pub items_of : List ℕ → List (List ℕ)
 items_of value = slice_split (λ byte. byte == 44) value
 

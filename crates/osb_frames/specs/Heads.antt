@@ -23,7 +23,7 @@ HasNoHead limits bytes = (h : RequestHead) (rest : List ℕ) → ¬ (HeadAt limi
 abbrev pub MayBecomeHead : Limits → List ℕ → Type 0
 MayBecomeHead limits bytes = MayBecomeRequest bytes ⊎ RequestExceeds limits.fields bytes
 
--- a head stands at the front of the bytes, or they may begin one yet
+-- a head is at the front of the bytes, or they may begin one yet
 abbrev pub IsHopeful : Limits → List ℕ → Type 0
 IsHopeful limits bytes = ((h : RequestHead) × (rest : List ℕ) × HeadAt limits bytes h rest) ⊎ ((bytes ≡ []) ⊎ MayBecomeRequest bytes)
 

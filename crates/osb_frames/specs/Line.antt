@@ -8,6 +8,6 @@ use Rattle.osb_frames.specs.Fields.{Line}
 abbrev pub part : List ℕ → ℕ → ℕ → List ℕ
 part bytes start end = if nat_le start end && nat_le end (length bytes) then slice_range bytes start end else []
 
--- the field line of a head that stands there
+-- the field line of a head that is there
 abbrev pub line_in : List ℕ → LineSpan → Line
 line_in head span = (part head span.name_start span.name_end, part head span.value_start span.value_end)

@@ -28,24 +28,24 @@ ReportsFault limits bytes over NoHead =
 ReportsFault limits bytes over Cut = IsTrue over × IsFront limits bytes (fault Cut)
 ReportsFault limits bytes over f = IsFront limits bytes (fault f)
 
--- no head stands there yet, the limit of a head isn't reached, and a head may still come
+-- no head is there yet, the limit of a head isn't reached, and a head may still come
 abbrev pub Waits : Limits → List ℕ → Type 0
 Waits limits bytes =
     HasNoHead limits bytes × (length bytes < limits.head) × ((bytes ≡ []) ⊎ MayBecomeHead limits bytes)
 
--- a step says what stands at the front of the bytes, or wants more of them: a body lacks a part, or a head may come
+-- a step says what is at the front of the bytes, or wants more of them: a body lacks a part, or a head may come
 abbrev pub Says : Limits → List ℕ → Bool → Step Request → Type 0
 Says limits bytes over (Whole q n) = IsFront limits bytes (whole (message q) n)
 Says limits bytes over (Stop f) = ReportsFault limits bytes over f
 Says limits bytes over Ended = IsTrue over × (bytes ≡ [])
 Says limits bytes over More = IsFalse over × (IsFront limits bytes (fault Cut) ⊎ Waits limits bytes)
 
--- the fault stands there whatever follows, or it is what the end of the input makes of the bytes
+-- the fault is there whatever follows, or it is what the end of the input makes of the bytes
 abbrev pub FaultStays : Limits → List ℕ → Bool → StopKind → Type 0
 FaultStays limits bytes over f =
     ((more : List ℕ) → IsFront limits (bytes ++ more) (fault f)) ⊎ (IsFront limits bytes (fault f) × IsTrue over)
 
--- what is said stands there whatever follows
+-- what is said is there whatever follows
 abbrev pub Stays : Limits → List ℕ → Bool → Step Request → Type 0
 Stays limits bytes over (Whole q n) = (more : List ℕ) → IsFront limits (bytes ++ more) (whole (message q) n)
 Stays limits bytes over (Stop f) = FaultStays limits bytes over f
@@ -62,7 +62,7 @@ IsFinal NoHead = ⊥
 IsFinal Cut = ⊥
 IsFinal _ = ⊤
 
--- the step is what stands there
+-- the step is what is there
 abbrev pub Shows : Front → Step Request → Type 0
 Shows nothing step = step ≡ Ended
 Shows (fault f) step = step ≡ Stop f

@@ -1,4 +1,4 @@
-//! The calls that were made of a reader or a writer, for contracts alone.
+//! The calls that were made of a reader or a writer, only for contracts.
 
 ghost use Rattle.std.specs.Prelude.{◌≡◌, List, [], ◌∷◌, ◌++◌};
 ghost use Rattle.std.specs.Option.{option_copied};

@@ -9,7 +9,7 @@ use crate::source::Source;
 use std::io::{self, Read, Write};
 
 /// A reader or a writer of std, with the calls that were made of it through this wrapper.
-/// The calls stand in contracts alone: it is as large as what it wraps.
+/// The calls are only in contracts: it is as large as what it wraps.
 #[derive(Drop)]
 pub struct Counted<T> {
     inner: T,

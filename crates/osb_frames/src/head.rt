@@ -29,7 +29,7 @@ pub(crate) type Found<'a> = FoundOf<Request<'a>>;
 
 ghost use Rattle.osb_frames.specs.Found.{IsFound};
 
-/// Where the spans of a head's field lines stand, in the front of an array.
+/// Where the spans of a head's field lines are, in the front of an array.
 fn lines_at(buf: &[u8], spans: &[HeaderSpan]) -> [LineSpan; MOST_FIELDS]
     requires short { length buf.now ≤ MOST_HEAD }
     requires room { length spans.now ≤ MOST_FIELDS }

@@ -1,4 +1,4 @@
-//! Laws of heads, fronts and cuts, over the definitions alone.
+//! Laws of heads, fronts and cuts, over only the definitions.
 
 ghost use Rattle.std.specs.Prelude.{◌≡◌, ℕ, List, [], ◌∷◌, ◌++◌, ◌↔◌};
 ghost use Rattle.httparse.specs.Grammar.{RequestHead};
@@ -22,7 +22,7 @@ pub fn one_cut()
         Cuts limits k bytes requests a → Cuts limits k bytes others b → (requests ≡ others) × (a ≡ b) }
 {}
 
-/// Where one request may come, the cut is what stands at the front; and one thing stands there.
+/// Where one request may come, the cut is what is at the front; and one thing is there.
 pub fn one_front()
     ensures request { (limits : Limits) (bytes : List ℕ) (q : Message) (end : End) →
         Cuts limits 1 bytes (q ∷ []) end ↔ ((n : ℕ) × IsFront limits bytes (whole q n) × (end ≡ closed)) }

@@ -1,9 +1,9 @@
-//! Where the field lines of a head stand.
+//! Where the field lines of a head are.
 
 ghost use Rattle.std.specs.Prelude.{◌≡◌};
 ghost use Rattle.osb_frames.specs.Line.{part};
 
-/// Where a field line of a head stands (RFC 9112, 5): its name, and its value without the spaces and
+/// Where a field line of a head is (RFC 9112, 5): its name, and its value without the spaces and
 /// tabs around it. A head is short enough for 16 bits.
 #[derive(Clone, Copy, Debug)]
 pub(crate) struct LineSpan {

@@ -21,7 +21,7 @@ pub struct Request<'a> {
     pub body: &'a [u8],
     /// Bytes that begin with the head.
     pub(crate) head: &'a [u8],
-    /// Where the field lines stand in them.
+    /// Where the field lines are in them.
     pub(crate) lines: [LineSpan; MOST_FIELDS],
     pub(crate) count: usize,
     ghost has_all: { length lines ≡ MOST_FIELDS },
@@ -33,7 +33,7 @@ impl<'a> Request<'a> {
     ghost use Rattle.osb_frames.specs.Line.{line_in};
     ghost use Rattle.osb_frames.specs.Cuts.{closes};
 
-    /// Where the field lines stand, in the order that they came in.
+    /// Where the field lines are, in the order that they came in.
     fn spans(&self) -> &[LineSpan]
         ensures { map (line_in self.now.head.now) result.now ≡ (message self.now).lines }
     {

@@ -5,7 +5,7 @@ ghost use Rattle.std.specs.Io.KnownBytes.{WriteAppends};
 
 use std::io;
 
-/// A writer of bytes whose calls contracts can count. The counts stand in contracts alone.
+/// A writer of bytes whose calls contracts can count. The counts are only in contracts.
 pub trait Sink {
     /// The bytes that it has taken.
     ghost taken: { Self → List ℕ };

@@ -6,7 +6,7 @@ ghost use Rattle.osb_frames.specs.Calls.{Call};
 
 use std::io;
 
-/// A reader of bytes whose calls contracts can count. The counts stand in contracts alone.
+/// A reader of bytes whose calls contracts can count. The counts are only in contracts.
 pub trait Source {
     /// The reads that were made of it, the oldest first: the bytes that each gave, or `None` where
     /// it failed.

@@ -1,4 +1,4 @@
-//! What stands at the front of a buffer: a request, a framing fault, or too little yet.
+//! What is at the front of a buffer: a request, a framing fault, or too little yet.
 
 ghost use Rattle.std.specs.Prelude.{◌≡◌, ℕ, ◌+◌, ◌<◌, ◌≤◌, length, IsTrue, IsFalse, MatchResult};
 
@@ -7,7 +7,7 @@ use crate::head::{Found, head_at};
 use crate::limits::Limits;
 use crate::request::Request;
 
-/// Why no further request is read. Where several stand, the first of this list is reported.
+/// Why no further request is read. Of several the first of this list is reported.
 #[derive(Clone, Copy, Debug, PartialEq, Eq)]
 pub enum StopKind {
     /// The bytes begin with no head within the limits.
@@ -24,7 +24,7 @@ pub enum StopKind {
     Cut,
 }
 
-/// What stands at the front of a buffer, by what holds a request.
+/// What is at the front of a buffer, by what holds a request.
 #[derive(Clone, Copy, Debug)]
 pub enum Step<R> {
     /// A whole request, and how many bytes it has.
@@ -107,19 +107,19 @@ fn step_at<'a>(buf: &'a [u8], ended: bool, limits: &Limits, patient: bool) -> St
 /// parser refuses the bytes, NoHead is reported at once, except for too many field lines: there
 /// more bytes are asked for until the limit of a head is reached or the input ended.
 pub fn next<'a>(buf: &'a [u8], ended: bool, limits: &Limits) -> Step<Request<'a>>
-    // What is answered stands there.
+    // What is answered is there.
     ensures says { Says limits.now buf.now ended result }
     ensures size { IfWhole result (λ request used. (0 < used) × (used ≤ length buf.now)) }
     ensures room { IfMore result (length buf.now < limits.now.head + limits.now.body) }
 
-    // It stands there whatever follows.
+    // It is there whatever follows.
     ensures stays { Stays limits.now buf.now ended result }
 
-    // A whole request that stands there is answered, and so is a fault that no further bytes mend.
+    // A whole request that is there is answered, and so is a fault that no further bytes mend.
     ensures finds { (q : Message) (n : ℕ) → IsFront limits.now buf.now (whole q n) → IsWhole q n result }
     ensures stops { (f : StopKind) → IsFinal f → IsFront limits.now buf.now (fault f) → result ≡ Step.Stop f }
 
-    // At the end of the input, what stands there is answered, whatever it is.
+    // At the end of the input, what is there is answered, whatever it is.
     ensures stands { IsTrue ended → (front : Front) × IsFront limits.now buf.now front × Shows front result }
     ensures shows { IsTrue ended → (front : Front) → IsFront limits.now buf.now front → Shows front result }
 {

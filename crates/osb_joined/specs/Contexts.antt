@@ -1,5 +1,5 @@
 -- The contexts of lives as the entries of a table: one for each order, and for each instance one with the number 0, which
--- has the context that stands (this project's own).
+-- has the current context (this project's own).
 use Rattle.std.specs.Prelude.{◌≡◌, ℕ, Bool, ◌&&◌, ◌==◌, List, [], ◌∷◌, map, bytes_eq, Option}
 use Rattle.std.specs.List.{flat_map}
 use Rattle.std.specs.declared.cmp.Ordering.{Ordering}

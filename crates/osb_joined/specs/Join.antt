@@ -16,7 +16,7 @@ context_of_row entry = context_of_standing entry.0 entry.1.standing
 abbrev pub bare_instance_entry : InstanceEntry → InstanceEntry
 bare_instance_entry entry = (entry.0, bare_row entry.1)
 
--- the entry is of what stands of an instance, or of an order
+-- the entry is of the current state of an instance, or of an order
 abbrev pub is_of_standing : ContextEntry → Bool
 is_of_standing entry = entry.number == 0
 

@@ -1,4 +1,4 @@
--- Orders, and what stands of instances, with the contexts that a list of entries has for them. A binding has none.
+-- Orders, and the current state of instances, with the contexts that a list of entries has for them. A binding has none.
 use Rattle.std.specs.Prelude.{ℕ, List, [], map, find, option_map}
 use Rattle.std.specs.Option.{option_map_or}
 use Rattle.std.specs.FinMap.{entries, from_sorted}

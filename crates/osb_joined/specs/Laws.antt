@@ -86,7 +86,7 @@ NoContextAbove = (lives : Lives) (id : List ℕ) (number : ℕ) → IsLives live
 abbrev pub ContextsChanged : Type 0
 ContextsChanged = (lives : Lives) (id : List ℕ) (change : Change) (order : Order) → IsLives lives → IsWritten (life_of lives id) change order → contexts_of (lives_changed change id lives) ≡ contexts_after change order id (contexts_of lives)
 
--- the end of a Create leaves the context that stands as it is
+-- the end of a Create leaves the current context as it is
 abbrev pub CreateEnds : Type 0
 CreateEnds = (lives : Lives) (id : List ℕ) (number : ℕ) (outcome : Outcome) (order : Order) → IsLives lives → IsWritten (life_of lives id) (Finish number outcome) order → is_a Create order ≡ true → contexts_after (Finish number outcome) order id (contexts_of lives) ≡ contexts_of lives
 

@@ -2,7 +2,7 @@
 
 use osb_text::Text;
 
-/// The context of an order, or with the number 0 of what stands of the instance.
+/// The context of an order, or with the number 0 that of the current state of the instance.
 #[derive(Clone, Debug, Drop, PartialEq, Eq)]
 pub struct ContextEntry {
     pub instance: Text,

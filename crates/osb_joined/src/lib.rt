@@ -27,7 +27,7 @@ pub fn contexts_by_key()
     ensures above { NoContextAbove }
 {}
 
-/// Bare lives with the contexts of the lives are these lives. The same goes for what stands of an
+/// Bare lives with the contexts of the lives are these lives. The same goes for the current state of an
 /// instance, and for its row. Whatever the contexts, lives are joined instance by instance, and all
 /// but the contexts stays.
 pub fn lives_joined()

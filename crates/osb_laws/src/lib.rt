@@ -1,4 +1,4 @@
-//! What holds of every step of the machine, over its definitions alone.
+//! What holds of every step of the machine, over only its definitions.
 #![tactic(auto)]
 
 ghost use Rattle.osb_laws.specs.Exclusive.{StepsAreAllowed, StepsKeepLives, LivesStep, ChangesKeepLives, NoLivesAreWellFormed, ListsOnce};
@@ -61,7 +61,7 @@ pub fn opened_stays()
     ensures bound { BoundOnce }
 {}
 
-/// An ask that names an instance is answered by the life of that instance alone, and leaves every
+/// An ask that names an instance is answered by only the life of that instance, and leaves every
 /// other life; one that names none leaves all.
 pub fn apart()
     ensures answers { AnsweredByOneLife }

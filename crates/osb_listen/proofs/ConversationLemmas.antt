@@ -24,9 +24,9 @@ use Rattle.osb_broker.proofs.ShutLemmas.{go_through, lives_stay}
 use Rattle.osb_listen.specs.declared.fault.ListenFault.{ListenFault}
 use Rattle.osb_listen.specs.declared.fault.ListenFault.TheVariants.{Database, PlanInUse, Memory, CannotListen, CannotWrite, CannotAccept, FileTaken}
 use Rattle.osb_listen.specs.Conversations.{AreAsMany, conversation_of, ended_by, lines_of, LeadTo, Serves}
-use Rattle.osb_listen.specs.Lines.{line_of, Says}
+use Rattle.osb_listen.specs.Lines.{line_of, Says, SaysWithRefused}
 use Rattle.osb_listen.specs.Listen.{IsOfServing}
-use Rattle.osb_listen.proofs.PartLemmas.{says_more, says_none}
+use Rattle.osb_listen.proofs.RefusedLemmas.{says_more_with, says_none_of_refused, says_only, then_refused}
 
 none_failed : (calls : List Call) → EachGaveBytes calls → failure_count calls ≡ 0
 none_failed [] each = refl
@@ -106,7 +106,7 @@ module _ (rules : Rules) (limits : Limits) (k : ℕ) where
         (conversations : List Conversation) × (length conversations ≡ count) × Serves rules limits k conversations old now journal_old journal said_old said failed_old failed
 
     pub none_served : (Works old → IsLives (stored old)) → (Works old → KeepsLives old (stored old)) → ServesSome 0 old journal_old said_old failed_old
-    none_served whole kept = ([], refl, record { journal = sym (append-nil journal_old); lead = none_lead old whole kept; lines = says_none said_old failed_old })
+    none_served whole kept = ([], refl, record { journal = sym (append-nil journal_old); lead = none_lead old whole kept; lines = says_none_of_refused said_old failed_old })
 
     pub some_more : (mid new : State) (journal_mid journal_new : List Conversation) (said_mid said_new : List ℕ) (failed_mid failed_new count more : ℕ) → Worked old mid → Worked mid new
         → ServesSome count mid journal_mid said_mid failed_mid → ((later : List Conversation) × (length later ≡ more) × Serves rules limits k later mid new journal_mid journal_new said_mid said_new failed_mid failed_new)
@@ -117,9 +117,17 @@ module _ (rules : Rules) (limits : Limits) (k : ℕ) where
       record {
         journal = serves.journal ∙ ap (λ (j : List Conversation). j ++ later) so_far.journal ∙ append_assoc journal_old said later;
         lead = lead_on old mid new said later before next so_far.lead serves.lead;
-        lines = subst (λ (lines : List (List ℕ)). Says lines said_old said_new failed_old failed_new) (sym (map-append _ said later))
-            (says_more (lines_of said) (lines_of later) said_old said_mid said_new failed_old failed_mid failed_new so_far.lines serves.lines);
+        lines = subst (λ (lines : List (List ℕ)). SaysWithRefused lines said_old said_new failed_old failed_new) (sym (map-append _ said later))
+            (says_more_with (lines_of said) (lines_of later) said_old said_mid said_new failed_old failed_mid failed_new so_far.lines serves.lines);
       },
+    )
+
+    -- and behind their lines those of requests that were refused
+    pub some_reported : (now : State) (journal : List Conversation) (said said_new : List ℕ) (failed failed_new count : ℕ) → ServesSome count now journal said failed → SaysWithRefused [] said said_new failed failed_new → ServesSome count now journal said_new failed_new
+    some_reported now journal said said_new failed failed_new count (some, counted, serves) lines = (
+      some,
+      counted,
+      record { journal = serves.journal; lead = serves.lead; lines = then_refused (lines_of some) said_old said said_new failed_old failed failed_new serves.lines lines },
     )
 
   -- a client of whom nothing was read before was served
@@ -139,7 +147,7 @@ module _ (rules : Rules) (limits : Limits) (k : ℕ) where
         left = λ works clean. leaves_weaker
             (λ t lost. (t, is_conversation (stored old) t calls made sent_old sent writes_old writes met told ended reads needed wrote same none unfailed is_met lost, refl)) (leaves works clean);
       };
-      lines = subst (λ by. Says (line_of by ∷ []) said_old said_new failed_old failed_new) (ended_by_both ended calls made writes_old writes reads wrote same unfailed) line;
+      lines = says_only _ said_old said_new failed_old failed_new (subst (λ by. Says (line_of by ∷ []) said_old said_new failed_old failed_new) (ended_by_both ended calls made writes_old writes reads wrote same unfailed) line);
     },
   )
 
@@ -154,7 +162,7 @@ standard = (
 pub none_serves_by : (rules : Rules) (limits : Limits) (k : ℕ) (old : State) (journal_old journal_new : List Conversation) (said_old : List ℕ) (failed_old : ℕ) → journal_new ≡ journal_old → (Works old → IsLives (stored old)) → (Works old → KeepsLives old (stored old))
     → Serves rules limits k [] old old journal_old journal_new said_old said_old failed_old failed_old
 none_serves_by rules limits k old journal_old journal_new said_old failed_old same whole kept =
-    record { journal = same ∙ sym (append-nil journal_old); lead = none_lead rules limits k old whole kept; lines = says_none said_old failed_old }
+    record { journal = same ∙ sym (append-nil journal_old); lead = none_lead rules limits k old whole kept; lines = says_none_of_refused said_old failed_old }
 
 -- a fault that comes before the first one
 pub none_yet : (result : Result (Unit {0}) ListenFault) (fault : ListenFault) (all : ℕ) → AreAsMany (Err fault) all 0 → IsErr result → IfErr result (λ other. other ≡ fault) → AreAsMany result all 0

@@ -26,7 +26,7 @@ use Rattle.osb_listen.specs.Held.{AreBefore, HasServed, LeadInto, ServesFrom, Se
 use Rattle.osb_listen.specs.Listen.{NamesLackingPlan, listen_fault_of}
 use Rattle.osb_listen.specs.Inside.{IsOfAddress, IsOfDatabase}
 use Rattle.osb_listen.proofs.ConversationLemmas.{standard}
-use Rattle.osb_listen.proofs.PartLemmas.{says_none}
+use Rattle.osb_listen.proofs.RefusedLemmas.{says_none_of_refused}
 
 pub if_some_both : {A : Type 0} (o : Option A) (N M : Type 0) (P R Q : A → Type 0) → (N → IfSome o P) → (M → IfSome o R) → ((a : A) → (N → P a) → (M → R a) → Q a) → IfSome o Q
 if_some_both None N M P R Q one other f = tt
@@ -99,7 +99,7 @@ none_missed rules missed FileTaken is = absurd is
 
 pub has_nothing : (rules : Rules) (all : ℕ) (fault : ListenFault) (journal : List Conversation) (said : List ℕ) (failed : ℕ) → IsOfDatabase rules fault → HasServed all (nothing_served fault) journal journal said said failed failed
 has_nothing rules all fault journal said failed is =
-    record { journal = sym (append-nil journal); many = none_many rules all fault is; first = none_before rules fault is; lines = says_none said failed }
+    record { journal = sym (append-nil journal); many = none_many rules all fault is; first = none_before rules fault is; lines = says_none_of_refused said failed }
 
 -- what comes before there is a file is of a database
 pub of_no_file : (rules : Rules) (existing : Bool) (fault : ListenFault) → IsOfFile existing fault → IsOfDatabase rules fault

@@ -3,3 +3,5 @@ mod FaultLemmas
 mod GroupLemmas
 mod HeldLemmas
 pub mod PartLemmas
+mod PieceLemmas
+mod RefusedLemmas

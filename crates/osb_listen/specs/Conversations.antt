@@ -13,7 +13,7 @@ use Rattle.osb_broker.specs.Conversations.{Conversation, AreConversations}
 use Rattle.osb_broker.specs.Crashes.{LeavesLives}
 use Rattle.osb_listen.specs.declared.fault.ListenFault.{ListenFault}
 use Rattle.osb_listen.specs.declared.fault.ListenFault.TheVariants.{CannotAccept, FileTaken}
-use Rattle.osb_listen.specs.Lines.{line_of, Says}
+use Rattle.osb_listen.specs.Lines.{line_of, SaysWithRefused}
 
 -- which reads were made of a client, what it was sent, how many writes failed, and whether a framing fault was met
 abbrev pub conversation_of : List Call → List ℕ → ℕ → Bool → Conversation
@@ -37,11 +37,11 @@ pub record LeadTo (rules : Rules) (limits : Limits) (k : ℕ) (old new : State) 
   pub left : Works old → HasCleanDisk new → LeavesLives new (λ t. AreConversations rules limits k (stored old) conversations t)
 
 -- These conversations are the journal's last, they lead from the lives of one state of the store to those of another, and
--- their lines were written on standard error.
+-- their lines were written on standard error, where requests that were refused have lines too.
 pub record Serves (rules : Rules) (limits : Limits) (k : ℕ) (conversations : List Conversation) (old new : State) (journal_old journal_new : List Conversation) (said_old said_new : List ℕ) (failed_old failed_new : ℕ) : Type 0 where
   pub journal : journal_new ≡ journal_old ++ conversations
   pub lead : LeadTo rules limits k old new conversations
-  pub lines : Says (lines_of conversations) said_old said_new failed_old failed_new
+  pub lines : SaysWithRefused (lines_of conversations) said_old said_new failed_old failed_new
 
 -- the database file was missed once more where that is the fault, and otherwise it wasn't
 abbrev pub MissesFile : {T : Type 0} → Result T ListenFault → ℕ → ℕ → Type 0

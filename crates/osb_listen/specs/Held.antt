@@ -18,7 +18,7 @@ use Rattle.osb_broker.specs.Served.{AreStandard}
 use Rattle.osb_listen.specs.declared.fault.ListenFault.{ListenFault}
 use Rattle.osb_listen.specs.declared.fault.ListenFault.TheVariants.{Database, PlanInUse, Memory, CannotListen, CannotWrite, CannotAccept, FileTaken}
 use Rattle.osb_listen.specs.Conversations.{AreAsMany, lines_of}
-use Rattle.osb_listen.specs.Lines.{Says}
+use Rattle.osb_listen.specs.Lines.{SaysWithRefused}
 
 -- the line that reports that a database is begun
 abbrev pub origin_line : Origin → List ℕ
@@ -47,7 +47,7 @@ pub record HasServed (all : ℕ) (serving : Serving) (journal_old journal_new : 
   pub journal : journal_new ≡ journal_old ++ serving.conversations
   pub many : AreAsMany serving.ended all (length serving.conversations)
   pub first : AreBefore serving.ended serving.before
-  pub lines : Says (serving.before ++ lines_of serving.conversations) said_old said_new failed_old failed_new
+  pub lines : SaysWithRefused (serving.before ++ lines_of serving.conversations) said_old said_new failed_old failed_new
 
 -- The conversations lead, within the standard limits, from the lives in these trees to others. A database without tables
 -- is begun, and any other is served on, as the line before says; none is begun where an existing one was asked for.

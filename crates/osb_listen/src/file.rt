@@ -41,7 +41,7 @@ fn file_at<'a>(
     }
 }
 
-/// The broker over the database of a file, from the lives that stand there, and whether that was there
+/// The broker over the database of a file, from the lives in it, and whether that was there
 /// before. A fault comes with the connection, where the file was opened.
 fn broker_over<'s, D: Database>(
     rt: &HostRuntime,

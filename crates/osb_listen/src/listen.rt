@@ -114,7 +114,7 @@ pub(crate) fn serve_at<S: Alter, L: Entrance, W: Sink, E: Sink>(
     write_listening_line(place.address, output)?;
     let watched = file.watched(rt);
     serve_listener(
-        rt.alloc(),
+        rt,
         broker,
         &mut buffer,
         entrance,

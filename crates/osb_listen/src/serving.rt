@@ -13,6 +13,7 @@ use crate::client_end::report_end;
 use crate::entrance::Entrance;
 use crate::fault::ListenFault;
 use crate::group::serve_group;
+use crate::refused::{Reported, report_rest};
 use osb_broker::{Broker, Buffer};
 use osb_file::WatchedFile;
 use osb_frames::Sink;
@@ -97,12 +98,13 @@ fn serve_next<S: Alter, L: Entrance, E: Sink>(
 /// Serves so many clients of an entrance. Where a connection has one request, those who are ready at the same
 /// time are answered together, with one transaction for the changes of several. A read or a write of a
 /// client that fails is a line on `errors`, `connection: read` or `connection: write`. The next client is
-/// served as ever.
+/// served as ever. Requests that are answered by the fixed 500 have a line too, as `request: 500 no memory, 3
+/// times`, at most one a second for each cause.
 ///
 /// It ends before that with `CannotAccept` where the entrance can take no client, and with `FileTaken`
 /// where the database file or its log isn't there any more as one is taken, which then isn't answered.
 pub fn serve_listener<S: Alter, L: Entrance, E: Sink>(
-    alloc: Global,
+    rt: &HostRuntime,
     broker: &mut Broker<'_, S>,
     buffer: &mut Buffer,
     entrance: &mut L,
@@ -129,11 +131,21 @@ pub fn serve_listener<S: Alter, L: Entrance, E: Sink>(
     ensures limits { limits_of buffer.new ≡ limits_of buffer.old }
 {
     broker.lives_are_whole();
+    let mut reported = Reported::never(rt);
     let mut left = connections;
     while left > 0 {
         let most = left.min(MOST);
-        let count = serve_next(alloc, broker, buffer, entrance, file, most, errors)?;
-        left -= count;
+        match serve_next(rt.alloc(), broker, buffer, entrance, file, most, errors) {
+            Ok(count) => {
+                reported.report(broker, errors);
+                left -= count;
+            }
+            Err(fault) => {
+                report_rest(broker, errors);
+                return Err(fault);
+            }
+        }
     }
+    report_rest(broker, errors);
     Ok(())
 }

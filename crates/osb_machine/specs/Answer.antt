@@ -18,7 +18,7 @@ use Rattle.osb_machine.specs.Unbind.{unbind}
 use Rattle.osb_machine.specs.Listed.{orders}
 use Rattle.osb_machine.specs.Report.{report}
 
--- the catalog as it stands in the settings (OSB API 2.17, "Catalog Management")
+-- the catalog as it is in the settings (OSB API 2.17, "Catalog Management")
 abbrev pub catalog : Rules → Decision
 catalog rules = says status.Ok rules.catalog
 

@@ -1,5 +1,5 @@
--- How an operation stands (OSB API 2.17, "Polling Last Operation for Service Instances" and "for Service Bindings"; that an
--- operation which isn't one of the resource's is refused is this project's own).
+-- The state of an operation (OSB API 2.17, "Polling Last Operation for Service Instances" and "for Service Bindings";
+-- that an operation which isn't one of the resource's is refused is this project's own).
 use Rattle.std.specs.Prelude.{ℕ, ◌&&◌, List, Option, None, Some, if◌then◌else◌}
 use Rattle.osb_replies.specs.declared.status.Status.TheVariants as status
 use Rattle.osb_replies.specs.declared.fixed_error.FixedError.TheVariants.{Operation}

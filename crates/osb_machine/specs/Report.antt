@@ -17,7 +17,7 @@ abbrev pub reported_state : ReportState → OrderState
 reported_state said.Succeeded = Succeeded
 reported_state said.Failed = Failed
 
--- they count for a Bind that succeeded alone
+-- they count only for a Bind that succeeded
 abbrev pub kept_credentials : ReportState → Report → Order → List ℕ
 kept_credentials said.Succeeded ask order = if is_a Bind order then ask.credentials else empty_object
 kept_credentials said.Failed ask order = empty_object

@@ -1,5 +1,5 @@
 -- When a request asks for what is there already (OSB API 2.17, "Provisioning" and "Binding": the same parameters; which
--- attributes count is this project's own). The context counts for an update alone.
+-- attributes count is this project's own). The context counts only for an update.
 use Rattle.std.specs.Prelude.{ℕ, Bool, ◌&&◌, List, [], bytes_eq, unwrap_or}
 use Rattle.osb_asks.specs.declared.ask.Provision.{Provision}
 use Rattle.osb_asks.specs.declared.ask.Bind.{Bind}

@@ -29,7 +29,7 @@ credentials_body credentials = joined (codes "{\"credentials\":" ∷ credentials
 abbrev pub binding_body : BindingNow → List ℕ
 binding_body binding = joined (codes "{\"credentials\":" ∷ binding.credentials ∷ codes ",\"parameters\":" ∷ binding.attributes.parameters ∷ codes "}" ∷ [])
 
--- how an order stands, with its description where that isn't empty (OSB API 2.17, "Polling Last Operation")
+-- the state of an order, with its description where that isn't empty (OSB API 2.17, "Polling Last Operation")
 abbrev pub state_body : Outcome → List ℕ
 state_body outcome =
     if length outcome.description == 0 then joined (codes "{\"state\":\"" ∷ state_text outcome.state ∷ codes "\"}" ∷ [])

@@ -37,7 +37,7 @@ impl<'a> AnswerAndChange<'a> {
         }
     }
 
-    /// Answers a status alone, and changes nothing.
+    /// Answers only a status, and changes nothing.
     pub(crate) fn of_status(status: Status) -> AnswerAndChange<'a>
         ensures { decision result ≡ says status empty_object }
     {

@@ -1,4 +1,4 @@
-//! What answers take from the catalog and the modes, with what stands for a plan that isn't there.
+//! What answers take from the catalog and the modes, and what they take for a plan that isn't there.
 
 ghost use Rattle.std.specs.Prelude.{◌≡◌};
 ghost use Rattle.osb_catalog.specs.Rules.{rules_of};

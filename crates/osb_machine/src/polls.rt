@@ -1,4 +1,4 @@
-//! The rules of InstanceOp and BindingOp, which show how an operation stands.
+//! The rules of InstanceOp and BindingOp, which show the state of an operation.
 
 ghost use Rattle.std.specs.Prelude.{◌≡◌, IfOk};
 ghost use Rattle.osb_orders.specs.ViewData.{data_in};

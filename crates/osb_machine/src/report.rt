@@ -70,7 +70,7 @@ fn reported_state(state: ReportState) -> OrderState
     }
 }
 
-/// They count for a Bind that succeeded alone.
+/// They count only for a Bind that succeeded.
 fn kept_credentials<'a>(ask: &'a Report, order: &Order) -> &'a str
     ensures { result.now ≡ kept_credentials ask.now.state ask.now order.now }
 {

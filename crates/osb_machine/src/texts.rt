@@ -52,7 +52,7 @@ pub(crate) fn binding(alloc: Global, binding: &BindingNow) -> Result<String, All
     format!(in alloc; "{{\"credentials\":{credentials},\"parameters\":{parameters}}}")
 }
 
-/// How an order stands.
+/// The state of an order.
 pub(crate) fn state(alloc: Global, outcome: &Outcome) -> Result<String, AllocError>
     ensures { IfOk result (λ s. string_bytes s ≡ state_body outcome.now) }
 {

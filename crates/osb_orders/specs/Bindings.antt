@@ -1,4 +1,4 @@
--- How a binding stands, read off the list of all orders of its instance (OSB API 2.17, "Binding", "Unbinding").
+-- The state of a binding, read off the list of all orders of its instance (OSB API 2.17, "Binding", "Unbinding").
 use Rattle.std.specs.Prelude.{ℕ, Bool, ◌&&◌, List, [], ◌∷◌, Option, None, Some, is_some, if◌then◌else◌}
 use Rattle.std.specs.List.{list_any}
 use Rattle.osb_orders.specs.declared.order.OrderKind.{OrderKind}

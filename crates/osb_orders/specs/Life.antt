@@ -1,4 +1,4 @@
--- How an instance stands, read off the list of all its orders (OSB API 2.17, "Provisioning", "Updating a Service
+-- The state of an instance, read off the list of all its orders (OSB API 2.17, "Provisioning", "Updating a Service
 -- Instance", "Deprovisioning"; that an update counts once it has succeeded, and that a failed deletion leaves the instance
 -- as it was, are this project's own).
 use Rattle.std.specs.Prelude.{List, [], ◌∷◌, Option, None, Some, if◌then◌else◌}

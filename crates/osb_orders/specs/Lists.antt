@@ -1,4 +1,4 @@
--- The last of a list, and what stands from it on.
+-- The last of a list, and what comes from it on.
 use Rattle.std.specs.Prelude.{Bool, List, [], ◌∷◌, filter, Option, None, Some, if◌then◌else◌}
 
 abbrev pub or_else : {A : Type 0} → List A → List A → List A

@@ -28,7 +28,7 @@ pub record ViewData : Type 0 where
 abbrev pub data_in : View → ViewData
 data_in view = record { standing = view.standing; last = view.last; binding = view.binding; named = view.named; subject_last = view.subject_last; count = view.count; bound = view.bound; listing = view.listing.items }
 
--- running orders matter to the ask that lists them alone
+-- running orders matter only to the ask that lists them
 abbrev pub listing_in : Ask → List (List ℕ × Order) → List (List ℕ × Order)
 listing_in (Orders ask) listing = listing
 listing_in _ listing = []

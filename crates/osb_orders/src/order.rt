@@ -37,7 +37,7 @@ pub struct Attributes {
     pub context: Text,
 }
 
-/// How an order stands, what its report said, and the credentials that a binding got. They are `{}`
+/// The state of an order, what its report said, and the credentials that a binding got. They are `{}`
 /// for every order but a succeeded Bind.
 #[derive(Clone, Debug, Drop, PartialEq, Eq)]
 pub struct Outcome {

@@ -81,7 +81,7 @@ impl PlainLives {
         listing(alloc, &self.lives, after, limit)
     }
 
-    /// The view for the ask. A life with 2^32 orders or more has none: want of memory is answered.
+    /// The view for the ask. A life with 2^32 orders or more has none: the answer is out of memory.
     #[tactic(auto, using(crate::proofs::ViewLemmas::viewed))]
     pub fn view(&self, alloc: Global, ask: &Ask) -> Result<View, AllocError>
         ensures { IfOk result (λ view. data_in view ≡ view_of self.now ask.now) }

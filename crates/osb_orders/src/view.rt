@@ -3,7 +3,7 @@
 use crate::order::{Attributes, Order};
 use osb_text::Text;
 
-/// How an instance stands.
+/// The state of an instance.
 #[derive(Clone, Copy, Debug, PartialEq, Eq)]
 pub enum InstancePhase {
     Creating,
@@ -13,7 +13,7 @@ pub enum InstancePhase {
     Deleting,
 }
 
-/// How a binding stands.
+/// The state of a binding.
 #[derive(Clone, Copy, Debug, PartialEq, Eq)]
 pub enum BindingPhase {
     Binding,
@@ -40,7 +40,7 @@ pub struct BindingNow {
 
 /// What an ask needs to know of the lives: the named instance and its last order; the binding, the
 /// order and the poll's last order that the ask names; how many orders the instance has, and whether
-/// a binding remains; and, for a listing alone, the running orders of all instances.
+/// a binding remains; and, only for a listing, the running orders of all instances.
 #[derive(Debug, Drop)]
 pub struct View {
     pub standing: Option<Standing>,

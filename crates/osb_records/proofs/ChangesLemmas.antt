@@ -49,7 +49,7 @@ written_goes (Err y) old new lives w whole = tt
 
 -- ---- one after the other
 
-taken_next : {X : Type 0} (xs : List X) (i : ℕ) (x : X) → i < length xs → x ≡ get_or xs i x → take (i + 1) xs ≡ take i xs ++ x ∷ []
+pub taken_next : {X : Type 0} (xs : List X) (i : ℕ) (x : X) → i < length xs → x ≡ get_or xs i x → take (i + 1) xs ≡ take i xs ++ x ∷ []
 taken_next xs i x low at = ap (λ n. take n xs) (add-one i) ∙ take-suc xs i x low ∙ ap (λ y. take i xs ++ y ∷ []) (sym at)
 
 pub changed_more : (changes : List LifeChange) (one : LifeChange) (lives : Lives) → all_changed (changes ++ one ∷ []) lives ≡ lives_changed one.change one.instance (all_changed changes lives)

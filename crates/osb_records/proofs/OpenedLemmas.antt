@@ -1,5 +1,5 @@
 -- A database that was opened, and what is made of it.
-use Rattle.std.proofs.Common.{◌≡◌, inl, inr, IsTrue, Bool, true, false, List, [], Ok, refl, sym, ap, subst, ◌∙◌}
+use Rattle.std.proofs.Common.{◌≡◌, inl, inr, IsTrue, Bool, true, false, [], Ok, refl, sym, ap, subst, ◌∙◌}
 use Rattle.std.specs.Prelude.{◌≢◌}
 use Rattle.std.specs.FinMap.{empty}
 use Rattle.sqlite.specs.Tree.{Trees}
@@ -9,13 +9,12 @@ use Rattle.sqlite.specs.Effect.{Database, IsDatabase}
 use Rattle.sqlite.specs.State.{State, HasCleanDisk, IsUnchanged}
 use Rattle.osb_orders.specs.Lives.{Lives}
 use Rattle.osb_orders.specs.IsLife.{IsLives}
-use Rattle.osb_joined.specs.declared.entry.ContextEntry.{ContextEntry}
 use Rattle.osb_joined.specs.Contexts.{contexts_of}
 use Rattle.osb_tables.specs.Tables.{made, no_schema, tables_schema, five_tables, second_schema}
 use Rattle.osb_tables.specs.declared.schema.Indexes.{Indexes}
 use Rattle.osb_tables.specs.declared.schema.Indexes.TheVariants.{None, Listing, Both}
 use Rattle.osb_tables.proofs.SchemaLemmas.{versions_apart, second_is_something}
-use Rattle.osb_contexts.specs.Contexts.{contexts_in, HoldsContexts}
+use Rattle.osb_contexts.specs.Contexts.{HoldsContexts}
 use Rattle.osb_contexts.specs.Inside.{Reshapes, second_lacking}
 use Rattle.osb_contexts.specs.Steps.{ContextSteps, Migrates}
 use Rattle.osb_contexts.proofs.StepLemmas.{within_then}
@@ -124,25 +123,22 @@ module _ (a b : Trees) (kept : KeepsRows (tables_schema).tables a b) where
   first_back it = first_along b a (sym (kept.0), (sym (kept.1.0), (sym (kept.1.1.0), (sym (kept.1.1.1.0), tt)))) it
 
 -- the lives of version 1 stand in the tables of version 2 with their contexts
-pub migrate_writes : (old mid read new : State) (contexts : List ContextEntry) → ContextSteps old mid [] → IsUnchanged mid read → StoreFirst mid.now.trees → contexts ≡ contexts_of (bare_lives_in mid.now.trees) → Migrates read new contexts
-    → WritesLives old new (bare_lives_in old.now.trees)
-migrate_writes old mid read new contexts shaped same first are it =
-    let now : read.now.trees ≡ mid.now.trees = ap (λ (d : Database). d.trees) same.0.now_is in
+pub migrate_writes : (old mid new : State) → ContextSteps old mid [] → StoreFirst mid.now.trees → Migrates mid new (contexts_of (bare_lives_in mid.now.trees)) → WritesLives old new (bare_lives_in old.now.trees)
+migrate_writes old mid new shaped first it =
     let lives = bare_lives_in mid.now.trees in
     let was : lives ≡ bare_lives_in old.now.trees = told_along old.now.trees mid.now.trees shaped.kept in
-    let orders : new.now.trees 1 ≡ mid.now.trees 1 = it.kept.0 ∙ ap (λ (db : Trees). db 1) now in
-    let instances : new.now.trees 3 ≡ mid.now.trees 3 = it.kept.1.0 ∙ ap (λ (db : Trees). db 3) now in
-    let bindings : new.now.trees 5 ≡ mid.now.trees 5 = it.kept.1.1.0 ∙ ap (λ (db : Trees). db 5) now in
-    let entries : contexts_in new.now.trees ≡ contexts_of lives = it.contexts_are ∙ are in
+    let orders : new.now.trees 1 ≡ mid.now.trees 1 = it.kept.0 in
+    let instances : new.now.trees 3 ≡ mid.now.trees 3 = it.kept.1.0 in
+    let bindings : new.now.trees 5 ≡ mid.now.trees 5 = it.kept.1.1.0 in
     let writes : WritesLives old new lives = record {
-      within = within_then old read new (within_still old mid read shaped.within same) it.within;
+      within = within_then old mid new shaped.within it.within;
       tables = record {
         schema = it.tables.schema;
         holds = record { format = it.version; orders = rw (orders) first.holds.orders; instances = rw (instances) first.holds.instances; bindings = rw (bindings) first.holds.bindings };
       };
-      lives_are = stored_is new.now.trees lives first.lives (rw (orders) (sym (told_is_bare mid.now.trees))) entries;
+      lives_are = stored_is new.now.trees lives first.lives (rw (orders) (sym (told_is_bare mid.now.trees))) it.contexts_are;
       standing = record { instances = rw (orders, instances) first.standing.instances; bindings = rw (orders, bindings) first.standing.bindings };
-      contexts = subst (λ es. HoldsContexts es new.now.trees) entries it.tables.holds;
+      contexts = subst (λ es. HoldsContexts es new.now.trees) it.contexts_are it.tables.holds;
       sound = it.sound;
     } in
     subst (WritesLives old new) was writes

@@ -7,6 +7,8 @@ pub mod Changes
 pub mod Opened
 pub mod Looks
 pub mod CrashLeaves
+-- How many requests were refused.
+pub mod Refusals
 -- For contracts inside the crate.
 pub mod Listed
 pub mod Transactions

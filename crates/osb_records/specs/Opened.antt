@@ -1,4 +1,4 @@
--- Which lives stand in a database that is opened.
+-- Which lives are in a database that is opened.
 use Rattle.std.specs.Prelude.{◌≡◌, ◌⊎◌}
 use Rattle.std.specs.FinMap.{empty}
 use Rattle.sqlite.specs.Tree.{Trees}
@@ -11,7 +11,7 @@ use Rattle.osb_statements.specs.Stored.{bare_lives_in, lives_stored}
 use Rattle.osb_statements.specs.StoredLives.{StoreFirst, StoreLives}
 use Rattle.osb_statements.specs.Steps.{HoldsLives}
 
--- the four tables of version 1: alone, with the index of the listing, or with both indexes
+-- the four tables of version 1: by themselves, with the index of the listing, or with both indexes
 abbrev pub IsFirst : Schema → Type 0
 IsFirst schema = (indexes : Indexes) × (schema ≡ made tables_schema indexes)
 

@@ -19,7 +19,7 @@ abbrev pub FindsSettled : Schema → State → Type 0
 FindsSettled schema s = IsSettled s × (s.now.schema ≡ schema)
 
 -- The database was taken over: at `Ok` it is ready and shows the lives that stood in it, with a fault it is as it was, and
--- NotOurs says that no lives stand in it.
+-- NotOurs says that no lives are in it.
 pub record TakesOver (old new : State) (result : Result (Unit {0}) StoreFault) : Type 0 where
   pub ready : OnOk result (IsReady new)
   pub ok : HasCleanDisk new → IsTrue new.is_open → OnOk result (AreLivesOfDatabase old.now (stored new))

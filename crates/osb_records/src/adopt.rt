@@ -5,6 +5,7 @@ ghost use Rattle.std.specs.FinMap.{empty};
 ghost use Rattle.sqlite.specs.Held.{state};
 ghost use Rattle.sqlite.specs.State.{HasCleanDisk, Survives};
 ghost use Rattle.osb_tables.specs.Tables.{no_schema, tables_schema, five_tables, second_schema, made};
+ghost use Rattle.osb_statements.specs.declared.cause.Cause.TheVariants.{Other};
 ghost use Rattle.osb_statements.specs.declared.fault.StoreFault.TheVariants as faults;
 ghost use Rattle.osb_statements.specs.StoredLives.{StoreFirst, StoreLives};
 ghost use Rattle.osb_records.specs.Opened.{HoldsSame};
@@ -17,8 +18,8 @@ ghost use Rattle.osb_statements.specs.Steps.{HoldsLives, IsSettled, stored};
 ghost use Rattle.osb_contexts.specs.Reads.{StaysInside, Does, behind};
 
 use crate::making::make_tables;
-use osb_contexts::{complete, migrate, reshape};
-use osb_statements::{StoreFault, are_tables_whole, read_first};
+use osb_contexts::{complete, reshape};
+use osb_statements::{Cause, StoreFault, are_tables_whole, migrate_first};
 use osb_tables::{FoundSchema, Indexes, find};
 use sqlite::{Alter, Connection, Transaction};
 use std::alloc::Global;
@@ -114,8 +115,7 @@ fn migrate_in<S: Alter>(
     ensures inside { StaysInside S.Store tx.old tx.new }
 {
     reshape(tx, indexes)?;
-    let contexts = read_first(tx, alloc)?;
-    Ok(migrate(tx, alloc, &contexts)?)
+    migrate_first(tx, alloc)
 }
 
 /// Takes the tables of a database of version 1, and brings it to version 2 in one transaction.
@@ -190,13 +190,13 @@ pub(crate) fn take_over<S: Alter>(conn: &mut Connection<S>, alloc: Global) -> Re
     ensures settled { (state S.Store conn.old).in_transaction ≡ false →
         IsSettled (state S.Store conn.new) }
     ensures open_transaction { IsTrue (state S.Store conn.old).in_transaction →
-        (result ≡ Err faults.Refused) × (conn.new ≡ conn.old) }
+        (result ≡ Err (faults.Refused Other)) × (conn.new ≡ conn.old) }
     ensures crash { Survives (state S.Store conn.old) (state S.Store conn.new) (HoldsSame
         (state S.Store conn.old).now) }
 {
     if conn.is_autocommit() {
         take_settled(conn, alloc)
     } else {
-        Err(StoreFault::Refused)
+        Err(StoreFault::Refused(Cause::Other))
     }
 }

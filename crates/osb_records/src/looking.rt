@@ -11,6 +11,7 @@ ghost use Rattle.osb_orders.specs.Named.{instance_in};
 ghost use Rattle.osb_orders.specs.ViewData.{data_in, view_of};
 ghost use Rattle.osb_audit.specs.Counts.{AreCounts};
 ghost use Rattle.osb_audit.specs.Plans as spec;
+ghost use Rattle.osb_statements.specs.NextId.{IsNextId};
 ghost use Rattle.osb_statements.specs.Steps.{IsReady, stored};
 ghost use Rattle.osb_records.specs.Listed.{listed_facts};
 ghost use Rattle.osb_records.specs.Looks.{Looks, MayLook};
@@ -19,7 +20,9 @@ use osb_asks::{Ask, Orders};
 use osb_audit::Counts;
 use osb_orders::{Order, View};
 use osb_standing::view_by;
-use osb_statements::{StoreFault, count_all, list_joined, list_life, list_plans, read_joined};
+use osb_statements::{
+    StoreFault, count_all, list_joined, list_life, list_plans, next_id, read_joined,
+};
 use osb_text::Text;
 use sqlite::{Alter, Connection};
 use std::alloc::Global;
@@ -43,6 +46,22 @@ pub(crate) fn read_life<S: Alter>(
     let orders = list_life(&mut tx, alloc, instance)?;
     tx.rollback();
     Ok(orders)
+}
+
+/// The first id above this one of an instance that has orders.
+pub(crate) fn read_next_id<S: Alter>(
+    conn: &mut Connection<S>,
+    after: &str,
+) -> Result<Option<Text>, StoreFault>
+    requires { IsReady (state S.Store conn.old) }
+    ensures ok { HasCleanDisk (state S.Store conn.new) →
+        IfOk result (IsNextId (stored (state S.Store conn.old)) after.now) }
+    ensures looks { Looks (state S.Store conn.old) (state S.Store conn.new) result }
+{
+    let mut tx = conn.transaction();
+    let next = next_id(&mut tx, after)?;
+    tx.rollback();
+    Ok(next)
 }
 
 /// The running orders of the instances with greater ids by their ids, up to a limit.

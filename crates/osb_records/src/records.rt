@@ -16,9 +16,11 @@ ghost use Rattle.osb_orders.specs.Changed.{lives_changed};
 ghost use Rattle.osb_audit.specs.Counts.{AreCounts};
 ghost use Rattle.osb_audit.specs.Plans.{plans_in_use};
 ghost use Rattle.osb_orders.specs.IsLife.{IsLives};
+ghost use Rattle.osb_statements.specs.declared.cause.Cause.TheVariants.{Other};
 ghost use Rattle.osb_statements.specs.declared.fault.StoreFault.TheVariants as faults;
 ghost use Rattle.osb_records.specs.CrashLeaves.{KeepsLives};
 ghost use Rattle.osb_records.specs.Opened.{AreLivesOfDatabase, HoldsSame};
+ghost use Rattle.osb_statements.specs.NextId.{IsNextId};
 ghost use Rattle.osb_statements.specs.Steps.{IsReady, IsSettled, LeavesOnly, stored};
 ghost use Rattle.osb_records.specs.Changes.{all_changed, AllCanBeMade, ChangesSomething};
 ghost use Rattle.osb_records.specs.Commit.{Commits, FinishesLast, IsDurable};
@@ -29,23 +31,29 @@ use crate::change::LifeChange;
 use crate::changes::make_all;
 use crate::commits::{append, finish};
 use crate::looking::{
-    read_counts, read_life, read_plans, read_running, view_of_instance, view_without_instance,
+    read_counts, read_life, read_next_id, read_plans, read_running, view_of_instance,
+    view_without_instance,
 };
 use crate::making::make_tables;
+use crate::refusals::Refusals;
 use osb_asks::Ask;
 use osb_audit::Counts;
 use osb_orders::{Change, Order, View};
-use osb_statements::StoreFault;
+use osb_statements::{Cause, StoreFault};
 use osb_text::Text;
 use sqlite::{Alter, Connection, MemStore};
 use std::alloc::Global;
 use std::marker::Model;
 
-/// The orders of all instances in a database. Contracts see its connection, which shows the lives.
+/// The orders of all instances in a database, and how many requests were refused. Contracts see its connection,
+/// which shows the lives.
 #[derive(Drop)]
 pub struct Records<S: Alter> {
     conn: Connection<S>,
     alloc: Global,
+    refusals: Refusals,
+    /// Why several changes were refused last, until a request that finds the store shut is counted for it.
+    refused_all: Option<Cause>,
 }
 
 impl<S: Alter> Model for Records<S> {
@@ -67,7 +75,12 @@ pub fn open_memory(alloc: Global) -> Result<Records<MemStore>, StoreFault>
 {
     let mut conn = Connection::open_in_memory(alloc)?;
     make_tables(&mut conn, alloc)?;
-    Ok(Records { conn, alloc })
+    Ok(Records {
+        conn,
+        alloc,
+        refusals: Refusals::NONE,
+        refused_all: None,
+    })
 }
 
 impl<S: Alter> Records<S> {
@@ -83,7 +96,7 @@ impl<S: Alter> Records<S> {
         ensures ok { IfOk result (λ records.
             HasCleanDisk (state S.Store records) → IsTrue (state S.Store records).is_open →
             AreLivesOfDatabase (state S.Store conn).now (stored (state S.Store records))) }
-        // With a fault the database is as it was, and NotOurs says that no lives stand in it.
+        // With a fault the database is as it was, and NotOurs says that no lives are in it.
         ensures err { IfErr result (λ fault.
             HasCleanDisk (state S.Store fault.1) → IsTrue (state S.Store fault.1).is_open →
             (state S.Store fault.1).now ≡ (state S.Store conn).now) }
@@ -94,7 +107,7 @@ impl<S: Alter> Records<S> {
         ensures settled { (state S.Store conn).in_transaction ≡ false →
             IfErr result (λ fault. IsSettled (state S.Store fault.1)) }
         ensures open_transaction { IsTrue (state S.Store conn).in_transaction →
-            result ≡ Err (faults.Refused, conn) }
+            result ≡ Err (faults.Refused Other, conn) }
         // A crash leaves what it could leave before, or a database of the same lives.
         ensures crash { IfOk result (λ records.
             Survives (state S.Store conn) (state S.Store records)
@@ -104,17 +117,27 @@ impl<S: Alter> Records<S> {
             (HoldsSame (state S.Store conn).now)) }
     {
         match take_over(&mut conn, alloc) {
-            Ok(()) => Ok(Records { conn, alloc }),
+            Ok(()) => Ok(Records {
+                conn,
+                alloc,
+                refusals: Refusals::NONE,
+                refused_all: None,
+            }),
             Err(fault) => Err((fault, conn)),
         }
     }
 
-    /// The connection, with the lives that stand there.
+    /// The connection, with the lives that are there.
     pub fn into_connection(self) -> Connection<S>
         ensures same { result ≡ self }
         ensures ready { IsReady (state S.Store result) }
     {
-        let Records { conn, alloc: _ } = self;
+        let Records {
+            conn,
+            alloc: _,
+            refusals: _,
+            refused_all: _,
+        } = self;
         conn
     }
 
@@ -138,6 +161,16 @@ impl<S: Alter> Records<S> {
         ensures looks { Looks (state S.Store self.old) (state S.Store self.new) result }
     {
         read_life(&mut self.conn, alloc, instance)
+    }
+
+    /// The first id above `after`, by bytes, of an instance that has orders. So all instances are gone
+    /// through, from the empty id on.
+    pub fn next_id(&mut self, after: &str) -> Result<Option<Text>, StoreFault>
+        ensures ok { HasCleanDisk (state S.Store self.new) →
+            IfOk result (IsNextId (stored (state S.Store self.old)) after.now) }
+        ensures looks { Looks (state S.Store self.old) (state S.Store self.new) result }
+    {
+        read_next_id(&mut self.conn, after)
     }
 
     /// The first so many instances whose last order runs and whose id is greater than `after` by
@@ -214,7 +247,7 @@ impl<S: Alter> Records<S> {
             IsTrue (state S.Store self.new).is_open → IsTrue (state S.Store self.old).is_open }
         ensures open { HasCleanDisk (state S.Store self.new) → change.now ≢ Nothing →
             OnOk result (IsTrue (state S.Store self.old).is_open) }
-        // A crash of the call leaves what it left before, or the changed lives; a crash after `Ok` leaves these alone.
+        // A crash of the call leaves what it left before, or the changed lives; a crash after `Ok` leaves only these.
         ensures crash { Survives (state S.Store self.old) (state S.Store self.new) (Commits
             (state S.Store self.old) (lives_changed change.now instance.now (stored
             (state S.Store self.old)))) }
@@ -262,6 +295,31 @@ impl<S: Alter> Records<S> {
         ensures durable { HasCleanDisk (state S.Store self.new) →
             OnOk result (LeavesOnly (state S.Store self.new) (stored (state S.Store self.new))) }
     {
-        make_all(&mut self.conn, self.alloc, changes)
+        let made = make_all(&mut self.conn, self.alloc, changes);
+        self.refused_all = match made {
+            Err(StoreFault::Refused(cause)) => Some(cause),
+            Err(StoreFault::NotOurs) | Ok(()) => None,
+        };
+        made
+    }
+
+    /// Counts a request that was refused for this cause. The first one that finds the store shut by a failure
+    /// of [`Records::commit_all`] is counted for the cause of that.
+    pub fn note_refusal(&mut self, cause: Cause)
+        ensures same { self.new ≡ self.old }
+    {
+        let first = self.refused_all.take();
+        let counted = match cause {
+            Cause::Shut => first.unwrap_or(cause),
+            Cause::Memory | Cause::DiskFull | Cause::DiskFailed | Cause::Other => cause,
+        };
+        self.refusals.add(counted);
+    }
+
+    /// How many requests were refused, for each cause, since this was last asked.
+    pub fn take_refusals(&mut self) -> Refusals
+        ensures same { self.new ≡ self.old }
+    {
+        self.refusals.take()
     }
 }

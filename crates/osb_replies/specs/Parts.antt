@@ -13,7 +13,7 @@ parts reply = record {
   close = reply.close;
 }
 
--- the reply to a request that met want of memory or a refusal of the store
+-- the reply to a request for which memory or the store was refused
 abbrev pub refused : ReplyParts
 refused = record {
   status = InternalServerError;

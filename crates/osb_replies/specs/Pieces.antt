@@ -7,7 +7,7 @@ use Rattle.std.specs.List.{concat}
 abbrev pub text_of : List (Bor (List ℕ)) → List ℕ
 text_of pieces = concat (map (λ (piece : Bor (List ℕ)). piece.now) pieces)
 
--- what stands before the identity that a reply repeats, where it repeats one, and after it
+-- what comes before the identity that a reply repeats, where it repeats one, and after it
 abbrev pub before_identity : Option (List ℕ) → List ℕ
 before_identity echo = option_map_or (λ (_ : List ℕ). codes "X-Broker-API-Request-Identity: ") echo []
 

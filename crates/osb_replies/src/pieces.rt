@@ -35,7 +35,7 @@ fn phrase<'p>(status: Status) -> &'p [u8]
     status.phrase().as_bytes()
 }
 
-/// What stands before the request's identity, where it has one.
+/// What comes before the request's identity, where it has one.
 fn before_identity<'p>(echo: Option<&'p [u8]>) -> &'p [u8]
     ensures { result.now ≡ before_identity (option_copied echo.entry) }
 {
@@ -52,7 +52,7 @@ fn identity(echo: Option<&[u8]>) -> &[u8]
     echo.unwrap_or(b"")
 }
 
-/// What stands after it.
+/// What comes after it.
 fn after_identity<'p>(echo: Option<&'p [u8]>) -> &'p [u8]
     ensures { result.now ≡ after_identity (option_copied echo.entry) }
 {

@@ -19,7 +19,7 @@ pub struct Reply<'a> {
     pub close: bool,
 }
 
-/// The reply to a request that met want of memory or a refusal of the store.
+/// The reply to a request for which memory or the store was refused.
 pub const REFUSED: Reply<'static> = Reply {
     status: Status::InternalServerError,
     body: Body::EMPTY_OBJECT,

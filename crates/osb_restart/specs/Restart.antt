@@ -5,7 +5,7 @@ use Rattle.osb_orders.specs.Lives.{Lives}
 use Rattle.osb_statements.specs.Steps.{HoldsLives}
 use Rattle.osb_file.specs.File.{AreLivesOf}
 
--- a crash may leave a database in which these lives stand
+-- a crash may leave a database in which these lives are
 abbrev pub MayLeaveLives : State → Lives → Type 0
 MayLeaveLives s lives = ∥ ((db : Trees) × s.may_leave db × AreLivesOf db lives) ∥₁
 

@@ -13,7 +13,7 @@ use sqlite_disk::Crash;
 use std::alloc::Global;
 
 /// The machine stops at this moment, and the next run opens what is left and takes it over. `None`
-/// where it can't, for want of memory or because a file fails.
+/// where it can't, since memory is refused or a file fails.
 pub fn restarted<D: Crash + Drop>(
     alloc: Global,
     records: Records<FileStore<D>>,

@@ -116,7 +116,7 @@ fn serve_run<D: Crash + Drop, L: Entrance, W: Sink, E: Sink>(
 
 /// Runs of the program over two files that keep the contract of a disk, each as `serve` runs it, and
 /// behind each a stop of the machine. Over a disk that refuses every call from some moment on, the stop
-/// is at that moment of the run. `None` where the files can't be opened, for want of memory or because
+/// is at that moment of the run. `None` where the files can't be opened, since memory is refused or because
 /// one fails.
 ///
 /// What was said with clients is in the journal of the entrance, run by run. The files hold lives in the

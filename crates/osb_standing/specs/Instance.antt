@@ -45,7 +45,7 @@ standing_over Delete Failed birth_failed attributes old = option_map (in_phase (
 standing_over Bind state birth_failed attributes old = old
 standing_over Unbind state birth_failed attributes old = old
 
--- how the instance stands after the order
+-- the state of the instance after the order
 abbrev pub standing_after : Bool → Order → Option Standing → Option Standing
 standing_after birth_failed order old = standing_over order.kind order.outcome.state birth_failed order.attributes old
 

@@ -19,7 +19,7 @@ count_in (Some row) = row.last_number
 abbrev pub has_rows : Bindings → Bool
 has_rows rows = not (is_empty (entries rows))
 
--- the row says how the instance stands
+-- the row says the state of the instance
 abbrev pub StandingIsInTheRow : Type 0
 StandingIsInTheRow = (life : Life) → standing_in (row_of life) ≡ standing_of life
 

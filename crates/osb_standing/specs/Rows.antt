@@ -24,7 +24,7 @@ row_by standing last = record { standing = standing; busy = is_now Running last;
 abbrev pub row_of : Life → Option InstanceRow
 row_of life = option_map (row_by (standing_of life)) (last_of life)
 
--- how an instance stands by its row
+-- the state of an instance by its row
 abbrev pub standing_in : Option InstanceRow → Option Standing
 standing_in row = option_and_then (λ (row : InstanceRow). row.standing) row
 

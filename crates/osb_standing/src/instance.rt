@@ -49,7 +49,7 @@ fn row_after(
     })
 }
 
-/// How the instance stands by its row.
+/// The state of the instance by its row.
 fn standing_in(row: Option<&InstanceRow>) -> Option<&Standing>
     ensures { option_copied result ≡ rows.standing_in (option_copied row.entry) }
 {

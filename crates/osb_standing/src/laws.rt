@@ -1,8 +1,8 @@
-//! Laws of what the rows say of the lives, over the definitions alone.
+//! Laws of what the rows say of the lives, over only the definitions.
 
 ghost use Rattle.osb_standing.specs.Laws.{StandingIsInTheRow, CountIsTheLastNumber, BindingsAre, BindingsRemain, ListedByRows};
 
-/// The row of an instance says how it stands, and its last number is the count of the orders of a
+/// The row of an instance says its state, and its last number is the count of the orders of a
 /// well-formed life.
 pub fn instance_rows_tell()
     ensures standing { StandingIsInTheRow }

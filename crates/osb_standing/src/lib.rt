@@ -1,4 +1,4 @@
-//! The current state of instances and bindings as rows that stand beside the orders, and how one
+//! The current state of instances and bindings as rows beside the orders, and how one
 //! order changes them.
 #![tactic(auto)]
 

@@ -2,7 +2,7 @@
 
 use osb_orders::{BindingNow, Standing};
 
-/// The row of an instance that has or had orders: how it stands unless it is absent, whether its
+/// The row of an instance that has or had orders: its state unless it is absent, whether its
 /// last order runs, and the number of that order.
 #[derive(Clone, Debug, Drop, PartialEq, Eq)]
 pub struct InstanceRow {

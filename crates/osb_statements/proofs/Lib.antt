@@ -30,7 +30,10 @@ pub mod TableReads
 pub mod StoredLivesLemmas
 pub mod PieceLemmas
 pub mod StoredPieceLemmas
+pub mod RowPieceLemmas
+pub mod MigratedLemmas
 pub mod JudgedLemmas
 pub mod PlanLemmas
 pub mod ContextLemmas
+pub mod NextLemmas
 pub mod NoRowLemmas

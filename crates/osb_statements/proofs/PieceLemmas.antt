@@ -1,5 +1,5 @@
 -- Lists of rows that are cut by the ids of their instances, and put together again.
-use Rattle.std.proofs.Common.{◌≡◌, ℕ, Bool, true, false, not, List, [], ◌++◌, map, filter, bytes_eq, Ordering, Less, Equal, Greater, is_gt, true≢false, refl, sym, ap, ap₂, subst, ◌∙◌}
+use Rattle.std.proofs.Common.{◌≡◌, ℕ, Bool, true, false, not, cond, List, [], ◌∷◌, ◌++◌, map, filter, bytes_eq, Ordering, Less, Equal, Greater, is_gt, true≢false, refl, sym, ap, ap₂, subst, ◌∙◌}
 use Rattle.std.specs.Prelude.{IfSome}
 use Rattle.std.specs.List.{AllByRecursion}
 use Rattle.std.specs.List.Sorted.{IsStrictlySortedBy}
@@ -13,24 +13,27 @@ use Rattle.std.proofs.lemmas.List.Elements.{filter-append}
 use Rattle.sqlite_trees.specs.Tree.{IsAscending}
 use Rattle.sqlite_keyed.proofs.ListLemmas.{all_map, all_weaker, ascending-append, ascending-filter, filter-filter, filter-map, filter_none}
 use Rattle.osb_orders.specs.Life.{Life}
-use Rattle.osb_orders.specs.IsLife.{IsInstance}
+use Rattle.osb_orders.specs.IsLife.{IsInstance, IsLives}
 use Rattle.osb_standing.specs.declared.row.InstanceRow.{InstanceRow}
 use Rattle.osb_standing.specs.Rows.{row_of, bindings_of}
 use Rattle.osb_audit.specs.declared.entry.BindingEntry.{BindingEntry}
-use Rattle.osb_audit.specs.Orders.{Entry, entry_cmp, is_of}
+use Rattle.osb_audit.specs.Orders.{Entry, entry_cmp, is_of, lives_in}
 use Rattle.osb_audit.specs.Instances.{InstanceEntry, instance_cmp, is_instance}
 use Rattle.osb_audit.specs.Bindings.{binding_cmp, binding_entry, is_bound}
 use Rattle.osb_audit.specs.Audit.{AreRowsOfLives}
 use Rattle.osb_audit.specs.Life.{orders_in}
-use Rattle.osb_audit.proofs.RunLemmas.{by_bytes, same_text}
-use Rattle.osb_audit.proofs.LivesLemmas.{life_in, opened, no_bindings, StandsAt, stands_at, stand_from}
+use Rattle.osb_audit.proofs.RunLemmas.{by_bytes, same_text, text_itself as itself}
+use Rattle.osb_audit.proofs.LivesLemmas.{life_in, life_of_lives, opened, no_bindings, StandsAt, stands_at, stand_from}
 use Rattle.osb_bare.specs.Bare.{bare_entry}
 use Rattle.osb_joined.specs.declared.entry.ContextEntry.{ContextEntry}
-use Rattle.osb_joined.specs.Contexts.{context_cmp}
+use Rattle.osb_joined.specs.Contexts.{context_cmp, contexts_of, contexts_of_instance}
 use Rattle.osb_joined.specs.Joined.{joined_entry}
 use Rattle.osb_joined.specs.Join.{bare_instance_entry, context_of_entry, context_of_row, is_of_order, is_of_standing, AreJoined}
 use Rattle.osb_joined.specs.Audit.{HaveNoContexts, AreRowsWithContexts}
-use Rattle.osb_joined.proofs.ListLemmas.{all_pass, ascending, filter_swap, sorted_by}
+use Rattle.osb_joined.proofs.ChangeLemmas.{same_contexts}
+use Rattle.osb_joined.proofs.InstanceLemmas.{is_context_of}
+use Rattle.osb_joined.proofs.ListLemmas.{all_pass, ascending, filter_hit, filter_swap, sorted_by}
+use Rattle.osb_joined.proofs.LivesLemmas.{contexts_rise, numbered, of_instance}
 use Rattle.osb_joined.proofs.AuditedLemmas.{joined_instance_entry, lists_orders, lists_instances, lists_rows, lists_join, audited}
 
 -- ---- items by their ids
@@ -72,6 +75,10 @@ stands_as id orders new instances rows bindings bound same same_rows same_bound 
 
 nothing_stands : (id : List ℕ) → StandsAt id (life_in id []) [] []
 nothing_stands id = record { instance = tt; row = refl; bound = sym (ap (map (binding_entry id)) no_bindings) }
+
+pub rows_of_none : AreRowsOfLives [] [] []
+unfolding IsStrictlySortedBy
+rows_of_none = (record { orders_rise = tt; instances_rise = tt; bindings_rise = tt }, stand_from [] [] [] nothing_stands)
 
 -- ---- the rows of some instances
 
@@ -272,3 +279,70 @@ module _ (last : List ℕ) (contexts more : List ContextEntry) (orders later : L
       let stand = rows_of_both last one other one_rows other_rows bindings bound lows highs (lists_rows contexts orders instances bindings none first) (lists_rows more later rows bound later_none second) in
       let joins = joined_both one one_rows other other_rows (lists_join contexts orders instances bindings none first) (lists_join more later rows bound later_none second) in
       audited (contexts ++ more) (orders ++ later) (instances ++ rows) (bindings ++ bound) none_both (one ++ other) (one_rows ++ other_rows) joins stand
+
+-- ---- the contexts that the lives of two pieces have
+
+-- where nothing has an id that isn't chosen, all have chosen ones
+all_chosen : {X : Type 0} (key : X → List ℕ) (chosen : List ℕ → Bool) (xs : List X) → ((id : List ℕ) → chosen id ≡ false → filter (λ x. bytes_eq (key x) id) xs ≡ []) → AllByRecursion (λ x. chosen (key x) ≡ true) xs
+all_chosen key chosen [] none = tt
+all_chosen {X} key chosen (x ∷ xs) none = (here (chosen (key x)) refl, all_chosen key chosen xs (λ id other. rest id (bytes_eq (key x) id) (none id other)))
+  where
+    here : (b : Bool) → chosen (key x) ≡ b → chosen (key x) ≡ true
+    here true is = is
+    here false is =
+        let has : X → Bool = λ item. bytes_eq (key item) (key x) in
+        let some : x ∷ filter has xs ≡ [] = sym (filter_hit has x xs (itself (key x))) ∙ none (key x) is in
+        absurd (cc)
+
+    rest : (id : List ℕ) (b : Bool) → cond b (x ∷ filter (λ item. bytes_eq (key item) id) xs) (filter (λ item. bytes_eq (key item) id) xs) ≡ [] → filter (λ item. bytes_eq (key item) id) xs ≡ []
+    rest id true is = absurd (cc)
+    rest id false is = is
+
+module _ (last : List ℕ) (orders later : List Entry) (low : AllByRecursion (λ (entry : Entry). IsUpTo last entry.0) orders) (high : AllByRecursion (λ (entry : Entry). IsAbove last entry.0) later) where
+  abbrev contexts_in_lives : List Entry → List ContextEntry
+  contexts_in_lives entries = contexts_of (lives_in entries)
+
+  abbrev of_those : List ℕ → List Entry → List ContextEntry
+  of_those id entries = contexts_of_instance id (orders_in entries)
+
+  at_id : (id : List ℕ) (entries : List Entry) → filter (is_context_of id) (contexts_in_lives entries) ≡ of_those id (filter (is_of id) entries)
+  at_id id entries = of_instance (lives_in entries) id ∙ ap (contexts_of_instance id) (life_of_lives id entries)
+
+  none_in_first : (id : List ℕ) → IsAbove last id → filter (is_of id) orders ≡ []
+  none_in_first id above = none_other (λ (entry : Entry). entry.0) (λ id. not (is_gt (by_bytes id last))) id (ap not above) orders (all_weaker _ (λ (entry : Entry). not (is_gt (by_bytes entry.0 last)) ≡ true) (λ entry is. ap not is) orders low)
+
+  none_in_second : (id : List ℕ) → IsUpTo last id → filter (is_of id) later ≡ []
+  none_in_second id up = none_other (λ (entry : Entry). entry.0) (λ id. is_gt (by_bytes id last)) id up later high
+
+  turned_up : (b : Bool) → not b ≡ true → b ≡ false
+  turned_up true is = absurd (cc)
+  turned_up false is = refl
+
+  turned_above : (b : Bool) → not b ≡ false → b ≡ true
+  turned_above true is = refl
+  turned_above false is = absurd (cc)
+
+  first_up_to : AllByRecursion (λ (entry : ContextEntry). IsUpTo last entry.instance) (contexts_in_lives orders)
+  first_up_to =
+      all_weaker _ (λ (entry : ContextEntry). IsUpTo last entry.instance) (λ entry is. turned_up (is_gt (by_bytes entry.instance last)) is) (contexts_in_lives orders)
+      (all_chosen (λ (entry : ContextEntry). entry.instance) (λ id. not (is_gt (by_bytes id last))) (contexts_in_lives orders) (λ id other. at_id id orders ∙ ap (of_those id) (none_in_first id (turned_above (is_gt (by_bytes id last)) other))))
+
+  second_above : AllByRecursion (λ (entry : ContextEntry). IsAbove last entry.instance) (contexts_in_lives later)
+  second_above = all_chosen (λ (entry : ContextEntry). entry.instance) (λ id. is_gt (by_bytes id last)) (contexts_in_lives later) (λ id up. at_id id later ∙ ap (of_those id) (none_in_second id up))
+
+  at_either : (id : List ℕ) (b : Bool) → is_gt (by_bytes id last) ≡ b → filter (is_context_of id) (contexts_in_lives (orders ++ later)) ≡ filter (is_context_of id) (contexts_in_lives orders ++ contexts_in_lives later)
+  at_either id false is =
+      at_id id (orders ++ later) ∙ ap (of_those id) (all_in_first (λ (entry : Entry). entry.0) last orders later low high id is) ∙ sym (at_id id orders)
+      ∙ sym (filter-append (is_context_of id) (contexts_in_lives orders) (contexts_in_lives later)
+      ∙ ap (λ rest. filter (is_context_of id) (contexts_in_lives orders) ++ rest) (at_id id later ∙ ap (of_those id) (none_in_second id is)) ∙ append-nil (filter (is_context_of id) (contexts_in_lives orders)))
+  at_either id true is =
+      at_id id (orders ++ later) ∙ ap (of_those id) (all_in_second (λ (entry : Entry). entry.0) last orders later low high id is) ∙ sym (at_id id later)
+      ∙ sym (filter-append (is_context_of id) (contexts_in_lives orders) (contexts_in_lives later)
+      ∙ ap (λ front. front ++ filter (is_context_of id) (contexts_in_lives later)) (at_id id orders ∙ ap (of_those id) (none_in_first id is)))
+
+  -- are those of the first and then those of the second
+  pub contexts_in_turn : IsLives (lives_in orders) → IsLives (lives_in later) → IsLives (lives_in (orders ++ later)) → contexts_of (lives_in (orders ++ later)) ≡ contexts_of (lives_in orders) ++ contexts_of (lives_in later)
+  contexts_in_turn one other both =
+      same_contexts (contexts_in_lives (orders ++ later)) (contexts_in_lives orders ++ contexts_in_lives later) (contexts_rise _ (numbered _ both))
+      (rising_both (λ (entry : ContextEntry). entry.instance) last (contexts_in_lives orders) (contexts_in_lives later) first_up_to second_above context_cmp contexts_first (contexts_rise _ (numbered _ one)) (contexts_rise _ (numbered _ other)))
+      (λ id. at_either id (is_gt (by_bytes id last)) refl)

@@ -1,5 +1,5 @@
 -- The plans in use, of the rows that were read.
-use Rattle.std.proofs.Common.{◌≡◌, inl, zero, suc, ℕ, ◌+◌, ◌≤◌, ◌<◌, Bool, true, false, ◌||◌, ◌&&◌, List, [], ◌∷◌, ◌++◌, length, filter, take, Less, is_gt, not, refl, sym, ap, subst, subst₂, ◌∙◌, IsTrue, arith, IsPermutation}
+use Rattle.std.proofs.Common.{◌≡◌, inl, zero, suc, ℕ, ◌+◌, ◌≤◌, ◌<◌, Bool, true, false, ◌||◌, List, [], ◌∷◌, ◌++◌, length, filter, take, Less, refl, sym, ap, subst, ◌∙◌, IsTrue, arith, IsPermutation}
 use Rattle.std.specs.List.{AllByRecursion, list_any}
 use Rattle.std.specs.List.Sorted.{IsStrictlySortedBy}
 use Rattle.std.specs.Ordering.{eq_by_cmp}
@@ -9,46 +9,41 @@ use Rattle.std.specs.FinMap.{entries}
 use Rattle.std.proofs.lemmas.List.{length-append, length-map, take_all}
 use Rattle.std.proofs.lemmas.List.Concat.{flat_map-append}
 use Rattle.std.proofs.lemmas.List.Folds.{list_any-append}
-use Rattle.std.proofs.lemmas.List.Sorted.{IsPermutation-filter_both, length_permutation, list_any-IsPermutation}
+use Rattle.std.proofs.lemmas.List.Sorted.{length_permutation, list_any-IsPermutation}
 use Rattle.std.proofs.lemmas.List.Elements.{filter-append}
-use Rattle.sqlite_value.proofs.OrderLemmas.{value_cmp-Text}
 use Rattle.sqlite.specs.declared.types.Value.{Value}
-use Rattle.sqlite.specs.declared.types.Value.TheVariants.{Null, Text}
-use Rattle.sqlite.specs.State.{State, HasCleanDisk, IsUnchanged, Shown, Survives}
+use Rattle.sqlite.specs.declared.types.Value.TheVariants.{Text}
+use Rattle.sqlite.specs.State.{State, HasCleanDisk, IsUnchanged, KeepsCommit, Survives}
 use Rattle.sqlite.specs.Effect.{Database}
 use Rattle.sqlite.proofs.Callers.{unchanged_then}
+use Rattle.sqlite.proofs.InsideLemmas.{keeps_then}
 use Rattle.sqlite.proofs.StateLemmas.{unchanged, survives_then}
-use Rattle.sqlite_keyed.proofs.ListLemmas.{IsPermutation-filter, all-filter, all_weaker, filter_all, filter_none, IsPermutation-flat_map, all_of}
+use Rattle.sqlite_keyed.proofs.ListLemmas.{IsPermutation-filter, all-filter, filter_all, filter_none, IsPermutation-flat_map, all_of}
 use Rattle.osb_orders.specs.Lives.{Lives}
 use Rattle.osb_orders.specs.Listing.{is_listed, listing, with_last}
-use Rattle.osb_audit.specs.Orders.{Entry, entry_cmp}
-use Rattle.osb_audit.specs.Bindings.{binding_cmp}
+use Rattle.osb_audit.specs.Orders.{Entry}
 use Rattle.osb_audit.specs.Plans.{Pair, pair_cmp}
 use Rattle.osb_audit.specs.Gathered.{pairs_in_row, pairs_in_rows, Adds, HasAdded}
 use Rattle.osb_audit.proofs.RunLemmas.{by_bytes}
 use Rattle.osb_audit.specs.Counts.{AreCounts}
 use Rattle.osb_audit.specs.declared.counting.Counts.{Counts}
 use Rattle.osb_audit.proofs.CountLemmas.{counted_there, counted_busy, counted_bound}
-use Rattle.sqlite.specs.Order.{Row}
-use Rattle.sqlite.specs.Term.{col}
-use Rattle.sqlite.proofs.Callers.{reads_as}
-use Rattle.osb_contexts.proofs.Texts.{by_rowid}
-use Rattle.osb_contexts.proofs.WholeLemmas.{all_shown}
-use Rattle.osb_statements.proofs.WholeTexts.{binding_rowids, binding_rowids_is}
+use Rattle.sqlite.specs.Order.{Row, column}
 use Rattle.osb_statements.specs.Bindings.{binding_cells, binding_row}
 use Rattle.osb_audit.specs.Instances.{InstanceEntry, instance_cmp, InstancesStand}
 use Rattle.osb_tables.specs.Tables.{second_schema}
 use Rattle.osb_statements.specs.Queries.{AreRecords, ShowsRecords}
 use Rattle.osb_contexts.specs.Inside.{ShowsSchema}
-use Rattle.osb_contexts.specs.Pieces.{beyond, piece}
+use Rattle.osb_contexts.specs.Pieces.{beyond, is_row_between, piece, AreNamed}
 use Rattle.osb_contexts.specs.Read.{HaveRowids}
 use Rattle.osb_contexts.proofs.StepLemmas.{clean_before}
-use Rattle.osb_statements.specs.Pieces.{is_instance_between, CountsMore, counted_in}
-use Rattle.osb_statements.specs.Stored.{entries_in, instances_in, bindings_in}
+use Rattle.osb_statements.specs.Pieces.{is_instance_between, StoreRows, CountsMore, counted_in}
+use Rattle.osb_statements.proofs.RowPieceLemmas.{bindings_have_ids, instance_ids}
+use Rattle.osb_statements.specs.Stored.{instances_in}
 use Rattle.osb_statements.specs.Steps.{content, bare_in}
 use Rattle.osb_statements.proofs.NamedLemmas.{unchanged_records}
 use Rattle.osb_statements.proofs.StoredLivesLemmas.{rises}
-use Rattle.osb_statements.proofs.StoredPieceLemmas.{above, below_beyond, filter_twice, in_first, in_second, named_id, no_instances, not_above, stores_some}
+use Rattle.osb_statements.proofs.StoredPieceLemmas.{above, below_beyond, none_below, not_above, nothing_between, parted, stores_some}
 use Rattle.osb_statements.proofs.SortLemmas.{same_rows}
 use Rattle.osb_statements.proofs.BareLemmas.{instances_bare}
 use Rattle.osb_statements.specs.Instances.{instance_cells, instance_row}
@@ -87,36 +82,22 @@ some_rows db records after to entries read =
     (list.0.only some (stores_some instance_cells instance_row instance_cmp (λ (entry : InstanceEntry). entry.0) (λ _. refl) (λ _. refl) (db.trees 3) instance_total after to (instances_in db.trees) stores)))
 
 -- the rows of records have ids
-pub records_named : (db : Database) → AreRecords db → AllByRecursion (λ (entry : InstanceEntry). is_instance_between [] beyond entry ≡ true) (instances_in db.trees)
-records_named db records =
-    all_weaker _ _ (λ (entry : InstanceEntry) is. named_id entry.0 is) (instances_in db.trees)
-    (no_instances (entries_in db.trees) (instances_in db.trees) (bindings_in db.trees) (
-      record {
-        orders_rise = rises entry_cmp (entries_in db.trees) records.tables.holds.orders.rising;
-        instances_rise = rises instance_cmp (instances_in db.trees) records.tables.holds.instances.rising;
-        bindings_rise = rises binding_cmp (bindings_in db.trees) records.tables.holds.bindings.rising;
-      },
-      record { lives = records.lives; instances_stand = records.standing.instances; bindings_stand = records.standing.bindings },
-    ))
+module _ (db : Database) (records : AreRecords db) where
+  records_rows : StoreRows db.trees
+  records_rows =
+      let holds = records.tables.holds in
+      record { holds = record { orders = holds.orders; instances = holds.instances; bindings = holds.bindings }; lives = records.lives; standing = records.standing }
+
+  pub records_named : AllByRecursion (λ (entry : InstanceEntry). is_instance_between [] beyond entry ≡ true) (instances_in db.trees)
+  records_named = instance_ids db.trees records_rows
+
+  pub bindings_named : AreNamed (db.trees 5)
+  bindings_named = bindings_have_ids db.trees records_rows
 
 module _ (instances : List InstanceEntry) (b : List ℕ) (c : Value) (high : above (Text b) c ≡ false) where
-  abbrev is_first : InstanceEntry → Bool
-  is_first entry = not (above (Text entry.0) (Text b))
-
-  low : (b : List ℕ) → above (Text []) (Text b) ≡ false
-  low b = ap is_gt (value_cmp-Text [] b) ∙ small b
-    where
-      small : (b : List ℕ) → is_gt (by_bytes [] b) ≡ false
-      small [] = refl
-      small (byte ∷ b) = refl
-
   -- the rows so far, and those of one piece more
-  parted : IsPermutation (filter (is_instance_between [] c) instances) (filter (is_instance_between [] (Text b)) instances ++ filter (is_instance_between b c) instances)
-  parted =
-      subst₂ (λ (one other : List InstanceEntry). IsPermutation (filter (is_instance_between [] c) instances) (one ++ other))
-      (filter_twice is_first (is_instance_between [] c) (is_instance_between [] (Text b)) (λ entry. in_first [] b c (low b) high (Text entry.0)) instances)
-      (filter_twice (λ entry. not (is_first entry)) (is_instance_between [] c) (is_instance_between b c) (λ entry. in_second [] b c (low b) high (Text entry.0)) instances)
-      (IsPermutation-filter_both is_first (λ entry. not (is_first entry)) (λ _. refl) (filter (is_instance_between [] c) instances))
+  rows_parted : IsPermutation (filter (is_instance_between [] c) instances) (filter (is_instance_between [] (Text b)) instances ++ filter (is_instance_between b c) instances)
+  rows_parted = parted (λ (entry : InstanceEntry). Text entry.0) instances [] b c (none_below b) high
 
   pub more_added : (old new : BTreeSet Pair) → HasAdded (pairs_in_rows (filter (is_instance_between [] (Text b)) instances)) old → Adds (pairs_in_rows (filter (is_instance_between b c) instances)) old new → HasAdded (pairs_in_rows (filter (is_instance_between [] c) instances)) new
   more_added old new had adds q =
@@ -129,7 +110,7 @@ module _ (instances : List InstanceEntry) (b : List ℕ) (c : Value) (high : abo
       ∙ turned (list_any test (pairs_in_rows second)) (list_any test (pairs_in_rows first))
       ∙ sym (list_any-append test (pairs_in_rows first) (pairs_in_rows second))
       ∙ ap (list_any test) (sym (flat_map-append pairs first second))
-      ∙ sym (list_any-IsPermutation test _ _ (IsPermutation-flat_map pairs _ _ parted))
+      ∙ sym (list_any-IsPermutation test _ _ (IsPermutation-flat_map pairs _ _ rows_parted))
     where
       turned : (a b : Bool) → (a || b) ≡ (b || a)
       turned true true = refl
@@ -184,11 +165,7 @@ HasGathered old now after plans = HasPassed old now (HasAdded (pairs_in_rows (ro
 no_rows_yet : (s : State) (after : List ℕ) → after ≡ [] → rows_to s (Text after) ≡ []
 no_rows_yet s after none =
     ap (λ (last : List ℕ). rows_to s (Text last)) none
-    ∙ filter_none _ (content s).instances (all_of (λ (entry : InstanceEntry). is_instance_between [] (Text []) entry ≡ false) (λ entry. nothing_between (above (Text entry.0) (Text []))) (content s).instances)
-  where
-    nothing_between : (b : Bool) → (b && not b) ≡ false
-    nothing_between true = refl
-    nothing_between false = refl
+    ∙ filter_none _ (content s).instances (all_of (λ (entry : InstanceEntry). is_instance_between [] (Text []) entry ≡ false) (λ entry. nothing_between [] (Text entry.0)) (content s).instances)
 
 pub none_gathered : (s : State) (after : List ℕ) (plans : BTreeSet Pair) → after ≡ [] → plans.keys ≡ [] → ShowsRecords s → HasGathered s s after plans
 none_gathered s after plans none empty shows = none_passed s _ (λ q. ap (list_any (eq_by_cmp pair_cmp q)) empty ∙ ap (λ rows. list_any (eq_by_cmp pair_cmp q) (pairs_in_rows rows)) (sym (no_rows_yet s after none))) shows
@@ -228,7 +205,7 @@ module _ (old now next : State) (after : List ℕ) (counted more : ℕ × ℕ) (
       let sum = subst (λ (d : Database). CountsMore (filter (is_instance_between after c) (instances_in d.trees)) counted more) (now_was old now next _ so_far survives same clean live) (sums clean) in
       let was = so_far.found (clean_before now next _ survives clean) live in
       let rows = filter (is_instance_between after c) (content old).instances in
-      let parts = parted (content old).instances after c high in
+      let parts = rows_parted (content old).instances after c high in
       (λ i. (
         (sum.0 ∙ ap (λ (pair : ℕ × ℕ). pair.0 + (counted_in rows).0) was ∙ sym (counted_parts (λ (entry : InstanceEntry). is_some entry.1.standing) (rows_to old c) (rows_to old (Text after)) rows parts)) i,
         (sum.1 ∙ ap (λ (pair : ℕ × ℕ). pair.1 + (counted_in rows).1) was ∙ sym (counted_parts (λ (entry : InstanceEntry). entry.1.busy) (rows_to old c) (rows_to old (Text after)) rows parts)) i,
@@ -240,13 +217,49 @@ module _ (old now next : State) (after : List ℕ) (counted more : ℕ × ℕ) (
   pub all_counted : (HasCleanDisk next → CountsMore (filter (is_instance_between after beyond) (content now).instances) counted more) → ShowsRecords old → HasCleanDisk next → IsTrue old.is_open → more ≡ counted_in (content old).instances
   all_counted sums shows clean live = counts_to beyond (below_beyond after) sums clean live ∙ ap counted_in (all_rows old now next so_far.survives survives shows clean live)
 
--- as many rows as bindings
-pub bindings_counted : (old new : State) (rows : List Row) → AreRecords old.now → Shown binding_rowids [] old new rows → length rows ≡ length (content old).bindings
-bindings_counted old new rows records shown =
-    let read = reads_as binding_rowids [] old new second_schema records.tables.schema _ binding_rowids_is.0 binding_rowids_is.2 binding_rowids_is.1 rows shown in
-    let db = old.now.trees in
-    length_permutation _ _ (all_shown 5 db refl (col 1 0 ∷ []) by_rowid rows (read.answer Null)) ∙ length-map (db 5) _
-    ∙ sym (length-map (db 5) binding_cells) ∙ sym (length_permutation _ _ records.tables.holds.bindings.held.same) ∙ length-map (content old).bindings binding_row
+-- the rows of bindings up to an id
+abbrev bound_to : State → Value → List Row
+bound_to s to = piece [] to s.now.trees 5
+
+-- the rows of bindings up to this id were counted, and nothing was changed
+pub record HasCountedRows (old now : State) (after : List ℕ) (counted : ℕ) : Type 0 where
+  pub passed : HasPassed old now (counted ≡ length (bound_to old (Text after)))
+  pub kept : HasCleanDisk now → IsTrue old.in_transaction → KeepsCommit old now × IsTrue now.in_transaction
+
+pub no_rows_counted : (s : State) (after : List ℕ) → after ≡ [] → ShowsRecords s → HasCountedRows s s after 0
+no_rows_counted s after none shows = record {
+  passed = none_passed s _ (sym (ap (λ (last : List ℕ). length (bound_to s (Text last))) none ∙ ap length (filter_none (is_row_between [] (Text [])) (s.now.trees 5) (all_of _ (λ row. nothing_between [] (column row 1)) (s.now.trees 5))))) shows;
+  kept = λ _ inside. (record { was_open = λ live. live; committed = λ _. refl }, inside);
+}
+
+module _ (old now next : State) (after : List ℕ) (counted : ℕ) (so_far : HasCountedRows old now after counted) (survives : Survives now next (λ _. ⊥)) (kept : HasCleanDisk next → IsTrue now.in_transaction → KeepsCommit now next) where
+  -- also where the last call failed
+  pub still_kept : HasCleanDisk next → IsTrue old.in_transaction → KeepsCommit old next
+  still_kept clean inside = let before = so_far.kept (clean_before now next _ survives clean) inside in keeps_then old now next before.0 (kept clean before.1)
+
+  module _ (same : HasCleanDisk next → IsUnchanged now next) where
+    keeps_more : HasCleanDisk next → IsTrue old.in_transaction → KeepsCommit old next × IsTrue next.in_transaction
+    keeps_more clean inside = (still_kept clean inside, (same clean).0.mode ∙ (so_far.kept (clean_before now next _ survives clean) inside).1)
+
+    pub still_counted : HasCountedRows old next after counted
+    still_counted = record { passed = still_passed old now next _ so_far.passed survives same; kept = keeps_more }
+
+    rows_to_id : (more : ℕ) (c : Value) → above (Text after) c ≡ false → (HasCleanDisk next → more ≡ counted + length (piece after c now.now.trees 5)) → HasCleanDisk next → IsTrue old.is_open → more ≡ length (bound_to old c)
+    rows_to_id more c high sums clean live =
+        let sum = sums clean ∙ ap (λ (d : Database). counted + length (piece after c d.trees 5)) (now_was old now next _ so_far.passed survives same clean live) in
+        let was = so_far.passed.found (clean_before now next _ survives clean) live in
+        sum ∙ ap (λ n. n + length (piece after c old.now.trees 5)) was ∙ sym (length-append (bound_to old (Text after)) (piece after c old.now.trees 5)) ∙ length_permutation _ _ (parted (λ row. column row 1) (old.now.trees 5) [] after c (none_below after) high)
+
+    pub next_rows_counted : (to : List ℕ) (more : ℕ) → by_bytes after to ≡ Less → (HasCleanDisk next → more ≡ counted + length (piece after (Text to) now.now.trees 5)) → HasCountedRows old next to more
+    next_rows_counted to more less sums = record { passed = more_passed old now next _ so_far.passed survives same _ (rows_to_id more (Text to) (not_above after to less) sums); kept = keeps_more }
+
+    -- as many rows as bindings
+    pub bindings_counted : (more : ℕ) → ShowsRecords old → (HasCleanDisk next → more ≡ counted + length (piece after beyond now.now.trees 5)) → HasCleanDisk next → IsTrue old.is_open → more ≡ length (content old).bindings
+    bindings_counted more shows sums clean live =
+        let records = shows (clean_before old now _ so_far.passed.survives (clean_before now next _ survives clean)) live in
+        let db = old.now.trees in
+        rows_to_id more beyond (below_beyond after) sums clean live ∙ ap length (filter_all (is_row_between [] beyond) (db 5) (bindings_named old.now records))
+        ∙ sym (length-map (db 5) binding_cells) ∙ sym (length_permutation _ _ records.tables.holds.bindings.held.same) ∙ length-map (content old).bindings binding_row
 
 -- the counts of all rows are those of the lives
 pub counts_are : (s : State) → AreRecords s.now → (counts : Counts) (counted : ℕ × ℕ) → counted ≡ counted_in (content s).instances → counts.bindings ≡ length (content s).bindings → counts.instances ≡ counted.0 → counts.running ≡ counted.1 → AreCounts (bare_in s) counts

@@ -89,7 +89,7 @@ module _ (old new : State) (id : List ℕ) (row : InstanceRow) where
 
 -- ---- the rows of the changed lives
 
-inserted_life : (lives : Lives) (id other : List ℕ) (life : Life) (b : Bool) → bytes_eq id other ≡ b → life_of (insert lives id life) other ≡ cond b life (life_of lives other)
+pub inserted_life : (lives : Lives) (id other : List ℕ) (life : Life) (b : Bool) → bytes_eq id other ≡ b → life_of (insert lives id life) other ≡ cond b life (life_of lives other)
 inserted_life lives id other life true is =
     let found : get (insert lives id life) other ≡ Some life = get-insert nat_list_cmp_total lives id life other ∙ rw (key_is other id, is) refl in
     ap (λ (o : Option Life). unwrap_or o []) found

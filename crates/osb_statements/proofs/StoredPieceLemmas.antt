@@ -51,7 +51,7 @@ use Rattle.osb_contexts.proofs.SortLemmas.{context_total, contexts_are, held_aga
 use Rattle.osb_contexts.proofs.TestLemmas.{and_true}
 use Rattle.osb_statements.specs.Bindings.{binding_cells, binding_row}
 use Rattle.osb_statements.specs.Instances.{instance_cells, instance_row}
-use Rattle.osb_statements.specs.Pieces.{MayBeCut, IsReadOf}
+use Rattle.osb_statements.specs.Pieces.{AreSeparateRows, MayBeCut, HoldRows, IsReadOf}
 use Rattle.osb_statements.specs.declared.pieces.Piece.{Piece}
 use Rattle.osb_statements.specs.Read.{AreVersionsOf, AreOrdersOf, AreInstancesOf, AreBindingsOf}
 use Rattle.osb_statements.specs.Stored.{AreBare, AreBareRows, Holds, order_cells, entry_row, entries_in, instances_in, bindings_in, lives_stored}
@@ -184,6 +184,37 @@ filter_twice {X} p q r same (x ∷ xs) = go (q x) (p x) refl refl (filter_twice 
     go true false h k rest = filter_miss p x (filter q xs) k ∙ rest ∙ sym (filter_miss r x xs (sym (same x) ∙ ap₂ ◌&&◌ h k))
     go false c h k rest = rest ∙ sym (filter_miss r x xs (sym (same x) ∙ ap (λ b. b && p x) h))
 
+-- items whose ids are of a piece are those of its first part and those of its second
+module _ {X : Type 0} (id : X → Value) (xs : List X) (a b : List ℕ) (c : Value) (low : above (Text a) (Text b) ≡ false) (high : above (Text b) c ≡ false) where
+  abbrev is_first : X → Bool
+  is_first x = not (above (id x) (Text b))
+
+  abbrev those : List ℕ → Value → List X
+  those after to = filter (λ x. is_between after to (id x)) xs
+
+  pub parted : IsPermutation (those a c) (those a (Text b) ++ those b c)
+  parted =
+      subst₂ (λ (one other : List X). IsPermutation (those a c) (one ++ other))
+      (filter_twice is_first (λ x. is_between a c (id x)) (λ x. is_between a (Text b) (id x)) (λ x. in_first a b c low high (id x)) xs)
+      (filter_twice (λ x. not (is_first x)) (λ x. is_between a c (id x)) (λ x. is_between b c (id x)) (λ x. in_second a b c low high (id x)) xs)
+      (IsPermutation-filter_both is_first (λ x. not (is_first x)) (λ _. refl) (those a c))
+
+-- no id is below the empty one
+pub none_below : (b : List ℕ) → above (Text []) (Text b) ≡ false
+none_below b = ap is_gt (value_cmp-Text [] b) ∙ small b
+  where
+    small : (b : List ℕ) → is_gt (by_bytes [] b) ≡ false
+    small [] = refl
+    small (byte ∷ b) = refl
+
+-- no id is above another one and up to it
+pub nothing_between : (a : List ℕ) (id : Value) → is_between a (Text a) id ≡ false
+nothing_between a id = never (above id (Text a))
+  where
+    never : (b : Bool) → (b && not b) ≡ false
+    never true = refl
+    never false = refl
+
 -- ---- the rows of one table
 
 module _ {E : Type 0} (cells : Row → Row) (shown : E → Row) (cmp : E → E → Ordering) (key : E → List ℕ) (at : (row : Row) → column (cells row) 0 ≡ column row 1) (keyed : (e : E) → column (shown e) 0 ≡ Text (key e)) (rows : List Row) where
@@ -230,18 +261,8 @@ module _ {E : Type 0} (cells : Row → Row) (shown : E → Row) (cmp : E → E �
   ids_above last to es stores = all_weaker _ (λ e. IsAbove last (key e)) (λ e is. ap is_gt (sym (value_cmp-Text (key e) last)) ∙ (and_parts (above (Text (key e)) (Text last)) _ is).0) es (ids_between last to es stores)
 
   module _ (have : HaveRowids rows) (a b : List ℕ) (c : Value) (low : above (Text a) (Text b) ≡ false) (high : above (Text b) c ≡ false) where
-    abbrev is_first : Row → Bool
-    is_first row = not (above (column row 1) (Text b))
-
     abbrev whole : List Row
     whole = filter (is_row_between a c) rows
-
-    parted : IsPermutation whole (filter (is_row_between a (Text b)) rows ++ filter (is_row_between b c) rows)
-    parted =
-        subst₂ (λ (one other : List Row). IsPermutation whole (one ++ other))
-        (filter_twice is_first (is_row_between a c) (is_row_between a (Text b)) (λ row. in_first a b c low high (column row 1)) rows)
-        (filter_twice (λ row. not (is_first row)) (is_row_between a c) (is_row_between b c) (λ row. in_second a b c low high (column row 1)) rows)
-        (IsPermutation-filter_both is_first (λ row. not (is_first row)) (λ _. refl) whole)
 
     -- the rows of two pieces store the entries of both
     pub stores_both : (es others : List E) → Stores cells shown cmp (filter (is_row_between a (Text b)) rows) es → Stores cells shown cmp (filter (is_row_between b c) rows) others → IsAscending (λ x y. cmp x y ≡ Less) (es ++ others) → Stores cells shown cmp whole (es ++ others)
@@ -251,7 +272,7 @@ module _ {E : Type 0} (cells : Row → Row) (shown : E → Row) (cmp : E → E �
         keyed = all-filter _ (is_row_between a c) rows have.keyed;
         same =
             subst₂ IsPermutation refl (sym (map-append shown es others))
-            (IsPermutation-trans _ _ _ (subst (IsPermutation (map cells whole)) (map-append cells (filter (is_row_between a (Text b)) rows) (filter (is_row_between b c) rows)) (IsPermutation-map cells _ _ parted))
+            (IsPermutation-trans _ _ _ (subst (IsPermutation (map cells whole)) (map-append cells (filter (is_row_between a (Text b)) rows) (filter (is_row_between b c) rows)) (IsPermutation-map cells _ _ (parted (λ row. column row 1) rows a b c low high)))
             (IsPermutation-append _ _ _ _ one.held.same other.held.same));
       };
       rising = up;
@@ -275,66 +296,96 @@ module _ (db : Trees) (after : List ℕ) (to : Value) where
       (stores_some context_cells context_row context_cmp (λ (entry : ContextEntry). entry.instance) (λ _. refl) (λ _. refl) (db 7) context_total after to (contexts_in db) (held_contexts db _ it.contexts))
       (contexts_of_some chosen (contexts_in db) (entries_in db) (instances_in db) (bindings_in db) (no_contexts (entries_in db) (instances_in db) (stored_bare db) (instances_bare db)) (audited_rows db it))
 
-module _ (db : Trees) (cut : MayBeCut db) (a b : List ℕ) (c : Value) (low : above (Text a) (Text b) ≡ false) (high : above (Text b) c ≡ false) (one : StoreLives (piece a (Text b) db)) (other : StoreLives (piece b c db)) where
+-- what the rows of two pieces hold is held by those of both together
+module _ (db : Trees) (cut : AreSeparateRows db) (a b : List ℕ) (c : Value) (low : above (Text a) (Text b) ≡ false) (high : above (Text b) c ≡ false) (one : HoldRows (piece a (Text b) db)) (other : HoldRows (piece b c db)) where
   abbrev first : Trees
   first = piece a (Text b) db
 
   abbrev second : Trees
   second = piece b c db
 
-  all_up_to : AllIds (IsUpTo b) (entries_in first) (instances_in first) (bindings_in first)
+  pub all_up_to : AllIds (IsUpTo b) (entries_in first) (instances_in first) (bindings_in first)
   all_up_to = (
-    ids_up_to order_cells entry_row entry_cmp (λ (entry : Entry). entry.0) (λ _. refl) (λ _. refl) (db 1) a b (entries_in first) one.holds.orders,
-    ids_up_to instance_cells instance_row instance_cmp (λ (entry : InstanceEntry). entry.0) (λ _. refl) (λ _. refl) (db 3) a b (instances_in first) one.holds.instances,
-    ids_up_to binding_cells binding_row binding_cmp (λ (entry : BindingEntry). entry.instance) (λ _. refl) (λ _. refl) (db 5) a b (bindings_in first) one.holds.bindings,
+    ids_up_to order_cells entry_row entry_cmp (λ (entry : Entry). entry.0) (λ _. refl) (λ _. refl) (db 1) a b (entries_in first) one.orders,
+    ids_up_to instance_cells instance_row instance_cmp (λ (entry : InstanceEntry). entry.0) (λ _. refl) (λ _. refl) (db 3) a b (instances_in first) one.instances,
+    ids_up_to binding_cells binding_row binding_cmp (λ (entry : BindingEntry). entry.instance) (λ _. refl) (λ _. refl) (db 5) a b (bindings_in first) one.bindings,
   )
 
-  all_above : AllIds (IsAbove b) (entries_in second) (instances_in second) (bindings_in second)
+  pub all_above : AllIds (IsAbove b) (entries_in second) (instances_in second) (bindings_in second)
   all_above = (
-    ids_above order_cells entry_row entry_cmp (λ (entry : Entry). entry.0) (λ _. refl) (λ _. refl) (db 1) b c (entries_in second) other.holds.orders,
-    ids_above instance_cells instance_row instance_cmp (λ (entry : InstanceEntry). entry.0) (λ _. refl) (λ _. refl) (db 3) b c (instances_in second) other.holds.instances,
-    ids_above binding_cells binding_row binding_cmp (λ (entry : BindingEntry). entry.instance) (λ _. refl) (λ _. refl) (db 5) b c (bindings_in second) other.holds.bindings,
+    ids_above order_cells entry_row entry_cmp (λ (entry : Entry). entry.0) (λ _. refl) (λ _. refl) (db 1) b c (entries_in second) other.orders,
+    ids_above instance_cells instance_row instance_cmp (λ (entry : InstanceEntry). entry.0) (λ _. refl) (λ _. refl) (db 3) b c (instances_in second) other.instances,
+    ids_above binding_cells binding_row binding_cmp (λ (entry : BindingEntry). entry.instance) (λ _. refl) (λ _. refl) (db 5) b c (bindings_in second) other.bindings,
   )
 
-  one_contexts : HoldsContexts (contexts_in first) first
-  one_contexts = held_contexts first _ one.contexts
+  pub orders_both : Stores order_cells entry_row entry_cmp (piece a c db 1) (entries_in first ++ entries_in second)
+  orders_both =
+      stores_both order_cells entry_row entry_cmp (λ (entry : Entry). entry.0) (λ _. refl) (λ _. refl) (db 1) cut.orders.rowids a b c low high (entries_in first) (entries_in second) one.orders other.orders
+      (rising_both (λ (entry : Entry). entry.0) b (entries_in first) (entries_in second) all_up_to.0 all_above.0 entry_cmp entries_first one.orders.rising other.orders.rising)
 
-  other_contexts : HoldsContexts (contexts_in second) second
-  other_contexts = held_contexts second _ other.contexts
+  pub instances_both : Stores instance_cells instance_row instance_cmp (piece a c db 3) (instances_in first ++ instances_in second)
+  instances_both =
+      stores_both instance_cells instance_row instance_cmp (λ (entry : InstanceEntry). entry.0) (λ _. refl) (λ _. refl) (db 3) cut.instances.rowids a b c low high (instances_in first) (instances_in second) one.instances other.instances
+      (rising_both (λ (entry : InstanceEntry). entry.0) b (instances_in first) (instances_in second) all_up_to.1 all_above.1 instance_cmp (λ x y less. less) one.instances.rising other.instances.rising)
 
-  contexts_up_to : AllByRecursion (λ (entry : ContextEntry). IsUpTo b entry.instance) (contexts_in first)
-  contexts_up_to = ids_up_to context_cells context_row context_cmp (λ (entry : ContextEntry). entry.instance) (λ _. refl) (λ _. refl) (db 7) a b (contexts_in first) one_contexts
+  pub bindings_both : Stores binding_cells binding_row binding_cmp (piece a c db 5) (bindings_in first ++ bindings_in second)
+  bindings_both =
+      stores_both binding_cells binding_row binding_cmp (λ (entry : BindingEntry). entry.instance) (λ _. refl) (λ _. refl) (db 5) cut.bindings.rowids a b c low high (bindings_in first) (bindings_in second) one.bindings other.bindings
+      (rising_both (λ (entry : BindingEntry). entry.instance) b (bindings_in first) (bindings_in second) all_up_to.2 all_above.2 binding_cmp bindings_first one.bindings.rising other.bindings.rising)
 
-  contexts_above : AllByRecursion (λ (entry : ContextEntry). IsAbove b entry.instance) (contexts_in second)
-  contexts_above = ids_above context_cells context_row context_cmp (λ (entry : ContextEntry). entry.instance) (λ _. refl) (λ _. refl) (db 7) b c (contexts_in second) other_contexts
+pub lives_hold_rows : (db : Trees) → StoreLives db → HoldRows db
+lives_hold_rows db it = record { orders = it.holds.orders; instances = it.holds.instances; bindings = it.holds.bindings }
+
+module _ (db : Trees) (cut : MayBeCut db) (a b : List ℕ) (c : Value) (low : above (Text a) (Text b) ≡ false) (high : above (Text b) c ≡ false) (one : StoreLives (piece a (Text b) db)) (other : StoreLives (piece b c db)) where
+  abbrev front : Trees
+  front = piece a (Text b) db
+
+  abbrev back : Trees
+  back = piece b c db
+
+  one_rows : HoldRows front
+  one_rows = lives_hold_rows front one
+
+  other_rows : HoldRows back
+  other_rows = lives_hold_rows back other
+
+  one_contexts : HoldsContexts (contexts_in front) front
+  one_contexts = held_contexts front _ one.contexts
+
+  other_contexts : HoldsContexts (contexts_in back) back
+  other_contexts = held_contexts back _ other.contexts
+
+  contexts_up_to : AllByRecursion (λ (entry : ContextEntry). IsUpTo b entry.instance) (contexts_in front)
+  contexts_up_to = ids_up_to context_cells context_row context_cmp (λ (entry : ContextEntry). entry.instance) (λ _. refl) (λ _. refl) (db 7) a b (contexts_in front) one_contexts
+
+  contexts_above : AllByRecursion (λ (entry : ContextEntry). IsAbove b entry.instance) (contexts_in back)
+  contexts_above = ids_above context_cells context_row context_cmp (λ (entry : ContextEntry). entry.instance) (λ _. refl) (λ _. refl) (db 7) b c (contexts_in back) other_contexts
 
   -- where lives are stored in each of two pieces, they are in both together
   pub stored_both : StoreLives (piece a c db)
   stored_both =
-      audit_stored (piece a c db) (entries_in first ++ entries_in second) (instances_in first ++ instances_in second) (bindings_in first ++ bindings_in second) (contexts_in first ++ contexts_in second)
+      audit_stored (piece a c db) (entries_in front ++ entries_in back) (instances_in front ++ instances_in back) (bindings_in front ++ bindings_in back) (contexts_in front ++ contexts_in back)
       (record {
         format = cut.version;
-        orders = stores_both order_cells entry_row entry_cmp (λ (entry : Entry). entry.0) (λ _. refl) (λ _. refl) (db 1) cut.orders.rowids a b c low high (entries_in first) (entries_in second) one.holds.orders other.holds.orders
-            (rising_both (λ (entry : Entry). entry.0) b (entries_in first) (entries_in second) all_up_to.0 all_above.0 entry_cmp entries_first one.holds.orders.rising other.holds.orders.rising);
-        instances = stores_both instance_cells instance_row instance_cmp (λ (entry : InstanceEntry). entry.0) (λ _. refl) (λ _. refl) (db 3) cut.instances.rowids a b c low high (instances_in first) (instances_in second) one.holds.instances other.holds.instances
-            (rising_both (λ (entry : InstanceEntry). entry.0) b (instances_in first) (instances_in second) all_up_to.1 all_above.1 instance_cmp (λ x y less. less) one.holds.instances.rising other.holds.instances.rising);
-        bindings = stores_both binding_cells binding_row binding_cmp (λ (entry : BindingEntry). entry.instance) (λ _. refl) (λ _. refl) (db 5) cut.bindings.rowids a b c low high (bindings_in first) (bindings_in second) one.holds.bindings other.holds.bindings
-            (rising_both (λ (entry : BindingEntry). entry.instance) b (bindings_in first) (bindings_in second) all_up_to.2 all_above.2 binding_cmp bindings_first one.holds.bindings.rising other.holds.bindings.rising);
+        orders = orders_both db cut.rows a b c low high one_rows other_rows;
+        instances = instances_both db cut.rows a b c low high one_rows other_rows;
+        bindings = bindings_both db cut.rows a b c low high one_rows other_rows;
       })
-      (all-append _ (entries_in first) (entries_in second) (stored_bare first) (stored_bare second)) (all-append _ (instances_in first) (instances_in second) (instances_bare first) (instances_bare second))
-      (stores_both context_cells context_row context_cmp (λ (entry : ContextEntry). entry.instance) (λ _. refl) (λ _. refl) (db 7) cut.contexts.rowids a b c low high (contexts_in first) (contexts_in second) one_contexts other_contexts
-      (rising_both (λ (entry : ContextEntry). entry.instance) b (contexts_in first) (contexts_in second) contexts_up_to contexts_above context_cmp contexts_first one_contexts.rising other_contexts.rising))
-      (contexts_of_both b (contexts_in first) (contexts_in second) (entries_in first) (entries_in second) (instances_in first) (instances_in second) (bindings_in first) (bindings_in second)
-      all_up_to contexts_up_to (no_contexts (entries_in first) (instances_in first) (stored_bare first) (instances_bare first)) all_above contexts_above (no_contexts (entries_in second) (instances_in second) (stored_bare second) (instances_bare second))
-      (audited_rows first one) (audited_rows second other))
+      (all-append _ (entries_in front) (entries_in back) (stored_bare front) (stored_bare back)) (all-append _ (instances_in front) (instances_in back) (instances_bare front) (instances_bare back))
+      (stores_both context_cells context_row context_cmp (λ (entry : ContextEntry). entry.instance) (λ _. refl) (λ _. refl) (db 7) cut.contexts.rowids a b c low high (contexts_in front) (contexts_in back) one_contexts other_contexts
+      (rising_both (λ (entry : ContextEntry). entry.instance) b (contexts_in front) (contexts_in back) contexts_up_to contexts_above context_cmp contexts_first one_contexts.rising other_contexts.rising))
+      (contexts_of_both b (contexts_in front) (contexts_in back) (entries_in front) (entries_in back) (instances_in front) (instances_in back) (bindings_in front) (bindings_in back)
+      (all_up_to db cut.rows a b c low high one_rows other_rows) contexts_up_to (no_contexts (entries_in front) (instances_in front) (stored_bare front) (instances_bare front))
+      (all_above db cut.rows a b c low high one_rows other_rows) contexts_above (no_contexts (entries_in back) (instances_in back) (stored_bare back) (instances_bare back))
+      (audited_rows front one) (audited_rows back other))
 
 -- the rows that are named are all
 pub stored_whole : (db : Trees) → MayBeCut db → StoreLives (piece [] beyond db) → StoreLives db
 stored_whole db cut =
     stored_as (piece [] beyond db) db refl
-    (filter_all (is_row_between [] beyond) (db 1) cut.orders.named)
-    (filter_all (is_row_between [] beyond) (db 3) cut.instances.named)
-    (filter_all (is_row_between [] beyond) (db 5) cut.bindings.named)
+    (filter_all (is_row_between [] beyond) (db 1) cut.rows.orders.named)
+    (filter_all (is_row_between [] beyond) (db 3) cut.rows.instances.named)
+    (filter_all (is_row_between [] beyond) (db 5) cut.rows.bindings.named)
     (filter_all (is_row_between [] beyond) (db 7) cut.contexts.named)
 
 -- ---- each row of stored lives has the id of an instance
@@ -350,7 +401,7 @@ pub named_id : (id : List ℕ) → bytes_eq id [] ≡ false → is_between [] be
 named_id [] other = absurd (true≢false (sym (text_itself []) ∙ other))
 named_id (byte ∷ id) other = rw (below_beyond (byte ∷ id)) (and_true _ ∙ ap is_gt (value_cmp-Text (byte ∷ id) []))
 
-not_an_id : (utf8 small plain : Bool) → (((utf8 && false) && small) && plain) ≡ true → false ≡ true
+pub not_an_id : (utf8 small plain : Bool) → (((utf8 && false) && small) && plain) ≡ true → false ≡ true
 not_an_id true small plain is = is
 not_an_id false small plain is = is
 
@@ -440,10 +491,10 @@ module _ (old now : Database) (same : now ≡ old) (it : StoreLives old.trees) (
 
 -- ---- the version
 
-pub version_read : (db : Trees) (versions : List ℕ) → AreVersionsOf db versions → (versions ≡ 2 ∷ []) ↔ HoldsVersion 2 db
-version_read db versions read = (
-  λ is. subst (Stores version_cells version_row nat_cmp (db 0)) is (stored_list nat_cmp version_cells version_row (db 0) versions read (subst (IsStrictlySortedBy nat_cmp) (sym is) (one_rises 2))),
-  λ held. sym (same_versions (2 ∷ []) versions (read.only (2 ∷ []) held)),
+pub version_read : (version : ℕ) (db : Trees) (versions : List ℕ) → AreVersionsOf db versions → (versions ≡ version ∷ []) ↔ HoldsVersion version db
+version_read version db versions read = (
+  λ is. subst (Stores version_cells version_row nat_cmp (db 0)) is (stored_list nat_cmp version_cells version_row (db 0) versions read (subst (IsStrictlySortedBy nat_cmp) (sym is) (one_rises version))),
+  λ held. sym (same_versions (version ∷ []) versions (read.only (version ∷ []) held)),
 )
 
 -- ---- piece after piece
@@ -459,10 +510,10 @@ pub next_so_far : (db : Trees) → MayBeCut db → (after to : List ℕ) → by_
 next_so_far db cut after to less one so_far rest = so_far (stored_both db cut after to beyond (not_above after to less) (below_beyond to) one rest)
 
 -- what was read of a piece was judged
-pub piece_judged : (old mid : Database) (after : List ℕ) (to : Value) (read : Piece) (contexts : List ContextEntry) (answer : Bool) → mid ≡ old → (MayBeCut old.trees → IsReadOf (piece after to old.trees) read) → (HaveRowids (mid.trees 7) → AreContextsOf (piece after to mid.trees) contexts)
+pub piece_judged : (old mid : Database) (after : List ℕ) (to : Value) (read : Piece) (contexts : List ContextEntry) (answer : Bool) → mid ≡ old → (AreSeparateRows old.trees → IsReadOf (piece after to old.trees) read) → (HaveRowids (mid.trees 7) → AreContextsOf (piece after to mid.trees) contexts)
     → (HaveNoContexts read.orders.items read.instances.items → (answer ≡ true) ↔ AreRowsWithContexts contexts read.orders.items read.instances.items read.bindings.items) → MayBeCut old.trees → (answer ≡ true) ↔ StoreLives (piece after to old.trees)
 piece_judged old mid after to read contexts answer same found contexts_found says cut =
-    let it = found cut in
+    let it = found cut.rows in
     let of_contexts = subst (λ (d : Database). HaveRowids (d.trees 7) → AreContextsOf (piece after to d.trees) contexts) same contexts_found cut.contexts.rowids in
     read_whole (piece after to old.trees) read.orders.items read.instances.items read.bindings.items contexts it.orders it.instances it.bindings of_contexts cut.version answer
     (says (no_contexts read.orders.items read.instances.items it.orders.1 it.instances.1))

@@ -178,6 +178,19 @@ pub select_instance_is : (command_of (understood second_schema select_instance) 
 unfolding understood everything
 select_instance_is = (refl, refl, (refl, refl))
 
+abbrev pub select_next : List ℕ
+select_next = codes "SELECT instance_id FROM instances WHERE instance_id > ?1 ORDER BY instance_id LIMIT 1"
+
+abbrev pub next_tests : List Term
+next_tests = op2 (Compare Gt Binary) (col 1 1) (col 0 0) ∷ []
+
+abbrev pub next_query : Query
+next_query = over 3 next_tests (col 1 1 ∷ []) by_instance (lit (Int (pos 1)))
+
+pub select_next_is : (command_of (understood second_schema select_next) ≡ Select (record { lets = []; body = next_query }) (codes "instance_id" ∷ [])) × (reads_listing second_schema select_next ≡ false) × IsPlain (understood second_schema select_next)
+unfolding understood everything
+select_next_is = (refl, refl, (refl, refl))
+
 abbrev pub select_busy : List ℕ
 select_busy = codes "SELECT instance_id, last_seq FROM instances WHERE busy = 1 AND instance_id > ?1 ORDER BY instance_id LIMIT ?2"
 

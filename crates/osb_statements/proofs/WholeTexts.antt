@@ -11,7 +11,7 @@ use Rattle.osb_statements.proofs.Texts.{all_cells, all_names, instance_cells_rea
 use Rattle.osb_statements.proofs.BindingTexts.{binding_cells_read, binding_names, by_ids}
 use Rattle.osb_tables.specs.Tables.{second_schema}
 use Rattle.sqlite.proofs.Callers.{IsPlain}
-use Rattle.osb_contexts.proofs.Texts.{IsQuery, rowids_of, by_key, every, between_tests, named_rows}
+use Rattle.osb_contexts.proofs.Texts.{IsQuery, by_key, every, between_tests}
 
 abbrev pub version_cells_read : List Term
 version_cells_read = col 1 1 ∷ []
@@ -26,56 +26,7 @@ pub select_versions_is : IsQuery select_versions (over 0 [] version_cells_read b
 unfolding understood everything
 select_versions_is = (refl, refl, (refl, refl))
 
-abbrev pub order_rowids : List ℕ
-order_rowids = codes "SELECT rowid FROM orders ORDER BY rowid"
-
-pub order_rowids_is : IsQuery order_rowids (rowids_of 1) (codes "rowid" ∷ [])
-unfolding understood everything
-order_rowids_is = (refl, refl, (refl, refl))
-
-abbrev pub select_orders : List ℕ
-select_orders = codes "SELECT instance_id, seq, kind, binding_id, service_id, plan_id, place, spot, params, maint, state, note, credentials FROM orders ORDER BY instance_id, seq"
-
-pub select_orders_is : IsQuery select_orders (over 1 [] all_cells by_key every) all_names
-unfolding understood everything
-select_orders_is = (refl, refl, (refl, refl))
-
-abbrev pub instance_rowids : List ℕ
-instance_rowids = codes "SELECT rowid FROM instances ORDER BY rowid"
-
-pub instance_rowids_is : IsQuery instance_rowids (rowids_of 3) (codes "rowid" ∷ [])
-unfolding understood everything
-instance_rowids_is = (refl, refl, (refl, refl))
-
-abbrev pub select_instances : List ℕ
-select_instances = codes "SELECT instance_id, phase, busy, last_seq, service_id, plan_id, organization, space, params, maint FROM instances ORDER BY instance_id"
-
-pub select_instances_is : IsQuery select_instances (over 3 [] instance_cells_read by_instance every) instance_names
-unfolding understood everything
-select_instances_is = (refl, refl, (refl, refl))
-
-abbrev pub binding_rowids : List ℕ
-binding_rowids = codes "SELECT rowid FROM bindings ORDER BY rowid"
-
-pub binding_rowids_is : IsQuery binding_rowids (rowids_of 5) (codes "rowid" ∷ [])
-unfolding understood everything
-binding_rowids_is = (refl, refl, (refl, refl))
-
-abbrev pub select_bindings : List ℕ
-select_bindings = codes "SELECT instance_id, binding_id, phase, service_id, plan_id, app_guid, bind_resource, params, credentials FROM bindings ORDER BY instance_id, binding_id"
-
-pub select_bindings_is : IsQuery select_bindings (over 5 [] binding_cells_read by_ids every) binding_names
-unfolding understood everything
-select_bindings_is = (refl, refl, (refl, refl))
-
--- ---- texts that read some instances, and that test the ids of all
-
-abbrev pub named_orders : List ℕ
-named_orders = codes "SELECT rowid, instance_id > '' AND instance_id <= x'' AS named FROM orders ORDER BY rowid"
-
-pub named_orders_is : IsQuery named_orders (named_rows 1) (codes "rowid" ∷ codes "named" ∷ [])
-unfolding understood everything
-named_orders_is = (refl, refl, (refl, refl))
+-- ---- texts that read some instances
 
 abbrev pub some_orders : List ℕ
 some_orders = codes "SELECT instance_id, seq, kind, binding_id, service_id, plan_id, place, spot, params, maint, state, note, credentials FROM orders WHERE instance_id > ?1 AND instance_id <= ?2 ORDER BY instance_id, seq"
@@ -84,13 +35,6 @@ pub some_orders_is : IsQuery some_orders (over 1 between_tests all_cells by_key 
 unfolding understood everything
 some_orders_is = (refl, refl, (refl, refl))
 
-abbrev pub named_instances : List ℕ
-named_instances = codes "SELECT rowid, instance_id > '' AND instance_id <= x'' AS named FROM instances ORDER BY rowid"
-
-pub named_instances_is : IsQuery named_instances (named_rows 3) (codes "rowid" ∷ codes "named" ∷ [])
-unfolding understood everything
-named_instances_is = (refl, refl, (refl, refl))
-
 abbrev pub some_instances : List ℕ
 some_instances = codes "SELECT instance_id, phase, busy, last_seq, service_id, plan_id, organization, space, params, maint FROM instances WHERE instance_id > ?1 AND instance_id <= ?2 ORDER BY instance_id"
 
@@ -98,19 +42,19 @@ pub some_instances_is : IsQuery some_instances (over 3 between_tests instance_ce
 unfolding understood everything
 some_instances_is = (refl, refl, (refl, refl))
 
-abbrev pub named_bindings : List ℕ
-named_bindings = codes "SELECT rowid, instance_id > '' AND instance_id <= x'' AS named FROM bindings ORDER BY rowid"
-
-pub named_bindings_is : IsQuery named_bindings (named_rows 5) (codes "rowid" ∷ codes "named" ∷ [])
-unfolding understood everything
-named_bindings_is = (refl, refl, (refl, refl))
-
 abbrev pub some_bindings : List ℕ
 some_bindings = codes "SELECT instance_id, binding_id, phase, service_id, plan_id, app_guid, bind_resource, params, credentials FROM bindings WHERE instance_id > ?1 AND instance_id <= ?2 ORDER BY instance_id, binding_id"
 
 pub some_bindings_is : IsQuery some_bindings (over 5 between_tests binding_cells_read by_ids every) binding_names
 unfolding understood everything
 some_bindings_is = (refl, refl, (refl, refl))
+
+abbrev pub some_binding_rowids : List ℕ
+some_binding_rowids = codes "SELECT rowid FROM bindings WHERE instance_id > ?1 AND instance_id <= ?2 ORDER BY instance_id, binding_id"
+
+pub some_binding_rowids_is : IsQuery some_binding_rowids (over 5 between_tests (col 1 0 ∷ []) by_ids every) (codes "rowid" ∷ [])
+unfolding understood everything
+some_binding_rowids_is = (refl, refl, (refl, refl))
 
 abbrev pub select_end : List ℕ
 select_end = codes "SELECT instance_id FROM orders WHERE instance_id > ?1 ORDER BY instance_id, seq LIMIT 1 OFFSET ?2"
@@ -125,3 +69,10 @@ select_end_of_instances = codes "SELECT instance_id FROM instances WHERE instanc
 pub select_end_of_instances_plain : IsPlain (understood second_schema select_end_of_instances)
 unfolding understood everything
 select_end_of_instances_plain = (refl, refl)
+
+abbrev pub select_end_of_bindings : List ℕ
+select_end_of_bindings = codes "SELECT instance_id FROM bindings WHERE instance_id > ?1 ORDER BY instance_id, binding_id LIMIT 1 OFFSET ?2"
+
+pub select_end_of_bindings_plain : IsPlain (understood second_schema select_end_of_bindings)
+unfolding understood everything
+select_end_of_bindings_plain = (refl, refl)

@@ -1,5 +1,7 @@
 -- What the rows of an answer mean. For contracts inside the crate.
 use Rattle.std.specs.Prelude.{◌≡◌, ℕ, pos, Bool, ◌&&◌, ◌||◌, nat_lt, List, [], ◌∷◌, bytes_eq, Option, None, Some, option_map, slice_get, if◌then◌else◌}
+use Rattle.std.specs.Ordering.{nat_cmp, is_gt}
+use Rattle.std.specs.Cmp.Lexicographic.{slice_cmp}
 use Rattle.sqlite.specs.declared.types.Value.TheVariants.{Int, Text as Words}
 use Rattle.sqlite.specs.Order.{Row, column, bytes}
 use Rattle.osb_orders.specs.declared.order.Order.{Order}
@@ -22,6 +24,14 @@ first_order rows = option_map order_decoded (slice_get rows 0)
 -- what the listing reads of an instance
 abbrev pub busy_row : InstanceEntry → Row
 busy_row entry = Words entry.0 ∷ Int (pos entry.1.last_number) ∷ []
+
+-- what is read of an instance for its id
+abbrev pub id_row : InstanceEntry → Row
+id_row entry = Words entry.0 ∷ []
+
+-- the instance has an id above this one
+abbrev pub is_above : List ℕ → InstanceEntry → Bool
+is_above after entry = is_gt (slice_cmp nat_cmp entry.0 after)
 
 -- the order that such cells name, with the id of its instance
 abbrev pub order_for : Lives → Row → Option (List ℕ × Order)

@@ -12,6 +12,9 @@ pub mod Bindings
 -- What a transaction has to show, and what a call inside it has written.
 pub mod Queries
 pub mod LivesWritten
+pub mod NextId
+-- Why the store refused a call.
+pub mod Causes
 -- For contracts inside the crate.
 pub mod Inside
 pub mod Asked

@@ -12,7 +12,6 @@ use Rattle.osb_audit.specs.declared.entry.BindingEntry.{BindingEntry}
 use Rattle.osb_audit.specs.Orders.{Entry, entry_cmp}
 use Rattle.osb_audit.specs.Bindings.{binding_cmp}
 use Rattle.osb_statements.specs.declared.fault.StoreFault.{StoreFault}
-use Rattle.osb_statements.specs.declared.whole.Tables.{Tables}
 use Rattle.osb_statements.specs.declared.fault.StoreFault.TheVariants.{NotOurs}
 use Rattle.osb_rows.specs.Rows.{Stores, AreRows}
 use Rattle.osb_statements.specs.Instances.{instance_row, instance_cells, instance_row_decoded, standing_columns}
@@ -88,10 +87,3 @@ AreInstancesOf db entries = IsListOf instance_cells instance_row instance_cmp (d
 
 abbrev pub AreBindingsOf : Trees → List BindingEntry → Type 0
 AreBindingsOf db entries = IsListOf binding_cells binding_row binding_cmp (db 5) entries
-
--- what was read of the tables that both versions have
-pub record AreTablesOf (db : Trees) (tables : Tables) : Type 0 where
-  pub versions : AreVersionsOf db tables.versions.items
-  pub orders : AreOrdersOf db tables.orders.items
-  pub instances : AreInstancesOf db tables.instances.items
-  pub bindings : AreBindingsOf db tables.bindings.items

@@ -1,4 +1,4 @@
--- How an instance stands, as columns show it. For contracts inside the crate.
+-- The state of an instance, as columns show it. For contracts inside the crate.
 use Rattle.std.specs.Prelude.{◌≡◌, Option}
 use Rattle.osb_orders.specs.declared.view.Standing.{Standing}
 use Rattle.osb_statements.specs.declared.instances.StandingColumns.{StandingColumns}

@@ -32,7 +32,7 @@ pub record HasTables (db : Database) : Type 0 where
 abbrev pub ShowsTables : State → Type 0
 ShowsTables s = HasCleanDisk s → IsTrue s.is_open → HasTables s.now
 
--- the trees are a database of the tables, and these lives stand there, with the rows and the contexts that they have
+-- the trees are a database of the tables, and these lives are in it, with the rows and the contexts that they have
 pub record HoldsLives (lives : Lives) (db : Trees) : Type 0 where
   pub sound : IsDatabase (record { schema = second_schema; trees = db })
   pub holds : HoldsEntries 2 db

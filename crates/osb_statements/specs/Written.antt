@@ -1,4 +1,4 @@
--- What a written order does to the rows of what stands. For contracts inside the crate.
+-- What a written order does to the rows of the current state. For contracts inside the crate.
 use Rattle.std.specs.Prelude.{ℕ, List}
 use Rattle.sqlite.specs.State.{State}
 use Rattle.osb_orders.specs.declared.order.Order.{Order}

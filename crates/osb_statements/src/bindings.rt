@@ -1,4 +1,4 @@
-//! The table of what stands of bindings: its columns, its rows, and the statements on it.
+//! The table of the current state of bindings: its columns, its rows, and the statements on it.
 
 ghost use Rattle.std.specs.Prelude.{◌≡◌, ◌≢◌, ◌==◌, List, map, Err, IfOk, [], ◌∷◌, IsTrue, filter, false, not, length, ◌↔◌, true, IfErr};
 ghost use Rattle.std.specs.List.{list_any};
@@ -9,6 +9,7 @@ ghost use Rattle.sqlite_keyed.specs.Lists.{insert_sorted, update_where, delete_w
 ghost use Rattle.osb_audit.specs.declared.entry.BindingEntry.{BindingEntry};
 ghost use Rattle.osb_audit.specs.Bindings.{binding_now, binding_cmp, binding_entry, is_binding, is_bound};
 ghost use Rattle.osb_tables.specs.Tables.{second_schema, instances_schema, tables_schema};
+ghost use Rattle.osb_statements.specs.Causes.{IsRefused};
 ghost use Rattle.osb_statements.specs.declared.fault.StoreFault.TheVariants as faults;
 ghost use Rattle.osb_rows.specs.Rows.{Stores};
 ghost use Rattle.osb_statements.specs.Read.{IsReadAs, IsEntryOf, AreBindingsOf, binding_columns};
@@ -24,10 +25,11 @@ ghost use Rattle.osb_contexts.specs.Reads.{Reads, Finds, behind, StaysInside, Do
 ghost use Rattle.osb_statements.specs.Bindings as spec;
 ghost use Rattle.osb_statements.specs.BindingRows.{binding_found, first_binding, with_binding_row};
 
-use crate::cells::{are_named, check_rowids, number_in, text_in};
+use crate::cells::{number_in, text_in};
 use crate::fault::StoreFault;
 use crate::sql::{execute, select};
 use osb_audit::BindingEntry;
+use osb_contexts::{NamedTable, are_rows_named};
 use osb_orders::{Attributes, BindingNow, BindingPhase};
 use osb_text::Text;
 use sqlite::types::ValueRef;
@@ -87,7 +89,7 @@ fn binding_attributes_in(alloc: Global, row: &Row) -> Result<Attributes, StoreFa
     })
 }
 
-/// How the binding of the row stands.
+/// The state of the binding of the row.
 fn binding_in(alloc: Global, row: &Row) -> Result<BindingNow, StoreFault>
     ensures { IfOk result (λ binding. binding ≡ binding_now (binding_decoded row.now)) }
 {
@@ -316,29 +318,6 @@ pub(crate) fn is_bound<S: Alter>(
     Ok(!rows.is_empty())
 }
 
-/// The rows of the bindings, by their keys.
-pub(crate) fn read_bindings<S: Alter>(
-    tx: &mut Transaction<'_, S>,
-    alloc: Global,
-) -> Result<Vec<BindingEntry>, StoreFault>
-    requires { ShowsSchema second_schema (behind S.Store tx.old) }
-    ensures ok { Finds S.Store tx.old tx.new result (λ s entries.
-        AreBindingsOf s.now.trees entries.items) }
-    ensures reads { Reads S.Store tx.old tx.new result }
-    ensures known { HasCleanDisk (behind S.Store tx.new) → (bindings : List BindingEntry) →
-        Stores binding_cells binding_row binding_cmp
-        ((behind S.Store tx.old).now.trees 5) bindings → result ≢ Err faults.NotOurs }
-{
-    let ids = select(tx, "SELECT rowid FROM bindings ORDER BY rowid", &[])?;
-    let rows = select(
-        tx,
-        "SELECT instance_id, binding_id, phase, service_id, plan_id, app_guid, bind_resource, params, credentials FROM bindings ORDER BY instance_id, binding_id",
-        &[],
-    )?;
-    check_rowids(alloc, &ids)?;
-    bindings_in(alloc, &rows)
-}
-
 /// Whether each row of a binding has the id of an instance. Rows without rowids of their own are refused.
 pub(crate) fn are_bindings_named<S: Alter>(
     tx: &mut Transaction<'_, S>,
@@ -348,15 +327,9 @@ pub(crate) fn are_bindings_named<S: Alter>(
     ensures ok { Finds S.Store tx.old tx.new result (λ s yes.
         HaveRowids (s.now.trees 5) × ((yes ≡ true) ↔ AreNamed (s.now.trees 5))) }
     ensures reads { Reads S.Store tx.old tx.new result }
-    ensures refused { IfErr result (λ fault. fault ≡ faults.Refused) }
+    ensures refused { IfErr result IsRefused }
 {
-    let rows = select(
-        tx,
-        "SELECT rowid, instance_id > '' AND instance_id <= x'' AS named FROM bindings ORDER BY rowid",
-        &[],
-    )?;
-    check_rowids(alloc, &rows)?;
-    are_named(&rows)
+    Ok(are_rows_named(tx, alloc, NamedTable::Bindings)?)
 }
 
 /// The rows of the bindings of the instances with ids above the first and up to the second, by their keys.

@@ -1,17 +1,17 @@
 //! Cells of a row as values.
 
-ghost use Rattle.std.specs.Prelude.{◌≡◌, ◌↔◌, true, pos, map, IfOk, IfErr, OnOk};
-ghost use Rattle.std.specs.List.{AllByRecursion};
+ghost use Rattle.std.specs.Prelude.{◌≡◌, true, pos, map, IfOk, IfErr, OnOk};
 ghost use Rattle.std.specs.Ordering.{nat_cmp};
 ghost use Rattle.std.specs.List.Sorted.{IsStrictlySortedBy};
 ghost use Rattle.sqlite.specs.declared.types.Value.TheVariants.{Int, Text as Words};
 ghost use Rattle.sqlite.specs.Order.{column, bytes};
 ghost use Rattle.sqlite_trees.specs.Tree.{rowid};
-ghost use Rattle.osb_statements.specs.declared.fault.StoreFault.TheVariants as faults;
+ghost use Rattle.osb_statements.specs.Causes.{IsRefused};
 ghost use Rattle.osb_statements.specs.Read.{HoldAttributes};
 ghost use Rattle.osb_contexts.specs.Read.{rowid_shown, AreRowids};
 ghost use Rattle.osb_statements.specs.Columns.{number_in, attributes_decoded};
 
+use crate::cause::Cause;
 use crate::fault::StoreFault;
 use osb_orders::Attributes;
 use osb_text::Text;
@@ -21,7 +21,7 @@ use std::alloc::Global;
 pub(crate) fn text_in(row: &Row, at: usize) -> Result<Text, StoreFault>
     ensures told { IfOk result (λ text. text ≡ bytes (column row.now at)) }
     ensures held { IfOk result (λ text. column row.now at ≡ Words text) }
-    ensures refused { IfErr result (λ fault. fault ≡ faults.Refused) }
+    ensures refused { IfErr result IsRefused }
 {
     let string: String = row.get(at)?;
     Ok(Text::from(string))
@@ -30,7 +30,7 @@ pub(crate) fn text_in(row: &Row, at: usize) -> Result<Text, StoreFault>
 pub(crate) fn number_in(row: &Row, at: usize) -> Result<u32, StoreFault>
     ensures told { IfOk result (λ number. number ≡ number_in (column row.now at)) }
     ensures held { IfOk result (λ number. column row.now at ≡ Int (pos number)) }
-    ensures refused { IfErr result (λ fault. fault ≡ faults.Refused) }
+    ensures refused { IfErr result IsRefused }
 {
     Ok(row.get(at)?)
 }
@@ -39,7 +39,7 @@ pub(crate) fn number_in(row: &Row, at: usize) -> Result<u32, StoreFault>
 pub(crate) fn attributes_in(alloc: Global, row: &Row) -> Result<Attributes, StoreFault>
     ensures told { IfOk result (λ attributes. attributes ≡ attributes_decoded row.now) }
     ensures held { IfOk result (HoldAttributes row.now) }
-    ensures refused { IfErr result (λ fault. fault ≡ faults.Refused) }
+    ensures refused { IfErr result IsRefused }
 {
     Ok(Attributes {
         service: text_in(row, 4)?,
@@ -54,7 +54,7 @@ pub(crate) fn attributes_in(alloc: Global, row: &Row) -> Result<Attributes, Stor
 
 fn rowid_in(row: &Row) -> Result<u64, StoreFault>
     ensures told { IfOk result (λ id. rowid_shown id ≡ rowid row.now) }
-    ensures refused { IfErr result (λ fault. fault ≡ faults.Refused) }
+    ensures refused { IfErr result IsRefused }
 {
     Ok(row.get(0)?)
 }
@@ -62,7 +62,7 @@ fn rowid_in(row: &Row) -> Result<u64, StoreFault>
 /// The rowids of the rows, none of them negative.
 fn rowids_in(alloc: Global, rows: &[Row]) -> Result<Vec<u64>, StoreFault>
     ensures told { IfOk result (λ ids. map rowid_shown ids.items ≡ map rowid rows.now) }
-    ensures refused { IfErr result (λ fault. fault ≡ faults.Refused) }
+    ensures refused { IfErr result IsRefused }
 {
     let mut ids = Vec::new(alloc);
     for row in rows {
@@ -80,26 +80,12 @@ fn rise(ids: &[u64]) -> bool
 /// Refuses rows that are no rising rowids.
 pub(crate) fn check_rowids(alloc: Global, rows: &[Row]) -> Result<(), StoreFault>
     ensures ok { OnOk result (AreRowids rows.now) }
-    ensures refused { IfErr result (λ fault. fault ≡ faults.Refused) }
+    ensures refused { IfErr result IsRefused }
 {
     let ids = rowids_in(alloc, rows)?;
     if rise(&ids) {
         Ok(())
     } else {
-        Err(StoreFault::Refused)
+        Err(StoreFault::Refused(Cause::Other))
     }
-}
-
-/// Whether the rows say so in the column beside their rowids.
-pub(crate) fn are_named(rows: &[Row]) -> Result<bool, StoreFault>
-    ensures ok { IfOk result (λ yes.
-        (yes ≡ true) ↔ AllByRecursion (λ row. column row 1 ≡ Int (pos 1)) rows.now) }
-    ensures refused { IfErr result (λ fault. fault ≡ faults.Refused) }
-{
-    for row in rows {
-        if number_in(row, 1)? != 1 {
-            return Ok(false);
-        }
-    }
-    Ok(true)
 }

@@ -1,4 +1,4 @@
-//! Orders and what stands of instances with their contexts, read inside a transaction.
+//! Orders and the current state of instances with their contexts, read inside a transaction.
 
 ghost use Rattle.std.specs.Prelude.{◌≡◌, map, IfOk, IfSome, option_map, option_copied};
 ghost use Rattle.osb_orders.specs.declared.order.Order.{Order};
@@ -97,7 +97,7 @@ fn joined_beside<S: Alter>(
     }
 }
 
-/// What stands of the instance, with its context.
+/// The current state of the instance, with its context.
 fn joined_standing<S: Alter>(
     tx: &mut Transaction<'_, S>,
     instance: &str,
@@ -118,7 +118,7 @@ fn joined_standing<S: Alter>(
     }))
 }
 
-/// The row of the instance, with the context that stands.
+/// The row of the instance, with the current context.
 fn joined_row<S: Alter>(
     tx: &mut Transaction<'_, S>,
     instance: &str,

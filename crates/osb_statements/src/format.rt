@@ -2,7 +2,7 @@
 
 ghost use Rattle.std.specs.Prelude.{◌≡◌, map, IfOk, IfErr, [], ◌∷◌};
 ghost use Rattle.osb_tables.specs.Tables.{second_schema, no_schema, format_schema};
-ghost use Rattle.osb_statements.specs.declared.fault.StoreFault.TheVariants as faults;
+ghost use Rattle.osb_statements.specs.Causes.{IsRefused};
 ghost use Rattle.osb_contexts.specs.Format.{version_row};
 ghost use Rattle.osb_statements.specs.Read.{version_columns, AreVersionsOf};
 ghost use Rattle.osb_contexts.specs.Inside.{ShowsSchema};
@@ -19,7 +19,7 @@ use std::alloc::Global;
 fn versions_in(alloc: Global, rows: &[Row]) -> Result<Vec<u32>, StoreFault>
     ensures told { IfOk result (λ versions.
         map version_row versions.items ≡ map version_columns rows.now) }
-    ensures refused { IfErr result (λ fault. fault ≡ faults.Refused) }
+    ensures refused { IfErr result IsRefused }
 {
     let mut versions = Vec::new(alloc);
     for row in rows {
@@ -50,7 +50,7 @@ pub(crate) fn read_versions<S: Alter>(
     ensures ok { Finds S.Store tx.old tx.new result (λ s entries.
         AreVersionsOf s.now.trees entries.items) }
     ensures reads { Reads S.Store tx.old tx.new result }
-    ensures refused { IfErr result (λ fault. fault ≡ faults.Refused) }
+    ensures refused { IfErr result IsRefused }
 {
     let ids = select(tx, "SELECT rowid FROM format ORDER BY rowid", &[])?;
     let rows = select(tx, "SELECT version FROM format ORDER BY version", &[])?;

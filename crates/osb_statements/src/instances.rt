@@ -1,4 +1,4 @@
-//! The table of what stands of instances: its columns, its rows, and the statements on it.
+//! The table of the current state of instances: its columns, its rows, and the statements on it.
 
 ghost use Rattle.std.specs.Prelude.{◌≡◌, ◌≢◌, ◌↔◌, ◌==◌, true, List, map, Option, Err, IfOk, [], ◌∷◌, IsTrue, filter, ℕ, Some, take, false, IfErr};
 ghost use Rattle.sqlite.specs.Order.{column, bytes};
@@ -12,9 +12,10 @@ ghost use Rattle.osb_orders.specs.Listing.{listing};
 ghost use Rattle.osb_standing.specs.Listing.{is_listed_row};
 ghost use Rattle.osb_audit.specs.Instances.{InstanceEntry, instance_cmp, is_instance, IsRowOf};
 ghost use Rattle.osb_tables.specs.Tables.{second_schema, orders_schema, instances_schema};
+ghost use Rattle.osb_statements.specs.Causes.{IsRefused};
 ghost use Rattle.osb_statements.specs.declared.fault.StoreFault.TheVariants as faults;
 ghost use Rattle.osb_statements.specs.Queries.{ShowsRecords};
-ghost use Rattle.osb_statements.specs.Asked.{busy_row, order_for};
+ghost use Rattle.osb_statements.specs.Asked.{busy_row, id_row, is_above, order_for};
 ghost use Rattle.osb_rows.specs.Rows.{Stores};
 ghost use Rattle.osb_statements.specs.Columns.{number_in};
 ghost use Rattle.osb_statements.specs.Read.{IsReadAs, IsEntryOf, AreInstancesOf, instance_columns, first_told};
@@ -32,9 +33,10 @@ ghost use Rattle.osb_contexts.specs.Reads.{Reads, Finds, behind, StaysInside, Do
 ghost use Rattle.osb_statements.specs.Instances as spec;
 ghost use Rattle.osb_statements.specs.Shown.{AreColumnsOf};
 
-use crate::cells::{are_named, attributes_in, check_rowids, number_in, text_in};
+use crate::cells::{attributes_in, number_in, text_in};
 use crate::fault::StoreFault;
 use crate::sql::{execute, select};
+use osb_contexts::{NamedTable, are_rows_named};
 use osb_orders::{Attributes, InstancePhase, Standing};
 use osb_standing::InstanceRow;
 use osb_standing::laws::listing_by_rows;
@@ -98,7 +100,7 @@ fn busy_numbered(number: u32) -> Result<bool, StoreFault>
     }
 }
 
-/// How an instance stands, as the columns show it.
+/// The state of an instance, as the columns show it.
 #[derive(Clone, Copy)]
 struct StandingColumns<'a> {
     phase: u32,
@@ -175,7 +177,7 @@ fn standing_decoded(number: u32, attributes: Attributes) -> Result<Option<Standi
     }
 }
 
-/// How the instance of the row stands.
+/// The state of the instance of the row.
 fn instance_row_in(alloc: Global, row: &Row) -> Result<InstanceRow, StoreFault>
     ensures told { IfOk result (λ found. found ≡ instance_row_decoded row.now) }
     ensures held { IfOk result (λ found. standing_row found ≡ standing_columns row.now) }
@@ -189,7 +191,7 @@ fn instance_row_in(alloc: Global, row: &Row) -> Result<InstanceRow, StoreFault>
     })
 }
 
-/// How the instance of the first row stands.
+/// The state of the instance of the first row.
 fn first_instance_in(alloc: Global, rows: &[Row]) -> Result<Option<InstanceRow>, StoreFault>
     ensures { IfOk result (λ found. found ≡ first_told rows.now) }
 {
@@ -371,27 +373,21 @@ pub(crate) fn read_busy<S: Alter>(
     select_busy(tx, after, limit)
 }
 
-/// The rows of the instances, by their keys.
-pub(crate) fn read_instances<S: Alter>(
+/// The first instance with an id above this one.
+pub(crate) fn select_next<S: Alter>(
     tx: &mut Transaction<'_, S>,
-    alloc: Global,
-) -> Result<Vec<(Text, InstanceRow)>, StoreFault>
-    requires { ShowsSchema second_schema (behind S.Store tx.old) }
-    ensures ok { Finds S.Store tx.old tx.new result (λ s entries.
-        AreInstancesOf s.now.trees entries.items) }
+    after: &str,
+) -> Result<Vec<Row>, Error>
+    requires { ShowsTables (behind S.Store tx.old) }
+    ensures ok { Finds S.Store tx.old tx.new result (λ s rows.
+        rows.items ≡ map id_row (take 1 (filter (is_above after.now) (content s).instances))) }
     ensures reads { Reads S.Store tx.old tx.new result }
-    ensures known { HasCleanDisk (behind S.Store tx.new) → (instances : List InstanceEntry) →
-        Stores instance_cells instance_row instance_cmp
-        ((behind S.Store tx.old).now.trees 3) instances → result ≢ Err faults.NotOurs }
 {
-    let ids = select(tx, "SELECT rowid FROM instances ORDER BY rowid", &[])?;
-    let rows = select(
+    select(
         tx,
-        "SELECT instance_id, phase, busy, last_seq, service_id, plan_id, organization, space, params, maint FROM instances ORDER BY instance_id",
-        &[],
-    )?;
-    check_rowids(alloc, &ids)?;
-    instances_in(alloc, &rows)
+        "SELECT instance_id FROM instances WHERE instance_id > ?1 ORDER BY instance_id LIMIT 1",
+        params![after],
+    )
 }
 
 /// Whether each row of an instance has the id of an instance. Rows without rowids of their own are refused.
@@ -403,15 +399,9 @@ pub(crate) fn are_instances_named<S: Alter>(
     ensures ok { Finds S.Store tx.old tx.new result (λ s yes.
         HaveRowids (s.now.trees 3) × ((yes ≡ true) ↔ AreNamed (s.now.trees 3))) }
     ensures reads { Reads S.Store tx.old tx.new result }
-    ensures refused { IfErr result (λ fault. fault ≡ faults.Refused) }
+    ensures refused { IfErr result IsRefused }
 {
-    let rows = select(
-        tx,
-        "SELECT rowid, instance_id > '' AND instance_id <= x'' AS named FROM instances ORDER BY rowid",
-        &[],
-    )?;
-    check_rowids(alloc, &rows)?;
-    are_named(&rows)
+    Ok(are_rows_named(tx, alloc, NamedTable::Instances)?)
 }
 
 /// The rows of the instances with ids above the first and up to the second, by their keys.

@@ -15,6 +15,7 @@ ghost use Rattle.osb_orders.specs.Lists.{last_of};
 ghost use Rattle.osb_orders.specs.Named as spec;
 ghost use Rattle.osb_audit.specs.Orders.{Entry, entry_cmp, is_of};
 ghost use Rattle.osb_tables.specs.Tables.{second_schema, format_schema, orders_schema};
+ghost use Rattle.osb_statements.specs.Causes.{IsRefused};
 ghost use Rattle.osb_statements.specs.declared.fault.StoreFault.TheVariants as faults;
 ghost use Rattle.osb_statements.specs.Queries.{ShowsRecords};
 ghost use Rattle.osb_statements.specs.Asked.{first_order, is_kind_of};
@@ -31,9 +32,10 @@ ghost use Rattle.osb_statements.specs.Inside.{with_lives, ShowsBlank, Makes, Con
 ghost use Rattle.osb_statements.specs.Steps.{bare_in, ShowsTables, content};
 ghost use Rattle.osb_contexts.specs.Reads.{Reads, Finds, behind, StaysInside, Does};
 
-use crate::cells::{are_named, attributes_in, check_rowids, number_in, text_in};
+use crate::cells::{attributes_in, number_in, text_in};
 use crate::fault::StoreFault;
 use crate::sql::{execute, select};
+use osb_contexts::{NamedTable, are_rows_named};
 use osb_orders::{Order, OrderKind, OrderState, Outcome};
 use osb_text::Text;
 use sqlite::types::ValueRef;
@@ -303,29 +305,6 @@ pub(crate) fn select_life<S: Alter>(
     )
 }
 
-/// The orders, by their keys.
-pub(crate) fn read_orders<S: Alter>(
-    tx: &mut Transaction<'_, S>,
-    alloc: Global,
-) -> Result<Vec<(Text, Order)>, StoreFault>
-    requires { ShowsSchema second_schema (behind S.Store tx.old) }
-    ensures ok { Finds S.Store tx.old tx.new result (λ s entries.
-        AreOrdersOf s.now.trees entries.items) }
-    ensures reads { Reads S.Store tx.old tx.new result }
-    ensures known { HasCleanDisk (behind S.Store tx.new) → (orders : List Entry) →
-        Stores order_cells entry_row entry_cmp ((behind S.Store tx.old).now.trees 1) orders →
-        result ≢ Err faults.NotOurs }
-{
-    let ids = select(tx, "SELECT rowid FROM orders ORDER BY rowid", &[])?;
-    let rows = select(
-        tx,
-        "SELECT instance_id, seq, kind, binding_id, service_id, plan_id, place, spot, params, maint, state, note, credentials FROM orders ORDER BY instance_id, seq",
-        &[],
-    )?;
-    check_rowids(alloc, &ids)?;
-    entries_in(alloc, &rows)
-}
-
 /// Whether each row of an order has the id of an instance. Rows without rowids of their own are refused.
 pub(crate) fn are_orders_named<S: Alter>(
     tx: &mut Transaction<'_, S>,
@@ -335,15 +314,9 @@ pub(crate) fn are_orders_named<S: Alter>(
     ensures ok { Finds S.Store tx.old tx.new result (λ s yes.
         HaveRowids (s.now.trees 1) × ((yes ≡ true) ↔ AreNamed (s.now.trees 1))) }
     ensures reads { Reads S.Store tx.old tx.new result }
-    ensures refused { IfErr result (λ fault. fault ≡ faults.Refused) }
+    ensures refused { IfErr result IsRefused }
 {
-    let rows = select(
-        tx,
-        "SELECT rowid, instance_id > '' AND instance_id <= x'' AS named FROM orders ORDER BY rowid",
-        &[],
-    )?;
-    check_rowids(alloc, &rows)?;
-    are_named(&rows)
+    Ok(are_rows_named(tx, alloc, NamedTable::Orders)?)
 }
 
 /// The orders of the instances with ids above the first and up to the second, by their keys.

@@ -24,12 +24,14 @@ ghost use Rattle.osb_contexts.specs.Read.{HaveRowids};
 ghost use Rattle.osb_contexts.specs.Reads.{Reads, MayRead, Finds, MayFind, behind};
 ghost use Rattle.osb_statements.specs.Bindings.{binding_row, binding_cells};
 ghost use Rattle.osb_statements.specs.Instances.{instance_row, instance_cells};
-ghost use Rattle.osb_statements.specs.Pieces.{MayBeCut, IsReadOf};
+ghost use Rattle.osb_statements.specs.Pieces.{AreSeparateRows, MayBeCut, HoldRows, IsReadOf};
 ghost use Rattle.osb_statements.specs.Stored.{entry_row, order_cells};
 ghost use Rattle.osb_statements.specs.StoredLives.{StoreLives};
+ghost use Rattle.osb_statements.specs.Causes.{IsRefused};
 ghost use Rattle.osb_statements.specs.declared.fault.StoreFault.TheVariants as faults;
 
 use crate::bindings::{are_bindings_named, read_bindings_between};
+use crate::cause::Cause;
 use crate::cells::text_in;
 use crate::fault::StoreFault;
 use crate::format::read_versions;
@@ -50,35 +52,44 @@ use std::alloc::Global;
 const ROWS: u32 = 4_095;
 
 /// The id of the order behind so many others.
-const END: &str =
+pub(crate) const END: &str =
     "SELECT instance_id FROM orders WHERE instance_id > ?1 ORDER BY instance_id, seq LIMIT 1 OFFSET ?2";
 
 /// What was read of some instances.
 #[derive(Drop)]
 pub(crate) struct Piece {
-    orders: Vec<(Text, Order)>,
-    instances: Vec<(Text, InstanceRow)>,
-    bindings: Vec<BindingEntry>,
+    pub(crate) orders: Vec<(Text, Order)>,
+    pub(crate) instances: Vec<(Text, InstanceRow)>,
+    pub(crate) bindings: Vec<BindingEntry>,
 }
 
-fn is_second<S: Alter>(tx: &mut Transaction<'_, S>, alloc: Global) -> Result<bool, StoreFault>
+/// Whether the format has this version only.
+pub(crate) fn is_version<S: Alter>(
+    tx: &mut Transaction<'_, S>,
+    alloc: Global,
+    version: u32,
+) -> Result<bool, StoreFault>
     requires { ShowsSchema second_schema (behind S.Store tx.old) }
     ensures ok { Finds S.Store tx.old tx.new result (λ s yes.
-        (yes ≡ true) ↔ HoldsVersion 2 s.now.trees) }
+        (yes ≡ true) ↔ HoldsVersion version s.now.trees) }
     ensures reads { Reads S.Store tx.old tx.new result }
-    ensures refused { IfErr result (λ fault. fault ≡ faults.Refused) }
+    ensures refused { IfErr result IsRefused }
 {
     let versions = read_versions(tx, alloc)?;
-    Ok(versions.as_slice() == [2].as_slice())
+    Ok(versions.as_slice() == [version].as_slice())
 }
 
-fn are_first_named<S: Alter>(tx: &mut Transaction<'_, S>, alloc: Global) -> Result<bool, StoreFault>
+/// Whether each row of an order or an instance has the id of an instance.
+pub(crate) fn are_first_named<S: Alter>(
+    tx: &mut Transaction<'_, S>,
+    alloc: Global,
+) -> Result<bool, StoreFault>
     requires { ShowsSchema second_schema (behind S.Store tx.old) }
     ensures ok { Finds S.Store tx.old tx.new result (λ s yes.
         HaveRowids (s.now.trees 1) × HaveRowids (s.now.trees 3)
         × ((yes ≡ true) ↔ (AreNamed (s.now.trees 1) × AreNamed (s.now.trees 3)))) }
     ensures reads { Reads S.Store tx.old tx.new result }
-    ensures refused { IfErr result (λ fault. fault ≡ faults.Refused) }
+    ensures refused { IfErr result IsRefused }
 {
     let orders = are_orders_named(tx, alloc)?;
     let instances = are_instances_named(tx, alloc)?;
@@ -94,7 +105,7 @@ fn are_others_named<S: Alter>(
         HaveRowids (s.now.trees 5) × HaveRowids (s.now.trees 7)
         × ((yes ≡ true) ↔ (AreNamed (s.now.trees 5) × AreNamed (s.now.trees 7)))) }
     ensures reads { Reads S.Store tx.old tx.new result }
-    ensures refused { IfErr result (λ fault. fault ≡ faults.Refused) }
+    ensures refused { IfErr result IsRefused }
 {
     let bindings = are_bindings_named(tx, alloc)?;
     let contexts = are_contexts_named(tx, alloc)?;
@@ -109,9 +120,9 @@ fn may_be_cut<S: Alter>(tx: &mut Transaction<'_, S>, alloc: Global) -> Result<bo
     ensures all { Finds S.Store tx.old tx.new result (λ s yes.
         StoreLives s.now.trees → yes ≡ true) }
     ensures reads { Reads S.Store tx.old tx.new result }
-    ensures refused { IfErr result (λ fault. fault ≡ faults.Refused) }
+    ensures refused { IfErr result IsRefused }
 {
-    if !is_second(tx, alloc)? {
+    if !is_version(tx, alloc, 2)? {
         return Ok(false);
     }
     if !are_first_named(tx, alloc)? {
@@ -121,18 +132,18 @@ fn may_be_cut<S: Alter>(tx: &mut Transaction<'_, S>, alloc: Global) -> Result<bo
 }
 
 /// The orders and the rows of the instances with ids above the first and up to the second.
-fn read_piece<S: Alter>(
+pub(crate) fn read_piece<S: Alter>(
     tx: &mut Transaction<'_, S>,
     alloc: Global,
     after: &str,
     to: ValueRef<'_>,
 ) -> Result<Piece, StoreFault>
     requires { ShowsSchema second_schema (behind S.Store tx.old) }
-    ensures ok { Finds S.Store tx.old tx.new result (λ s read. MayBeCut s.now.trees →
+    ensures ok { Finds S.Store tx.old tx.new result (λ s read. AreSeparateRows s.now.trees →
         IsReadOf (piece after.now (bound_value (owned to.entry)) s.now.trees) read) }
     ensures reads { Reads S.Store tx.old tx.new result }
     ensures known { HasCleanDisk (behind S.Store tx.new) →
-        StoreLives (piece after.now (bound_value (owned to.entry))
+        HoldRows (piece after.now (bound_value (owned to.entry))
         (behind S.Store tx.old).now.trees) → result ≢ Err faults.NotOurs }
 {
     let orders = read_orders_between(tx, alloc, after, to)?;
@@ -150,7 +161,7 @@ fn are_lives(alloc: Global, read: &Piece, contexts: &[ContextEntry]) -> Result<b
         HaveNoContexts read.now.orders.items read.now.instances.items → (yes ≡ true) ↔
         AreRowsWithContexts contexts.now read.now.orders.items read.now.instances.items
         read.now.bindings.items) }
-    ensures refused { IfErr result (λ fault. fault ≡ faults.Refused) }
+    ensures refused { IfErr result IsRefused }
 {
     Ok(are_rows_with_contexts(
         alloc,
@@ -191,7 +202,7 @@ pub(crate) fn end_of_piece<S: Alter>(
     requires schema { ShowsSchema second_schema (behind S.Store tx.old) }
     requires plain { IsPlain (understood second_schema sql.now) }
     ensures reads { Reads S.Store tx.old tx.new result }
-    ensures refused { IfErr result (λ fault. fault ≡ faults.Refused) }
+    ensures refused { IfErr result IsRefused }
 {
     let rows = select(tx, sql, params![after, ROWS])?;
     match rows.first() {
@@ -224,7 +235,7 @@ fn is_next_whole<S: Alter>(
             ValueRef::Text(to.as_str().as_bytes()),
         )
     } else {
-        Err(StoreFault::Refused)
+        Err(StoreFault::Refused(Cause::Other))
     }
 }
 
@@ -252,7 +263,7 @@ fn are_pieces_whole<S: Alter>(
         }
         after = to;
     }
-    Err(StoreFault::Refused)
+    Err(StoreFault::Refused(Cause::Other))
 }
 
 /// Whether the tables are those of version 2 of well-formed lives.

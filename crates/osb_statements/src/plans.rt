@@ -16,6 +16,7 @@ ghost use Rattle.osb_statements.specs.Queries.{ShowsRecords, ShowsLives};
 ghost use Rattle.osb_statements.specs.Steps.{bare_in, content, stored};
 ghost use Rattle.osb_contexts.specs.Reads.{Reads, MayRead, Finds, MayFind, behind};
 
+use crate::cause::Cause;
 use crate::fault::StoreFault;
 use crate::instances::read_instances_between;
 use crate::pieces::end_of_piece;
@@ -93,7 +94,7 @@ fn add_next<S: Alter>(
             ValueRef::Text(to.as_str().as_bytes()),
         )
     } else {
-        Err(StoreFault::Refused)
+        Err(StoreFault::Refused(Cause::Other))
     }
 }
 
@@ -117,7 +118,7 @@ fn standing_plans<S: Alter>(
         add_next(tx, alloc, &mut plans, &after, &to)?;
         after = to;
     }
-    Err(StoreFault::Refused)
+    Err(StoreFault::Refused(Cause::Other))
 }
 
 fn is_below(running: &[(Text, Order)], most: u32) -> bool
@@ -146,7 +147,7 @@ fn all_running<S: Alter>(
         Ok(running)
     } else {
         drop(running);
-        Err(StoreFault::Refused)
+        Err(StoreFault::Refused(Cause::Other))
     }
 }
 

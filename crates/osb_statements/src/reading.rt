@@ -5,12 +5,15 @@ ghost use Rattle.osb_orders.specs.Lives.{life_of};
 ghost use Rattle.osb_orders.specs.Listing.{listing};
 ghost use Rattle.osb_statements.specs.Queries.{ShowsRecords, ShowsLives};
 ghost use Rattle.osb_statements.specs.Asked.{order_for};
+ghost use Rattle.osb_statements.specs.NextId.{IsNextId};
 ghost use Rattle.osb_statements.specs.Steps.{stored, bare_in};
 ghost use Rattle.osb_contexts.specs.Reads.{Reads, Finds, behind, MayRead, MayFind};
 
+use crate::cause::Cause;
+use crate::cells::text_in;
 use crate::contexts::{join_entries, join_orders};
 use crate::fault::StoreFault;
-use crate::instances::{named_in, read_busy};
+use crate::instances::{named_in, read_busy, select_next};
 use crate::orders::{order_numbered, orders_in, select_life};
 use osb_orders::Order;
 use osb_text::Text;
@@ -31,7 +34,7 @@ fn listed_order<S: Alter>(
     let (id, number) = named_in(row)?;
     match order_numbered(tx, alloc, id.as_str(), number)? {
         Some(order) => Ok((id, order)),
-        None => Err(StoreFault::Refused),
+        None => Err(StoreFault::Refused(Cause::Other)),
     }
 }
 
@@ -67,6 +70,23 @@ pub(crate) fn list_running<S: Alter>(
 {
     let rows = read_busy(tx, after, limit)?;
     listed_orders(tx, alloc, &rows)
+}
+
+/// The first id above this one of an instance that has orders.
+pub fn next_id<S: Alter>(
+    tx: &mut Transaction<'_, S>,
+    after: &str,
+) -> Result<Option<Text>, StoreFault>
+    requires { ShowsLives (behind S.Store tx.old) }
+    ensures ok { Finds S.Store tx.old tx.new result (λ s next.
+        IsNextId (stored s) after.now next) }
+    ensures reads { Reads S.Store tx.old tx.new result }
+{
+    let rows = select_next(tx, after)?;
+    match rows.first() {
+        Some(row) => Ok(Some(text_in(row, 0)?)),
+        None => Ok(None),
+    }
 }
 
 /// The orders of the instance by their numbers, but for their contexts.

@@ -1,4 +1,4 @@
-//! What stands of an instance and of its bindings follows a written order, inside a transaction.
+//! The current state of an instance and of its bindings follows a written order, inside a transaction.
 
 ghost use Rattle.std.specs.Prelude.{◌≡◌, true, IfOk, OnOk, IsTrue, Some, None, option_copied, is_some};
 ghost use Rattle.std.specs.FinMap.{get};
@@ -261,7 +261,7 @@ fn write_bindings<S: Alter>(
     Ok(())
 }
 
-/// Writes the rows of what stands once the order is written. An instance that `is_new` has no row yet.
+/// Writes the rows of the current state once the order is written. An instance that `is_new` has no row yet.
 pub(crate) fn write_standing<S: Alter>(
     tx: &mut Transaction<'_, S>,
     alloc: Global,

@@ -1,4 +1,4 @@
-//! Orders written together with what stands then and with their contexts, inside a transaction.
+//! Orders written together with the current state then and with their contexts, inside a transaction.
 
 ghost use Rattle.std.specs.Prelude.{◌≡◌, IsTrue, IfOk, Some};
 ghost use Rattle.sqlite.specs.State.{HasCleanDisk};
@@ -16,6 +16,7 @@ ghost use Rattle.osb_statements.specs.LivesWritten.{WritesLives};
 ghost use Rattle.osb_statements.specs.Steps.{stored, bare_in};
 ghost use Rattle.osb_contexts.specs.Reads.{Reads, Finds, behind, StaysInside, Does};
 
+use crate::cause::Cause;
 use crate::fault::StoreFault;
 use crate::orders::{finish_order, insert_order, order_numbered};
 use crate::standing::write_standing;
@@ -65,7 +66,7 @@ fn ended_order<S: Alter>(
     let last = order_numbered(tx, alloc, instance, number)?;
     match order_written(last, ending) {
         Some(order) => Ok(order),
-        None => Err(StoreFault::Refused),
+        None => Err(StoreFault::Refused(Cause::Other)),
     }
 }
 
@@ -112,7 +113,7 @@ pub fn append_joined<S: Alter>(
     Ok(())
 }
 
-/// Gives the running last order its outcome, and leaves its context standing where it is to stand.
+/// Gives the running last order its outcome, and keeps its context where that becomes the current one.
 pub fn end_joined<S: Alter>(
     tx: &mut Transaction<'_, S>,
     alloc: Global,

@@ -24,7 +24,7 @@ key_indexes =
 abbrev pub contexts_index : Index
 contexts_index = index_of (codes "sqlite_autoindex_contexts_1") 8 7 (1 ∷ 2 ∷ []) true
 
--- the indexes as they stand in a schema whose last object has the tree before this one
+-- the indexes as they are in a schema whose last object has the tree before this one
 abbrev pub busy_at : ℕ → Index
 busy_at tree = record busy_index { tree = tree }
 

@@ -124,7 +124,7 @@ instances_table = plain_table (codes "instances") 3 columns_of_instances (1 ∷ 
 abbrev pub bindings_table : Table
 bindings_table = plain_table (codes "bindings") 5 columns_of_bindings (1 ∷ 2 ∷ []) ((1 ∷ 2 ∷ []) ∷ [])
 
--- its key is the instance and the number of the order, or 0 for what stands
+-- its key is the instance and the number of the order, or 0 for the current state
 abbrev pub contexts_table : Table
 contexts_table = plain_table (codes "contexts") 7 columns_of_contexts (1 ∷ 2 ∷ []) ((1 ∷ 2 ∷ []) ∷ [])
 

@@ -10,7 +10,7 @@ use sqlite_schema::schema::{Column, Index, Kind, Schema, Table};
 use sqlite_value::keys::{Collation, Order};
 use sqlite_value::value::Value;
 
-/// Which of the two indexes are there. The second is never there alone.
+/// Which of the two indexes are there. The second is never there without the first.
 #[derive(Clone, Copy, Debug, PartialEq, Eq)]
 pub enum Indexes {
     None,

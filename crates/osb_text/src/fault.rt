@@ -3,7 +3,7 @@
 use std::alloc::AllocError;
 use thiserror::Error;
 
-/// Why a text gave no object, or a look-up no member. Of a text the first fault that stands is
+/// Why a text gave no object, or a look-up no member. Of a text the first fault that it has is
 /// given, in the order of the variants.
 #[derive(Clone, Copy, Debug, Drop, PartialEq, Eq, Error)]
 pub enum TextFault {

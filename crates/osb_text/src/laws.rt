@@ -22,7 +22,7 @@ pub fn exact()
 {}
 
 /// An object that is read has its names in the order of their bytes, each once, at every depth.
-/// Its compact text has the members as they stand there.
+/// Its compact text has the members as they are there.
 pub fn in_byte_order()
     ensures { (bytes : List ℕ) (v : Data) → object_of bytes ≡ Ok v → IsInByteOrder v }
 {}

@@ -20,7 +20,7 @@ pub struct Object {
     pub ghost whole: { is_whole (view value) ≡ true },
 }
 
-/// An object that stands in another one: borrowed, with the same look-ups.
+/// An object in another one: borrowed, with the same look-ups.
 #[derive(Clone, Copy, Debug, Drop)]
 pub struct ObjectRef<'a> {
     value: &'a Value,

@@ -1,4 +1,4 @@
-//! Reading a value that stands in an object, whatever its kind.
+//! Reading a value in an object, whatever its kind.
 
 ghost use Rattle.std.specs.Prelude.{◌≡◌, true, IfOk, IfSome, option_map, string_bytes};
 ghost use Rattle.serde_json.specs.Find.{as_array};
@@ -35,7 +35,7 @@ pub fn items(value: &Value) -> Option<&[Value]>
     }
 }
 
-/// The compact text of a value whose numbers are whole: no spaces, members as they stand. A
+/// The compact text of a value whose numbers are whole: no spaces, members as they are. A
 /// value that was read has its names in byte order, as `laws::in_byte_order` says.
 #[tactic(auto, using(crate::proofs::Parts::no_float))]
 pub fn compact_text(alloc: Global, value: &Value) -> Result<String, AllocError>

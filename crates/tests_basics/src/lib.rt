@@ -1,4 +1,4 @@
-//! Tests alone: what the crates that know no settings answer by themselves, through their public calls:
+//! Only tests: what the crates that know no settings answer by themselves, through their public calls:
 //! texts, requests, counted readers and writers, and replies.
 #![tactic(auto)]
 

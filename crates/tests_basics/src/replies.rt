@@ -86,7 +86,7 @@ fn is_written_as(alloc: Global, reply: &Reply<'_>, most: usize, text: &[u8]) -> 
     result == Ok(()) && paper.bytes.as_slice() == text
 }
 
-/// Checks that the reply is written as `text`, whole and in pieces, and that its length is told.
+/// Checks that the reply is written as `text`, whole and in pieces, and that its length is right.
 fn check(rt: &impl Abort, alloc: Global, reply: &Reply<'_>, text: &[u8]) {
     for most in [usize::MAX, 1, 7] {
         assert!(rt;
@@ -261,7 +261,7 @@ fn errors_of_requests(rt: HostRuntime) {
     check_errors(&rt, &OF_REQUESTS);
 }
 
-/// What is wrong with a request for what stands.
+/// What is wrong with a request for the current state.
 const OF_INSTANCES: [ErrorCase; 10] = [
     (
         FixedError::NotInCatalog,
@@ -323,7 +323,7 @@ fn errors_of_instances(rt: HostRuntime) {
 const ASYNC_REQUIRED: &[u8] =
     b"HTTP/1.1 422 Unprocessable Entity\r\nContent-Type: application/json\r\nContent-Length: 81\r\nX-Broker-API-Request-Identity: r1\r\nConnection: close\r\n\r\n{\"description\":\"The plan needs asynchronous operations.\",\"error\":\"AsyncRequired\"}";
 
-/// Whether it is told what a writer took that takes seven bytes at a time, and goes wrong at that write.
+/// Whether it is said what a writer took that takes seven bytes at a time, and goes wrong at that write.
 fn tells_what_was_written(alloc: Global, reply: &Reply<'_>, wrong: Wrong, bad: usize) -> bool {
     let (result, paper) = write_on(alloc, reply, 7, wrong, bad);
     let written = bad.saturating_sub(1).saturating_mul(7);

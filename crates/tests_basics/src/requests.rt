@@ -120,7 +120,7 @@ fn no_head(rt: HostRuntime) {
     assert!(rt; stops_with(b"GET /\r\n\r\n", StopKind::NoHead));
     assert!(rt; stops_with(b"GET / HTTP/1.2\r\nHost: b\r\n\r\n", StopKind::NoHead));
     assert!(rt; stops_with(b"GET / HTTP/1.1\r\nHost : b\r\n\r\n", StopKind::NoHead));
-    // What no bytes can mend is told before the input ends.
+    // What no bytes can mend is reported before the input ends.
     assert!(rt; has_no_head_at_once(b"\x01"));
 }
 
@@ -182,7 +182,7 @@ fn is_one_request(text: &str) -> bool {
     reads(text.as_bytes(), text.len())
 }
 
-/// Too many lines are told at the limit of a head or at the end, and not before.
+/// Too many lines are reported at the limit of a head or at the end, and not before.
 fn has_too_many_lines_at_its_end(bytes: &[u8]) -> bool {
     stops_with(bytes, StopKind::NoHead) && wants_more(bytes)
 }
@@ -242,7 +242,7 @@ fn hosts(rt: HostRuntime) {
     );
     assert!(rt; reads(b"GET / HTTP/1.0\r\n\r\n", 18));
     assert!(rt; reads(b"GET / HTTP/1.0\r\nHost: a\r\n\r\n", 27));
-    // It is told before a length that isn't usable.
+    // It is reported before a length that isn't usable.
     assert!(rt;
         stops_with(
             b"PUT / HTTP/1.1\r\nContent-Length: x\r\n\r\n",
@@ -272,7 +272,7 @@ fn codings(rt: HostRuntime) {
     assert!(rt; stops_with(host_first, StopKind::Host));
 }
 
-/// Whether a head with these lines, whose input goes on, is told to be faulty.
+/// Whether a head with these lines, whose input goes on, is reported as faulty.
 fn stops_at_once(alloc: Global, lines: &str, kind: StopKind) -> Result<bool, AllocError> {
     let head = repeated(alloc, "PUT / HTTP/1.1\r\n", lines, 1, "\r\n")?;
     Ok(match next(head.as_bytes(), false, &Limits::STANDARD) {

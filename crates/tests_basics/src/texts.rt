@@ -224,7 +224,7 @@ fn compacts_inner_objects(rt: HostRuntime) -> Result<(), Fail> {
     Ok(())
 }
 
-/// Whether nothing but null stands under that name.
+/// Whether nothing but null is under that name.
 fn is_absent(object: &Object, name: &str) -> bool {
     object.text(name) == Ok(None)
         && object.flag(name) == Ok(None)
@@ -390,7 +390,7 @@ fn reads_items(rt: HostRuntime) -> Result<(), Fail> {
     Ok(())
 }
 
-/// Whether the value of the list is told whole, and has items but no members.
+/// Whether the value of the list is given whole, and has items but no members.
 fn reads_a_list(alloc: Global, object: &Object) -> bool {
     match member(object.value(), "list") {
         Some(list) => {
@@ -443,7 +443,7 @@ fn keeps_texts(rt: HostRuntime) -> Result<(), Fail> {
     Ok(())
 }
 
-/// Two texts, and how the first stands to the second.
+/// Two texts, and how the first compares to the second.
 const ORDERED: [(&str, &str, Ordering); 5] = [
     ("", "a", Ordering::Less),
     ("a", "a", Ordering::Equal),

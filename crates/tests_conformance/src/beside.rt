@@ -18,7 +18,7 @@ fn told(alloc: Global, view: &View) -> Result<String, Fail> {
     Ok(format!(in alloc; "{view:?}")?)
 }
 
-/// What the records' view for an ask tells.
+/// What the records' view for an ask says.
 fn told_by_records(
     alloc: Global,
     records: &mut Records<MemStore>,
@@ -80,7 +80,7 @@ fn make_plainly(
     }
 }
 
-/// The ask of the request that stands there.
+/// The ask of the request that is there.
 fn ask_of(alloc: Global, settings: &Settings, bytes: &[u8]) -> Result<Ask, AskFault> {
     match next(bytes, true, &Limits::STANDARD) {
         Front::Whole(request, _) => read_ask(alloc, &request, settings),
@@ -120,7 +120,7 @@ fn have_one_life(
     }
 }
 
-/// Makes the change of an ask to the plain lives, and fails where the records are others. What stands
+/// Makes the change of an ask to the plain lives, and fails where the records are others. The current state
 /// by the view for the ask.
 fn are_beside(
     alloc: Global,
@@ -138,7 +138,7 @@ fn are_beside(
     standing_by(alloc, records, ask)
 }
 
-/// The same for the ask of an exchange. A request without an ask tells nothing.
+/// The same for the ask of an exchange. A request without an ask says nothing.
 pub(crate) fn stay_beside_once(
     alloc: Global,
     settings: &Settings,

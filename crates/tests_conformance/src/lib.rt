@@ -1,9 +1,9 @@
-//! Tests alone: conversations with the broker, from the bytes of connections to the bytes of their
+//! Only tests: conversations with the broker, from the bytes of connections to the bytes of their
 //! outputs.
 //!
-//! A conversation is a table of exchanges. Each is a connection of its own and stands as a request's
+//! A conversation is a table of exchanges. Each is a connection of its own and is given as a request's
 //! line and body, and the status and the body of the reply, written out by hand. What a conversation
-//! is held with stands in `tests_support`.
+//! is held with is in `tests_support`.
 #![tactic(auto)]
 
 #[cfg(test)]
@@ -22,3 +22,5 @@ mod rows;
 mod standing;
 #[cfg(test)]
 mod stored;
+#[cfg(test)]
+mod trimmed;

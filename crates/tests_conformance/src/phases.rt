@@ -2,7 +2,7 @@
 //! answer table. The instance is `n`, its binding `c`, and their plan has a backend.
 //!
 //! After each ask the life of `n` is looked at: it is the one before, or its last order is the one
-//! that stands there, written by hand as `lines` tells it.
+//! that is there, written by hand as `lines` says it.
 
 mod asks;
 mod bindings;

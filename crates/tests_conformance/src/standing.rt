@@ -1,4 +1,4 @@
-//! What stands of an instance after each request of the worked conversations, and the life that it has
+//! The state of an instance after each request of the worked conversations, and the life that it has
 //! in the end, read off the orders by hand.
 
 mod bindings;
@@ -20,7 +20,7 @@ use tests_support::catalogs::built_in;
 use tests_support::exchange::Exchange;
 use tests_support::serving::after;
 
-/// What stands by a view: the instance, and behind a semicolon the binding, where there is one.
+/// The state by a view: the instance, and behind a semicolon the binding, where there is one.
 fn standing_line(alloc: Global, view: &View) -> Result<String, AllocError> {
     let Some(instance) = &view.standing else {
         return String::from_str(alloc, "Absent");
@@ -35,7 +35,7 @@ fn standing_line(alloc: Global, view: &View) -> Result<String, AllocError> {
     }
 }
 
-/// What stands by the view for an ask.
+/// The state by the view for an ask.
 pub(crate) fn standing_by(
     alloc: Global,
     records: &mut Records<MemStore>,
@@ -74,14 +74,14 @@ fn has_orders(
     Ok(())
 }
 
-/// An instance, and the ask for its binding `b`, by whose view both stand.
+/// An instance, and the ask for its binding `b`, whose view has both.
 #[derive(Clone, Copy)]
 struct About {
     instance: &'static str,
     ask: &'static str,
 }
 
-/// Fails where after an exchange something else stands.
+/// Fails where after an exchange the state is another one.
 fn is_standing(
     alloc: Global,
     settings: &Settings,
@@ -100,7 +100,7 @@ fn is_standing(
     Err(Fail::from(told))
 }
 
-/// The records after these exchanges. Fails where after one of them something else stands.
+/// The records after these exchanges. Fails where after one of them the state is another one.
 fn standing_after(
     alloc: Global,
     settings: &Settings,
@@ -128,7 +128,7 @@ fn standing_after(
     Ok(records)
 }
 
-/// Fails where after an exchange over these settings something else stands of the instance, or in the
+/// Fails where after an exchange over these settings the instance has another state, or in the
 /// end it has other orders.
 fn stands_for(
     alloc: Global,
@@ -184,7 +184,7 @@ fn stands(
     stands_of(alloc, I, exchanges, standings, orders)
 }
 
-/// Instances of the two plans, as they stand mostly.
+/// Instances of the two plans, in the usual state.
 const MAKING: &str = "Creating svc p-async o s {} 1.2.0 {}";
 
 const MADE: &str = "Ready svc p-async o s {} 1.2.0 {}";

@@ -1,4 +1,4 @@
-//! Requests in bytes, and what they ask. Outcomes are told as texts: the name of the ask and its
+//! Requests in bytes, and what they ask. Outcomes are given as texts: the name of the ask and its
 //! parts, with `-` for what is absent, or the name of the fault.
 
 mod admission;
@@ -7,19 +7,19 @@ mod ids;
 mod queries;
 mod texts;
 
-use crate::settings::changed;
+use crate::settings::changed_by;
 use osb_asks::{
     Ask, AskFault, Bind, BindingOp, Deprovision, FetchBinding, Id, InstanceOp, ObjectText,
     Provision, Report, ReportState, Unbind, Update, read_ask,
 };
-use osb_catalog::{BUILT_IN, Settings};
+use osb_catalog::Settings;
 use osb_frames::{Limits, Request, Step, next};
 use osb_text::Text;
 use std::alloc::{AllocError, Global};
 use std::process::Abort;
 use std::test::Fail;
 
-/// A method and a target, a body, and what is told of the outcome. `~` stands for 250 letters.
+/// A method and a target, a body, and what is reported of the outcome. `~` is 250 letters.
 type Case = (&'static str, &'static str, &'static str);
 
 const PLATFORM: &str =
@@ -33,13 +33,26 @@ const SERVICES: &str = r#""services":["#;
 const TWO_SERVICES: &str =
     r#""services":[{"id":"other","name":"n","description":"d","bindable":false,"plans":[{"id":"p-other","name":"n","description":"d"}]},"#;
 
+/// The second login of each door is that of a new password.
+static CHANGES: [(&str, &str); 3] = [
+    (SERVICES, TWO_SERVICES),
+    (
+        r#""password":"secret""#,
+        r#""password":"secret","also":{"user":"platform","password":"new"}"#,
+    ),
+    (
+        r#""password":"worker""#,
+        r#""password":"worker","also":{"user":"backend","password":"new"}"#,
+    ),
+];
+
 fn settings_of(alloc: Global, file: &str) -> Result<Settings, Fail> {
     Ok(Settings::read(alloc, file.as_bytes())?)
 }
 
-/// The built-in settings with the second service.
+/// The built-in settings with the second service and the second logins.
 fn settings(alloc: Global) -> Result<Settings, Fail> {
-    let file = changed(alloc, BUILT_IN, SERVICES, TWO_SERVICES)?;
+    let file = changed_by(alloc, &CHANGES)?;
     settings_of(alloc, file.as_str())
 }
 
@@ -170,7 +183,7 @@ fn tell_report(alloc: Global, told: &mut String, ask: &Report) {
     add(told, ask.credentials.as_str());
 }
 
-/// Tells what is asked about one instance or one list alone.
+/// Says what is asked about only one instance or one list.
 fn tell_two(told: &mut String, ask: &str, subject: &str) {
     add(told, ask);
     add(told, subject);
@@ -240,14 +253,14 @@ fn request(alloc: Global, line: &str, lines: &str, body: &[u8]) -> Result<Vec<u8
     Ok(bytes)
 }
 
-/// What is told of a request: what it asks, and the instance and the binding that it is about, which
+/// What is reported of a request: what it asks, and the instance and the binding that it is about, which
 /// is nothing where it is a fault.
 struct Reading {
     asked: String,
     subjects: String,
 }
 
-/// What is told of the request by these settings.
+/// What is reported of the request by these settings.
 fn told_by(alloc: Global, request: &Request<'_>, settings: &Settings) -> Reading {
     let found = read_ask(alloc, request, settings);
     let mut asked = String::new(alloc);
@@ -265,7 +278,7 @@ fn told_of_request(alloc: Global, request: &Request<'_>) -> Result<Reading, Fail
     Ok(told)
 }
 
-/// What is told of the request with those field lines.
+/// What is reported of the request with those field lines.
 fn told(alloc: Global, line: &str, lines: &str, body: &[u8]) -> Result<Reading, Fail> {
     let bytes = request(alloc, line, lines, body)?;
     match next(bytes.as_slice(), true, &Limits::STANDARD) {
@@ -295,7 +308,7 @@ fn filled(alloc: Global, text: &str) -> Result<String, AllocError> {
     text.replace(alloc, "~", letters.as_str())
 }
 
-/// What is told of the request that comes through its door.
+/// What is reported of the request that comes through its door.
 fn outcome_at_door(alloc: Global, line: &str, body: &str) -> Result<String, Fail> {
     let lines = lines_for(line);
     let line = filled(alloc, line)?;

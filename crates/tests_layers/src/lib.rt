@@ -1,4 +1,4 @@
-//! Tests alone: what each layer from the settings to the audit of rows answers by itself, through its public
+//! Only tests: what each layer from the settings to the audit of rows answers by itself, through its public
 //! calls.
 #![tactic(auto)]
 

@@ -8,13 +8,22 @@ use std::alloc::Global;
 use std::process::Abort;
 use std::test::Fail;
 
-/// A text of the built-in settings, what stands in its place, and what is told of the outcome.
+/// A text of the built-in settings, what takes its place, and what is reported of the outcome.
 type Case = (&'static str, &'static str, &'static str);
 
 /// The built-in settings with `to` at the first place of `from`.
 pub(crate) fn changed(alloc: Global, file: &str, from: &str, to: &str) -> Result<String, Fail> {
     file.find(from).ok_or("a change finds nothing")?;
     Ok(file.replacen(alloc, from, to, 1)?)
+}
+
+/// The built-in settings with all of the changes.
+pub(crate) fn changed_by(alloc: Global, changes: &[(&str, &str)]) -> Result<String, Fail> {
+    let mut file = String::from_str(alloc, BUILT_IN)?;
+    for (from, to) in changes {
+        file = changed(alloc, file.as_str(), *from, *to)?;
+    }
+    Ok(file)
 }
 
 /// The text of the file's fault, empty where it has none.
@@ -39,7 +48,7 @@ fn tells_faults(rt: &(impl Abort + AllocGlobal), cases: &[Case]) -> Result<(), F
     Ok(())
 }
 
-/// That fault is told of the file, whichever of the cases from that place on is changed in it too.
+/// That fault is reported of the file, whichever of the cases from that place on is changed in it too.
 fn tells_fault_beside(
     rt: &(impl Abort + AllocGlobal),
     file: &str,
@@ -54,7 +63,7 @@ fn tells_fault_beside(
     Ok(())
 }
 
-/// Of any two of the cases together, the fault of the earlier one is told.
+/// Of any two of the cases together, the fault of the earlier one is reported.
 fn tells_first_faults(rt: &(impl Abort + AllocGlobal), cases: &[Case]) -> Result<(), Fail> {
     for (i, (from, to, fault)) in cases.iter().enumerate() {
         let file = changed(rt.alloc(), BUILT_IN, *from, *to)?;

@@ -15,7 +15,7 @@ use osb_text::Text;
 use std::alloc::{AllocError, Global};
 use std::test::Fail;
 
-/// Kind and state of an order, and what is told of the rows.
+/// Kind and state of an order, and what is said of the rows.
 type Case = (OrderKind, OrderState, &'static str);
 
 static INSTANCES: [Case; 11] = [
@@ -132,7 +132,7 @@ fn tell_edit(told: &mut String, edit: &BindingEdit) {
     }
 }
 
-/// What is told of the row of an instance whose birth failed, after the order.
+/// What is reported of the row of an instance whose birth failed, after the order.
 fn told_of_row(alloc: Global, order: &Order, old: &InstanceRow) -> String {
     let mut told = String::new(alloc);
     if let Ok(row) = instance_row_after(true, order, Some(old)) {
@@ -142,7 +142,7 @@ fn told_of_row(alloc: Global, order: &Order, old: &InstanceRow) -> String {
     told
 }
 
-/// Whether that row tells this.
+/// Whether that row says this.
 fn is_row(alloc: Global, order: &Order, old: &InstanceRow, want: &str) -> bool {
     told_of_row(alloc, order, old).as_str() == want
         && is_failed_deletion(order) == (want == "failed p")

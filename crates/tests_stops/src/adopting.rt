@@ -1,7 +1,8 @@
-//! A new database, and databases that are taken over. Those that are not stand in `spoilt`.
+//! A new database, and databases that are taken over. Those that are not are in `spoilt`.
 
 use osb_audit::Counts;
-use osb_records::{Records, StoreFault, open_memory};
+use osb_records::{Cause, Records, StoreFault, open_memory};
+use osb_text::Text;
 use sqlite::{Alter, Connection, MemStore};
 use std::alloc::Global;
 use std::test::Fail;
@@ -15,7 +16,7 @@ pub(crate) const READY: &str =
 pub(crate) const FAILED: &str =
     "INSERT INTO instances (instance_id, phase, busy, last_seq, service_id, plan_id, organization, space, params, maint) VALUES ('i', 3, 0, 1, 's', 'p', 'o', 'q', '{}', '')";
 
-/// The contexts of the order and of what stands.
+/// The contexts of the order and of the current state.
 pub(crate) const OF_ORDER: &str =
     "INSERT INTO contexts (instance_id, seq, context) VALUES ('i', 1, '{}')";
 
@@ -99,6 +100,50 @@ fn counts_after(alloc: Global, statements: &[&str]) -> Result<Counts, StoreFault
     counts
 }
 
+/// The ids of the instances, one after the other, each with a comma behind it.
+fn ids_after(alloc: Global, statements: &[&str]) -> Result<String, StoreFault> {
+    let mut records = adopted(alloc, changed(alloc, statements)?)?;
+    let ids = ids_in(alloc, &mut records);
+    drop(records);
+    ids
+}
+
+fn ids_in(alloc: Global, records: &mut Records<MemStore>) -> Result<String, StoreFault> {
+    let mut ids = String::new(alloc);
+    let mut after = Text::new(alloc);
+    for _ in 0..9u8 {
+        let Some(id) = records.next_id(after.as_str())? else {
+            return Ok(ids);
+        };
+        ids.push_str(id.as_str())?;
+        ids.push_str(",")?;
+        after = id;
+    }
+    Err(StoreFault::Refused(Cause::Other))
+}
+
+/// Two more instances with an order each, with the ids `h` and `j`.
+static NEIGHBOURS: [&str; 10] = [
+    ORDER,
+    READY,
+    OF_ORDER,
+    STANDING,
+    "INSERT INTO orders SELECT 'j', seq, kind, binding_id, service_id, plan_id, place, spot, params, maint, state, note, credentials FROM orders WHERE instance_id = 'i'",
+    "INSERT INTO instances SELECT 'j', phase, busy, last_seq, service_id, plan_id, organization, space, params, maint FROM instances WHERE instance_id = 'i'",
+    "INSERT INTO contexts SELECT 'j', seq, context FROM contexts WHERE instance_id = 'i'",
+    "INSERT INTO orders SELECT 'h', seq, kind, binding_id, service_id, plan_id, place, spot, params, maint, state, note, credentials FROM orders WHERE instance_id = 'i'",
+    "INSERT INTO instances SELECT 'h', phase, busy, last_seq, service_id, plan_id, organization, space, params, maint FROM instances WHERE instance_id = 'i'",
+    "INSERT INTO contexts SELECT 'h', seq, context FROM contexts WHERE instance_id = 'i'",
+];
+
+#[test]
+fn instances_are_found_one_after_the_other(rt: HostRuntime) -> Result<(), Fail> {
+    assert!(rt; ids_after(rt.alloc(), &[])?.as_str() == "");
+    assert!(rt; ids_after(rt.alloc(), &WHOLE)?.as_str() == "i,");
+    assert!(rt; ids_after(rt.alloc(), &NEIGHBOURS)?.as_str() == "h,i,j,");
+    Ok(())
+}
+
 #[test]
 fn a_new_database_has_no_orders(rt: HostRuntime) -> Result<(), Fail> {
     assert!(rt; orders_at_first(rt.alloc())? == 0);
@@ -126,7 +171,7 @@ pub(crate) const OF_DELETION: &str = "INSERT INTO contexts VALUES ('i', 2, '{}')
 const NO_STANDING: &str = "INSERT INTO contexts VALUES ('i', 0, '')";
 
 /// All rows of an instance that was deleted.
-static GONE: [&str; 6] = [ORDER, DELETION, ABSENT, OF_ORDER, OF_DELETION, NO_STANDING];
+pub(crate) static GONE: [&str; 6] = [ORDER, DELETION, ABSENT, OF_ORDER, OF_DELETION, NO_STANDING];
 
 const NOTHING: Counts = Counts {
     instances: 0,

@@ -9,14 +9,14 @@ ghost use Rattle.osb_contexts.specs.Steps.{HasContexts};
 ghost use Rattle.osb_contexts.specs.Reads.{behind, Does};
 
 use osb_contexts::{
-    are_contexts_named, complete, insert_context, insert_contexts, migrate, read_context,
-    read_contexts, reshape, set_version, update_context,
+    NamedTable, are_contexts_named, are_rows_named, complete, insert_context, insert_contexts,
+    read_context, read_contexts, reshape, set_version, update_context,
 };
 use osb_joined::ContextEntry;
 use osb_tables::{FoundSchema, Indexes, find};
 use osb_text::Text;
 use sqlite::types::ValueRef;
-use sqlite::{Alter, Connection, Error, MemStore, Transaction};
+use sqlite::{Alter, Connection, Error, MemStore, Transaction, params};
 use std::alloc::{AllocError, Global};
 use std::test::Fail;
 
@@ -29,6 +29,8 @@ static TABLES: [&str; 4] = [
 
 const CONTEXTS: &str =
     "CREATE TABLE contexts (instance_id TEXT NOT NULL, seq INTEGER NOT NULL, context TEXT NOT NULL, PRIMARY KEY (instance_id, seq)) STRICT";
+
+const INSERT: &str = "INSERT INTO contexts VALUES (?1, ?2, '{}')";
 
 const BUSY: &str = "CREATE INDEX busy_instances ON instances (busy, instance_id)";
 
@@ -139,7 +141,8 @@ fn migrate_in<S: Alter>(
     let entries = three(alloc)?;
     let mut tx = conn.transaction();
     reshape(&mut tx, indexes)?;
-    migrate(&mut tx, alloc, &entries)?;
+    insert_contexts(&mut tx, &entries)?;
+    set_version(&mut tx, alloc)?;
     if is_kept {
         tx.commit()
     } else {
@@ -360,6 +363,43 @@ fn are_named(alloc: Global, instance: &str) -> Result<bool, Error> {
     named
 }
 
+/// Makes an empty database one of version 2 with so many contexts, the last of them of this instance.
+fn fill<S: Alter>(conn: &mut Connection<S>, most: u32, last: &str) -> Result<(), Error> {
+    run(conn, &TABLES)?;
+    run(conn, &[CONTEXTS, BUSY, SUBJECT])?;
+    for number in 1..most {
+        conn.execute(INSERT, params!["i", number])?;
+    }
+    conn.execute(INSERT, params![last, most])?;
+    Ok(())
+}
+
+/// Whether each row of the table has the id of an instance after that.
+fn are_many_named_in<S: Alter>(
+    conn: &mut Connection<S>,
+    alloc: Global,
+    most: u32,
+    last: &str,
+    table: NamedTable,
+) -> Result<bool, Error> {
+    fill(conn, most, last)?;
+    match second_indexes_of(conn)? {
+        Indexes::Both => {
+            let mut tx = conn.transaction();
+            are_rows_named(&mut tx, alloc, table)
+        }
+        _ => Err(Error::InvalidQuery),
+    }
+}
+
+/// The same in memory.
+fn are_many_named(alloc: Global, most: u32, last: &str, table: NamedTable) -> Result<bool, Error> {
+    let mut conn = Connection::open_in_memory(alloc)?;
+    let named = are_many_named_in(&mut conn, alloc, most, last, table);
+    drop(conn);
+    named
+}
+
 fn set_twice<S: Alter>(conn: &mut Connection<S>, alloc: Global) -> Result<(), Error> {
     let indexes = indexes_of(conn)?;
     let mut tx = conn.transaction();
@@ -415,6 +455,23 @@ fn pieces_meet_at_an_id(rt: HostRuntime) -> Result<(), Fail> {
 fn a_context_without_an_id_is_seen(rt: HostRuntime) -> Result<(), Fail> {
     assert!(rt; are_named(rt.alloc(), "i")?);
     assert!(rt; !are_named(rt.alloc(), "")?);
+    Ok(())
+}
+
+#[test]
+fn each_page_is_looked_at(rt: HostRuntime) -> Result<(), Fail> {
+    assert!(rt; are_many_named(rt.alloc(), 9_000, "i", NamedTable::Contexts)?);
+    assert!(rt; !are_many_named(rt.alloc(), 4_096, "", NamedTable::Contexts)?);
+    assert!(rt; !are_many_named(rt.alloc(), 4_097, "", NamedTable::Contexts)?);
+    assert!(rt; !are_many_named(rt.alloc(), 9_000, "", NamedTable::Contexts)?);
+    Ok(())
+}
+
+#[test]
+fn a_table_without_rows_has_none_without_an_id(rt: HostRuntime) -> Result<(), Fail> {
+    assert!(rt; are_many_named(rt.alloc(), 1, "", NamedTable::Orders)?);
+    assert!(rt; are_many_named(rt.alloc(), 1, "", NamedTable::Instances)?);
+    assert!(rt; are_many_named(rt.alloc(), 1, "", NamedTable::Bindings)?);
     Ok(())
 }
 

@@ -1,9 +1,10 @@
 //! A database file, made and opened again.
 
-use crate::adopting::{WHOLE, count_orders, run};
+use crate::adopting::{GONE, WHOLE, count_orders, run};
 use osb_audit::Counts;
 use osb_file::{
-    AtPath, Copied, DatabaseFile, FileFault, OneFile, Origin, Seen, Unseen, Unwritten, open_file,
+    AtPath, Copied, DatabaseFile, FileFault, OneFile, Origin, Seen, Unseen, Unwritten, hold,
+    open_file, replace,
 };
 use osb_records::{Records, StoreFault};
 use sqlite::{Alter, Start, Unknown};
@@ -201,6 +202,47 @@ fn a_file_is_backed_up(rt: HostRuntime) -> Result<(), Fail> {
     drop(made);
     assert!(rt; looked_at(&rt, to.as_str()) == Ok(Seen::Counted(one)));
     assert!(rt; open_and_run(&rt, to.as_str(), &[])? == 1);
+    Ok(())
+}
+
+/// The database of a file trimmed, in one file, and how many orders that changed.
+fn trimmed_of(rt: &HostRuntime, path: &str) -> Result<(OneFile, usize), Unseen> {
+    OneFile::trimmed(rt.alloc(), Copied::read(rt, path)?)
+}
+
+/// Trims a file, and gives how many orders that changed.
+fn trim(rt: &HostRuntime, path: &str) -> Result<usize, Fail> {
+    let held = hold(rt, path)?;
+    let (one, count) = trimmed_of(rt, path)?;
+    replace(rt, held, path, &one)?;
+    Ok(count)
+}
+
+/// Whether a file can't be locked, since it is.
+fn is_in_use(rt: &HostRuntime, path: &str) -> bool {
+    let held = hold(rt, path);
+    let again = hold(rt, path);
+    drop(held);
+    again.err() == Some(Unseen::InUse)
+}
+
+#[test]
+fn a_file_is_trimmed(rt: HostRuntime) -> Result<(), Fail> {
+    let path = unused(&rt, "osb_file_trimmed.db")?;
+    fs::write(&rt, path.as_str(), "")?;
+    assert!(rt; trimmed_of(&rt, path.as_str()).err() == Some(Unseen::NoTables));
+    assert!(rt; hold(&rt, path.as_str()).err() == Some(Unseen::NoTables));
+    assert!(rt; open_and_run(&rt, path.as_str(), &GONE)? == 0);
+    assert!(rt; is_in_use(&rt, path.as_str()));
+    assert!(rt; trim(&rt, path.as_str())? == 2);
+    let none = Counts {
+        instances: 0,
+        bindings: 0,
+        running: 0,
+    };
+    assert!(rt; looked_at(&rt, path.as_str()) == Ok(Seen::Counted(none)));
+    assert!(rt; trim(&rt, path.as_str())? == 0);
+    assert!(rt; open_and_run(&rt, path.as_str(), &[])? == 2);
     Ok(())
 }
 

@@ -1,6 +1,6 @@
 //! Only tests: what the table of contexts, the records and a database file answer by themselves, through their
-//! public calls; what is found again after a stop of the machine, at any call of a disk; and what clients read
-//! over a socket.
+//! public calls; why a store refuses a call; what is found again after a stop of the machine, at any call of a
+//! disk; and what clients read over a socket.
 #![tactic(auto)]
 
 #[cfg(test)]
@@ -10,6 +10,8 @@ mod contexts;
 #[cfg(test)]
 mod files;
 #[cfg(test)]
+mod full;
+#[cfg(test)]
 mod looped;
 #[cfg(test)]
 mod migrations;
@@ -17,6 +19,8 @@ mod migrations;
 mod orders;
 #[cfg(test)]
 mod queue;
+#[cfg(test)]
+mod refusals;
 #[cfg(test)]
 mod restarts;
 #[cfg(test)]

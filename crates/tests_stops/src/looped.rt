@@ -2,7 +2,7 @@
 //! order, and what is reported of them.
 
 use crate::queue::{Client, Queue};
-use crate::stops::{OPTIONS, empty_files};
+use crate::stops::{OPTIONS, Stopping, empty_files, fused};
 use osb_catalog::Settings;
 use osb_frames::Counted;
 use osb_listen::{ListenFault, ListenOptions, serve_file};
@@ -84,6 +84,38 @@ fn served(rt: &HostRuntime, mut queue: Queue<'_>, connections: u32) -> Result<Ou
     })
 }
 
+/// Whether clients were sent the fixed 500, each of them.
+fn were_refused(alloc: Global, sent: &[Vec<u8>]) -> Result<bool, Fail> {
+    for sent in sent {
+        if !was_sent(
+            alloc,
+            sent.as_slice(),
+            "500 Internal Server Error",
+            usize::MAX,
+        )? {
+            return Ok(false);
+        }
+    }
+    Ok(!sent.is_empty())
+}
+
+/// What is reported of two clients where the disk of the log stops after so many calls, if both are answered
+/// 500.
+fn reported_after(
+    rt: &HostRuntime,
+    settings: &Settings,
+    clients: &[Client<'_>],
+    calls: u64,
+) -> Result<Option<Vec<u8>>, Fail> {
+    let files = fused(empty_files(rt.alloc()), Stopping::Log, calls);
+    let mut queue = Queue::of(rt.alloc(), clients, true, false);
+    let (ended, errors) = ended_over(rt, settings, files, &mut queue, 2)?;
+    drop(ended);
+    let sent = queue.into_sent()?;
+    let refused = were_refused(rt.alloc(), sent.as_slice())?;
+    Ok(refused.then_some(errors))
+}
+
 const BODY: &str =
     "{\"service_id\":\"svc\",\"plan_id\":\"p-sync\",\"organization_guid\":\"o\",\"space_guid\":\"s\"}";
 
@@ -163,6 +195,23 @@ fn fare_apart(rt: &HostRuntime, together: bool) -> Result<(), Fail> {
         return Err("another end")?;
     }
     Ok(())
+}
+
+#[test]
+fn a_refused_request_is_reported(rt: HostRuntime) -> Result<(), Fail> {
+    let settings = built_in(rt.alloc())?;
+    let put = put(rt.alloc(), "a")?;
+    let clients = [client(put.as_slice(), 50), client(put.as_slice(), 50)];
+    let lines = b"database: new\nrequest: 500 database: disk failed\nrequest: 500 database: shut\n";
+    // The disk stops before the first client, or as the change of it is written.
+    for calls in 0..100 {
+        if let Some(errors) = reported_after(&rt, &settings, &clients, calls)? {
+            if errors.as_slice() == lines.as_slice() {
+                return Ok(());
+            }
+        }
+    }
+    Err("no disk that failed was reported")?
 }
 
 #[test]

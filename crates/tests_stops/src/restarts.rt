@@ -1,4 +1,4 @@
-//! Each call once, over files in memory. A stop at each call of a disk stands in `stops`.
+//! Each call once, over files in memory. A stop at each call of a disk is in `stops`.
 
 use crate::orders::{CREATING, are_orders};
 use crate::stops::{OPTIONS, empty_files, opened};

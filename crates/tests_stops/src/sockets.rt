@@ -37,15 +37,7 @@ fn looped_over<S: Alter>(
     let watched = file.watched(rt);
     let mut buffer = Buffer::new(rt.alloc(), &Limits::STANDARD)?;
     let mut errors = Counted::new(Vec::new(rt.alloc()));
-    let ended = serve_listener(
-        rt.alloc(),
-        broker,
-        &mut buffer,
-        entrance,
-        &watched,
-        1,
-        &mut errors,
-    );
+    let ended = serve_listener(rt, broker, &mut buffer, entrance, &watched, 1, &mut errors);
     Ok((ended, errors.into_inner()))
 }
 
@@ -115,7 +107,7 @@ fn ended(
     let mut buffer = Buffer::new(rt.alloc(), &Limits::STANDARD)?;
     let mut errors = Counted::new(Vec::new(rt.alloc()));
     Ok(serve_listener(
-        rt.alloc(),
+        rt,
         &mut broker,
         &mut buffer,
         &mut entrance,

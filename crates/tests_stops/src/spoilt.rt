@@ -14,7 +14,7 @@ fn number<S: Alter>(conn: &mut Connection<S>, query: &str) -> Result<u32, Error>
     conn.query_row(query, &[])?.get(0)
 }
 
-/// What tells databases apart: the tables and the indexes, the version, and how many rows there are. A table
+/// What databases differ in: the tables and the indexes, the version, and how many rows there are. A table
 /// that isn't there has none.
 fn told<S: Alter>(conn: &mut Connection<S>) -> (FoundSchema, [u32; 4]) {
     let numbers = [

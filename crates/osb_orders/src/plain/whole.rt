@@ -99,7 +99,7 @@ fn last_polled(alloc: Global, ask: &Ask, life: &[Order]) -> Result<Option<Order>
     last_of(orders.as_slice())
 }
 
-/// How many orders there are. Where that is 2^32 or more, want of memory is answered.
+/// How many orders there are. Where that is 2^32 or more, the answer is out of memory.
 fn count_of(life: &[Order]) -> Result<u32, AllocError>
     ensures ok { IfOk result (λ count. count ≡ length life.now) }
     ensures sure { OnErr result (2 ^ 32 ≤ length life.now) }

@@ -228,7 +228,7 @@ static IN_BIND_FAILED: [Exchange; 15] = [
     (FETCH, "", OK, LARGE_SHOWN),
     (REMOVE, "", UNPROCESSABLE, BINDINGS_REMAIN),
     (END_2, FAILED_TOLD, OK, "{}"),
-    // Credentials count for a binding that succeeded alone.
+    // Credentials count only for a binding that succeeded.
     (END_2, FAILED_WITH_KEY, OK, "{}"),
     (END_2, KEY, CONFLICT, "{}"),
     (LIST, "", OK, NO_ORDERS),

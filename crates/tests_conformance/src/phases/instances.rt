@@ -138,7 +138,7 @@ static ENDED_IN_CREATING: [Change; 5] = [
         "{}",
         r#"create-1 succeeded svc p-async o s {} 1.2.0 {} - done {}"#,
     ),
-    // Credentials are kept of a binding alone.
+    // Credentials are kept only of a binding.
     (
         END_1,
         KEY,
@@ -209,7 +209,7 @@ static IN_READY: [Exchange; 38] = [
     (ASK_C, "", NOT_FOUND, "{}"),
     (LIST, "", OK, NO_ORDERS),
     (END_1, SUCCEEDED, OK, "{}"),
-    // Credentials count for a binding alone, and a description always.
+    // Credentials count only for a binding, and a description always.
     (END_1, KEY, OK, "{}"),
     (END_1, TOLD, CONFLICT, "{}"),
     (END_1, FAILED, CONFLICT, "{}"),
@@ -231,7 +231,7 @@ static OPENED_IN_READY: [Change; 10] = [
         UPDATE_2,
         r#"update-2 in progress svc p-async o s {"n":1} 1.2.0 {} - - {}"#,
     ),
-    // A plan without a version takes the one that stands away.
+    // A plan without a version takes the present one away.
     (
         UPDATE,
         OTHER_PLAN,
@@ -346,7 +346,7 @@ static UPDATING: [Exchange; 3] = [
 static IN_UPDATING: [Exchange; 25] = [
     (MAKE, LARGE, OK, "{}"),
     (MAKE, OTHER_SPACE, CONFLICT, "{}"),
-    // What the update is to bring doesn't stand yet.
+    // What the update is to bring isn't there yet.
     (MAKE, OTHER_PARAMETERS, CONFLICT, "{}"),
     (MAKE, OLD_VERSION, UNPROCESSABLE, OTHER_VERSION),
     (FETCH, "", UNPROCESSABLE, BUSY),
@@ -507,7 +507,7 @@ fn changing_the_plan(rt: HostRuntime) -> Result<(), Fail> {
     )
 }
 
-/// What is done at once from then on, by the plan that stands.
+/// What is done at once from then on, by the present plan.
 static PLAN_CHANGED: [Exchange; 4] = [
     (MAKE, LARGE, ACCEPTED, CREATE_1),
     (END_1, SUCCEEDED, OK, "{}"),

@@ -40,7 +40,7 @@ const IN_FULL: [Exchange; 11] = [
     (UNBIND_C, "", GONE, "{}"),
 ];
 
-/// What runs is told and ends, although there is no room for another.
+/// What runs is listed and ends, although there is no room for another.
 const IN_CREATING_AND_FULL: [Exchange; 3] = [
     (MAKE, LARGE, ACCEPTED, CREATE_1),
     (UPDATE, ONE, UNPROCESSABLE, BUSY),
@@ -221,7 +221,7 @@ const DELETING: [Exchange; 3] = [
     (REMOVE, "", ACCEPTED, DELETE_2),
 ];
 
-/// That of another service waits for what is begun, and is told apart only then.
+/// That of another service waits for what is begun, and differs only then.
 const IN_CREATING_OR_DELETING: [Exchange; 2] = [
     (UPDATE, UPDATE_OF_OTHER, UNPROCESSABLE, BUSY),
     (BIND_C, BINDING_OF_OTHER, UNPROCESSABLE, BUSY),
@@ -343,7 +343,7 @@ const UPDATED_CONTEXTS: [Change; 2] = [
     ),
 ];
 
-/// The update that runs has the context that stands.
+/// The update that runs has the current context.
 const IN_OPEN_AND_UPDATING: [Exchange; 3] = [
     (UPDATE, ONE_WITH_CONTEXT, UNPROCESSABLE, BUSY),
     (UPDATE, CONTEXT, UNPROCESSABLE, BUSY),
@@ -583,7 +583,7 @@ fn modes_of_bindings_and_of_instances(rt: HostRuntime) -> Result<(), Fail> {
 
 const UPDATE_TO_NEW: &str = r#"{"service_id":"svc","maintenance_info":{"version":"1.3.0"}}"#;
 
-/// What stands under another version of its plan: without a version an update keeps the old one.
+/// An instance under another version of its plan: without a version an update keeps the old one.
 static IN_NEW_CATALOG: [Exchange; 10] = [
     (MAKE, LARGE, OK, "{}"),
     (MAKE, THIS_VERSION, UNPROCESSABLE, OTHER_VERSION),

@@ -74,7 +74,7 @@ fn context_kept(rt: HostRuntime) -> Result<(), Fail> {
     goes(rt.alloc(), &KEPT)
 }
 
-/// Where the service allows it, a context alone is an update. One that fails leaves the context.
+/// Where the service allows it, a context by itself is an update. One that fails leaves the context.
 pub(crate) static UPDATED: [Exchange; 18] = [
     (PUT_LATER, WITH_X, ACCEPTED, CREATE_1),
     (PUT_LATER, WITH_Y, ACCEPTED, CREATE_1),
@@ -114,7 +114,7 @@ fn context_updated(rt: HostRuntime) -> Result<(), Fail> {
     went
 }
 
-/// The empty context is one as well, and an update without a context keeps the one that stands.
+/// The empty context is one as well, and an update without a context keeps the current one.
 pub(crate) static EMPTIED: [Exchange; 8] = [
     (PUT_LATER, WITH_X, ACCEPTED, CREATE_1),
     CREATION_ENDS,
@@ -144,7 +144,7 @@ fn context_emptied(rt: HostRuntime) -> Result<(), Fail> {
     went
 }
 
-/// Where the service doesn't allow it, an update has the context that stands, whichever it was sent with.
+/// Where the service doesn't allow it, an update has the current context, whichever it was sent with.
 pub(crate) static NOT_ALLOWED: [Exchange; 9] = [
     (PUT_LATER, WITH_X, ACCEPTED, CREATE_1),
     CREATION_ENDS,

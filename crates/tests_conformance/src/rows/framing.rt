@@ -98,7 +98,7 @@ fn put_twice_on_two_connections(rt: HostRuntime) -> Result<(), Fail> {
     )
 }
 
-/// Nothing is answered after the last request that may come, and a fault after a request is told.
+/// Nothing is answered after the last request that may come, and a fault after a request is reported.
 #[test]
 fn after_the_last_request(rt: HostRuntime) -> Result<(), Fail> {
     parts_are_answered(rt.alloc(), 1, &[PUT_I, PUT_I], &[CREATED_LAST])?;

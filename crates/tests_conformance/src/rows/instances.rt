@@ -272,7 +272,7 @@ pub(crate) static UPDATED_TWICE: [Exchange; 11] = [
     ),
     (PUT, SYNC, CONFLICT, "{}"),
     (PUT, SYNC_WITH_2, OK, "{}"),
-    // A plan alone leaves the parameters.
+    // Only a plan leaves the parameters.
     (PATCH, TO_ASYNC, OK, "{}"),
     (
         GET,

@@ -12,7 +12,7 @@ use tests_support::exchange::Exchange;
 use tests_support::replies::{ACCEPTED, OK};
 use tests_support::serving::after;
 
-/// The built-in settings with the plan `p-sync` alone.
+/// The built-in settings with only the plan `p-sync`.
 const SYNC_ALONE: &str = r#"{"platform":{"user":"platform","password":"secret"},
  "backend":{"user":"backend","password":"worker"},
  "catalog":{"services":[{"name":"store","id":"svc","description":"Key store",
@@ -62,7 +62,7 @@ fn refused_over(
     }
 }
 
-/// The same where the settings have `p-sync` alone.
+/// The same where the settings have only `p-sync`.
 fn refused(alloc: Global, records: Records<MemStore>) -> Result<Records<MemStore>, Fail> {
     let fewer = Settings::read(alloc, SYNC_ALONE.as_bytes())?;
     let records = refused_over(alloc, &fewer, records);

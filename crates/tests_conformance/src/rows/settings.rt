@@ -14,7 +14,7 @@ fn settings_are_read(rt: HostRuntime) -> Result<(), Fail> {
     Ok(())
 }
 
-/// A text of the built-in settings, what stands in its place, and the fault.
+/// A text of the built-in settings, what takes its place, and the fault.
 static SETTINGS_FAULTS: [(&str, &str, &str); 7] = [
     (BUILT_IN, "[]", "1 Text"),
     (BUILT_IN, "{}", "2 Missing platform"),

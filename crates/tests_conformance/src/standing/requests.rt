@@ -4,7 +4,7 @@ use super::{ABSENT, About, CREATED_SMALL, SMALL, stands, stands_of};
 use crate::rows::requests;
 use std::test::Fail;
 
-/// The instances of the usable ids, and what stands of each after each request.
+/// The instances of the usable ids, and the state of each after each request.
 static IDS: [(About, [&str; 9]); 4] = [
     (
         About {
@@ -60,7 +60,7 @@ const LARGEST: &str = r#"Ready svc p-sync o s {"x":18446744073709551615} - {}"#;
 
 const SMALLEST: &str = r#"Ready svc p-sync o s {"x":-9223372036854775808} - {}"#;
 
-/// What stands after each of the numbers, and the life.
+/// The state after each of the numbers, and the life.
 static NUMBERS: [(&str, &[&str]); 6] = [
     (ABSENT, &[]),
     (ABSENT, &[]),

@@ -3,10 +3,10 @@ use std::alloc::Global;
 use std::process::Abort;
 use std::test::Fail;
 
-/// A text of the body, what stands in its place, and what is told of the outcome.
+/// A text of the body, what takes its place, and what is reported of the outcome.
 type Change = (&'static str, &'static str, &'static str);
 
-/// What is told of the request with the body in which `to` stands in the place of `from`.
+/// What is reported of the request with the body that has `to` in the place of `from`.
 fn outcome_of_change(
     alloc: Global,
     line: &str,
@@ -109,7 +109,7 @@ fn with_value(alloc: Global, member: &str, value: &str) -> Result<String, Fail> 
     Ok(format!(in alloc; "{name}:{value}")?)
 }
 
-/// What is told of the request whose body has another value in the member.
+/// What is reported of the request whose body has another value in the member.
 fn outcome_with_value(alloc: Global, case: &Case, value: &str) -> Result<String, Fail> {
     let (line, body, member) = *case;
     let changed = with_value(alloc, member, value)?;
@@ -438,7 +438,7 @@ fn bodies_that_are_no_objects(rt: HostRuntime) -> Result<(), Fail> {
     Ok(())
 }
 
-/// What is told of an update whose parameters have so many lists in one another.
+/// What is reported of an update whose parameters have so many lists in one another.
 fn outcome_of_lists(alloc: Global, lists: usize) -> Result<String, Fail> {
     let mut body = String::from_str(alloc, r#"{"service_id":"svc","parameters":{"x":"#)?;
     body.push_str("[".repeat(alloc, lists)?.as_str())?;

@@ -3,7 +3,7 @@ use std::alloc::Global;
 use std::process::Abort;
 use std::test::Fail;
 
-/// For each route with ids and each of its ids, which `@` stands for: the request, and what is told
+/// For each route with ids and each of its ids, in the place of `@`: the request, and what is reported
 /// of it where the id is usable.
 static ROUTES_WITH_IDS: [Case; 14] = [
     (

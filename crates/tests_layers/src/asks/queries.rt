@@ -268,7 +268,7 @@ fn operations_and_after(rt: HostRuntime) -> Result<(), Fail> {
     tells(&rt, &OPERATIONS_AND_AFTER)
 }
 
-/// Requests with two neighbouring faults: the earlier one is told.
+/// Requests with two neighbouring faults: the earlier one is reported.
 static NEIGHBOURS: [Case; 19] = [
     (
         "PUT /v2/service_instances//last_operation/%FF?accepts_incomplete=no",

@@ -1,5 +1,6 @@
-use super::{Case, changed};
+use super::{Case, changed, changed_by};
 use osb_catalog::{BUILT_IN, Settings};
+use osb_text::Text;
 use std::alloc::{AllocError, Global};
 use std::process::Abort;
 use std::test::Fail;
@@ -7,11 +8,27 @@ use std::test::Fail;
 const BUILT_IN_CATALOG: &str =
     r#"{"services":[{"bindable":true,"bindings_retrievable":true,"description":"Key store","id":"svc","name":"store","plan_updateable":true,"plans":[{"description":"At once","id":"p-sync","name":"small"},{"description":"Later","id":"p-async","maintenance_info":{"version":"1.2.0"},"name":"large"}]}]}"#;
 
+/// Whether that is the only token.
+fn is_token(tokens: &[Text], expected: &str) -> bool {
+    match tokens {
+        [token] => token.as_str() == expected,
+        _ => false,
+    }
+}
+
+/// Whether these are the tokens: that of the login, and behind it that of `also`.
+fn are_tokens(tokens: &[Text], expected: &str, also: &str) -> bool {
+    match tokens {
+        [first, second] => first.as_str() == expected && second.as_str() == also,
+        _ => false,
+    }
+}
+
 fn is_built_in(settings: &Settings) -> bool {
     settings.catalog_text().len() == 293
         && settings.catalog_text() == BUILT_IN_CATALOG.as_bytes()
-        && settings.platform_token() == "cGxhdGZvcm06c2VjcmV0"
-        && settings.backend_token() == "YmFja2VuZDp3b3JrZXI="
+        && is_token(settings.platform_tokens(), "cGxhdGZvcm06c2VjcmV0")
+        && is_token(settings.backend_tokens(), "YmFja2VuZDp3b3JrZXI=")
         && settings.counts() == (1, 2)
 }
 
@@ -67,7 +84,7 @@ fn told_of(alloc: Global, file: &str) -> Result<String, Fail> {
     told
 }
 
-/// What is told of the built-in settings with `to` at the first place of `from`.
+/// What is reported of the built-in settings with `to` at the first place of `from`.
 fn told_with(alloc: Global, from: &str, to: &str) -> Result<String, Fail> {
     let file = changed(alloc, BUILT_IN, from, to)?;
     told_of(alloc, file.as_str())
@@ -190,15 +207,6 @@ static FULL: [(&str, &str); 3] = [
     (r#""id":"p-sync""#, r#""id":"p-sync","bindable":false"#),
 ];
 
-/// The built-in settings with all of the changes.
-fn changed_by(alloc: Global, changes: &[(&str, &str)]) -> Result<String, Fail> {
-    let mut file = String::from_str(alloc, BUILT_IN)?;
-    for (from, to) in changes {
-        file = changed(alloc, file.as_str(), *from, *to)?;
-    }
-    Ok(file)
-}
-
 fn has_full_catalog(settings: &Settings) -> bool {
     settings.catalog_text() == FULL_CATALOG.as_bytes()
         && settings.context_updates("svc")
@@ -222,7 +230,7 @@ const NO_SERVICE: &str =
 fn has_no_service(settings: &Settings) -> bool {
     settings.catalog_text() == r#"{"services":[]}"#.as_bytes()
         && settings.counts() == (0, 0)
-        && settings.platform_token() == "cDo6"
+        && is_token(settings.platform_tokens(), "cDo6")
 }
 
 #[test]
@@ -313,6 +321,62 @@ fn many_plans(rt: HostRuntime) -> Result<(), Fail> {
     let file = large_file(rt.alloc(), 20_000)?;
     let settings = Settings::read(rt.alloc(), file.as_bytes())?;
     let right = has_many_plans(&settings);
+    drop(settings);
+    assert!(rt; right);
+    Ok(())
+}
+
+/// The platform has two logins, and so has the backend. An `also` in an `also` is read past.
+static ALSO: [(&str, &str); 2] = [
+    (
+        r#""password":"secret""#,
+        r#""also":{"also":{"user":"u","password":"p"},"user":"platform","password":"new"},"password":"secret""#,
+    ),
+    (
+        r#""password":"worker""#,
+        r#""password":"worker","also":{"user":"other","password":":"}"#,
+    ),
+];
+
+fn has_two_logins_a_door(settings: &Settings) -> bool {
+    are_tokens(
+        settings.platform_tokens(),
+        "cGxhdGZvcm06c2VjcmV0",
+        "cGxhdGZvcm06bmV3",
+    ) && are_tokens(
+        settings.backend_tokens(),
+        "YmFja2VuZDp3b3JrZXI=",
+        "b3RoZXI6Og==",
+    )
+}
+
+#[test]
+fn two_logins_a_door(rt: HostRuntime) -> Result<(), Fail> {
+    let file = changed_by(rt.alloc(), &ALSO)?;
+    let settings = Settings::read(rt.alloc(), file.as_bytes())?;
+    let right = has_two_logins_a_door(&settings);
+    drop(settings);
+    assert!(rt; right);
+    Ok(())
+}
+
+/// A null counts as absent, and outside of a login `also` is a name like any other.
+static NO_ALSO: [(&str, &str); 2] = [
+    (
+        r#""password":"secret""#,
+        r#""password":"secret","also":null"#,
+    ),
+    (
+        r#""backend":"#,
+        r#""also":{"user":"backend","password":"new"},"backend":"#,
+    ),
+];
+
+#[test]
+fn one_login_a_door(rt: HostRuntime) -> Result<(), Fail> {
+    let file = changed_by(rt.alloc(), &NO_ALSO)?;
+    let settings = Settings::read(rt.alloc(), file.as_bytes())?;
+    let right = is_built_in(&settings);
     drop(settings);
     assert!(rt; right);
     Ok(())

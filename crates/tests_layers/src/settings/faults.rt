@@ -42,7 +42,7 @@ fn one_of_each(rt: HostRuntime) -> Result<(), Fail> {
     tells_faults(&rt, &ONE_OF_EACH)
 }
 
-/// Of two faults that stand, the one of the lower number is told.
+/// Of two faults the one of the lower number is reported.
 #[test]
 fn lower_of_two(rt: HostRuntime) -> Result<(), Fail> {
     tells_first_faults(&rt, &ONE_OF_EACH)
@@ -288,6 +288,69 @@ static CREDENTIALS: [Case; 14] = [
 #[test]
 fn credentials(rt: HostRuntime) -> Result<(), Fail> {
     tells_faults(&rt, &CREDENTIALS)
+}
+
+static SECOND_CREDENTIALS: [Case; 11] = [
+    (
+        r#""password":"secret""#,
+        r#""password":"secret","also":{"user":"a:b","password":"p"}"#,
+        "7 Credential",
+    ),
+    (
+        r#""password":"secret""#,
+        r#""password":"secret","also":{"user":"","password":"p"}"#,
+        "7 Credential",
+    ),
+    (
+        r#""password":"secret""#,
+        r#""password":"secret","also":{"user":"u","password":""}"#,
+        "7 Credential",
+    ),
+    (
+        r#""password":"secret""#,
+        r#""password":"secret","also":{"user":"u","password":"aaaaaaaaaaaaaaaaaaaaaaaaaaaaaaaaaaaaaaaaaaaaaaaaaaaaaaaaaaaaaaaaaaaaaaaaaaaaaaaaaaaaaaaaaaaaaaaaaaaaaaaaaaaaaaaaaaaaaaaaaaaaaaaaaaaaaaaaaaaaaaaaaaaaaaaaaaaaaaaaaaaaaaaaaaaaaaaaaaaaaaaaaaaaaaaaaaaaaaaaaaaaaaaaaaaaaaaaaaaaaaaaaaaaaaaaaaaaaaaaaaaaaaaaaaaaaaaaa"}"#,
+        "7 Credential",
+    ),
+    (
+        r#""password":"secret""#,
+        r#""password":"secret","also":{"user":"aaaaaaaaaaaaaaaaaaaaaaaaaaaaaaaaaaaaaaaaaaaaaaaaaaaaaaaaaaaaaaaaaaaaaaaaaaaaaaaaaaaaaaaaaaaaaaaaaaaaaaaaaaaaaaaaaaaaaaaaaaaaaaaaaaaaaaaaaaaaaaaaaaaaaaaaaaaaaaaaaaaaaaaaaaaaaaaaaaaaaaaaaaaaaaaaaaaaaaaaaaaaaaaaaaaaaaaaaaaaaaaaaaaaaaaaaaaaaaaaaaaaaaaaaaaaaaaa","password":"aaaaaaaaaaaaaaaaaaaaaaaaaaaaaaaaaaaaaaaaaaaaaaaaaaaaaaaaaaaaaaaaaaaaaaaaaaaaaaaaaaaaaaaaaaaaaaaaaaaaaaaaaaaaaaaaaaaaaaaaaaaaaaaaaaaaaaaaaaaaaaaaaaaaaaaaaaaaaaaaaaaaaaaaaaaaaaaaaaaaaaaaaaaaaaaaaaaaaaaaaaaaaaaaaaaaaaaaaaaaaaaaaaaaaaaaaaaaaaaaaaaaaaaaaaaaaaaa"}"#,
+        "",
+    ),
+    (
+        r#""password":"worker""#,
+        r#""password":"worker","also":{"user":":","password":"p"}"#,
+        "7 Credential",
+    ),
+    (
+        r#""password":"worker""#,
+        r#""password":"worker","also":{"user":"u\u0000","password":"p"}"#,
+        "7 Credential",
+    ),
+    (
+        r#""password":"worker""#,
+        r#""password":"worker","also":{"user":"u","password":""}"#,
+        "7 Credential",
+    ),
+    (
+        r#""password":"worker""#,
+        r#""password":"worker","also":{"user":"u","password":"\u009f"}"#,
+        "7 Credential",
+    ),
+    (
+        r#""password":"worker""#,
+        r#""password":"worker","also":{"user":"backend","password":":"}"#,
+        "",
+    ),
+    (
+        r#""password":"worker""#,
+        r#""password":"worker","also":{"user":"u","password":"p","also":{"user":"","password":""}}"#,
+        "",
+    ),
+];
+
+#[test]
+fn second_credentials(rt: HostRuntime) -> Result<(), Fail> {
+    tells_faults(&rt, &SECOND_CREDENTIALS)
 }
 
 fn has_numbers() -> bool {

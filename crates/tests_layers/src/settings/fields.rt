@@ -96,6 +96,145 @@ fn logins(rt: HostRuntime) -> Result<(), Fail> {
     tells_faults(&rt, &LOGINS)
 }
 
+/// The second login of a door, if it has one, is an object with both texts.
+static ALSO: [Case; 26] = [
+    (
+        r#""password":"secret""#,
+        r#""password":"secret","also":[]"#,
+        "2 Missing platform",
+    ),
+    (
+        r#""password":"secret""#,
+        r#""password":"secret","also":1"#,
+        "2 Missing platform",
+    ),
+    (
+        r#""password":"secret""#,
+        r#""password":"secret","also":"u""#,
+        "2 Missing platform",
+    ),
+    (
+        r#""password":"secret""#,
+        r#""password":"secret","also":true"#,
+        "2 Missing platform",
+    ),
+    (
+        r#""password":"secret""#,
+        r#""password":"secret","also":{}"#,
+        "2 Missing platform",
+    ),
+    (
+        r#""password":"secret""#,
+        r#""password":"secret","also":{"user":"u"}"#,
+        "2 Missing platform",
+    ),
+    (
+        r#""password":"secret""#,
+        r#""password":"secret","also":{"password":"p"}"#,
+        "2 Missing platform",
+    ),
+    (
+        r#""password":"secret""#,
+        r#""password":"secret","also":{"user":1,"password":"p"}"#,
+        "2 Missing platform",
+    ),
+    (
+        r#""password":"secret""#,
+        r#""password":"secret","also":{"user":"u","password":null}"#,
+        "2 Missing platform",
+    ),
+    (
+        r#""password":"secret""#,
+        r#""password":"secret","also":{"user":"u","password":["p"]}"#,
+        "2 Missing platform",
+    ),
+    (
+        r#""password":"secret""#,
+        r#""password":"secret","also":null"#,
+        "",
+    ),
+    (
+        r#""password":"secret""#,
+        r#""password":"secret","also":{"user":"u","password":"p","unread":1}"#,
+        "",
+    ),
+    (
+        r#""password":"secret""#,
+        r#""password":"secret","also":{"user":"u","password":"p","also":1}"#,
+        "",
+    ),
+    (
+        r#""password":"worker""#,
+        r#""password":"worker","also":[]"#,
+        "2 Missing backend",
+    ),
+    (
+        r#""password":"worker""#,
+        r#""password":"worker","also":1"#,
+        "2 Missing backend",
+    ),
+    (
+        r#""password":"worker""#,
+        r#""password":"worker","also":"u""#,
+        "2 Missing backend",
+    ),
+    (
+        r#""password":"worker""#,
+        r#""password":"worker","also":true"#,
+        "2 Missing backend",
+    ),
+    (
+        r#""password":"worker""#,
+        r#""password":"worker","also":{}"#,
+        "2 Missing backend",
+    ),
+    (
+        r#""password":"worker""#,
+        r#""password":"worker","also":{"user":"u"}"#,
+        "2 Missing backend",
+    ),
+    (
+        r#""password":"worker""#,
+        r#""password":"worker","also":{"password":"p"}"#,
+        "2 Missing backend",
+    ),
+    (
+        r#""password":"worker""#,
+        r#""password":"worker","also":{"user":1,"password":"p"}"#,
+        "2 Missing backend",
+    ),
+    (
+        r#""password":"worker""#,
+        r#""password":"worker","also":{"user":"u","password":null}"#,
+        "2 Missing backend",
+    ),
+    (
+        r#""password":"worker""#,
+        r#""password":"worker","also":{"user":"u","password":["p"]}"#,
+        "2 Missing backend",
+    ),
+    (
+        r#""password":"worker""#,
+        r#""password":"worker","also":null"#,
+        "",
+    ),
+    (
+        r#""password":"worker""#,
+        r#""password":"worker","also":{"user":"u","password":"p","unread":1}"#,
+        "",
+    ),
+    (
+        r#""password":"worker""#,
+        r#""password":"worker","also":{"user":"u","password":"p","also":1}"#,
+        "",
+    ),
+];
+
+#[test]
+fn second_logins(rt: HostRuntime) -> Result<(), Fail> {
+    tells_faults(&rt, &ALSO)
+}
+
 static FILE_FIELDS: [Case; 23] = [
     (r#""catalog":"#, r#""other":"#, "2 Missing catalog"),
     (

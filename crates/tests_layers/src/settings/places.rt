@@ -6,7 +6,7 @@ use std::alloc::{AllocError, Global};
 use std::process::Abort;
 use std::test::Fail;
 
-/// A text of the built-in settings, what stands in its place, and where the fault is then.
+/// A text of the built-in settings, what takes its place, and where the fault is then.
 type Case = (&'static str, &'static str, &'static str);
 
 /// The place in words, empty where there is none.
@@ -51,7 +51,7 @@ fn finds_places(rt: &(impl Abort + AllocGlobal), file: &str, cases: &[Case]) -> 
     Ok(())
 }
 
-static CASES: [Case; 16] = [
+static CASES: [Case; 20] = [
     (r#"{"platform""#, r#"{{"platform""#, ""),
     (r#""backend":"#, r#""other":"#, "file"),
     (r#""services":"#, r#""other":"#, "catalog"),
@@ -88,6 +88,26 @@ static CASES: [Case; 16] = [
     (r#""user":"platform""#, r#""user":"a:b""#, "platform"),
     (r#""user":"backend""#, r#""user":"""#, "backend"),
     (r#""password":"worker""#, r#""password":"""#, "backend"),
+    (
+        r#""password":"secret""#,
+        r#""password":"secret","also":{"user":"a:b","password":"p"}"#,
+        "platform",
+    ),
+    (
+        r#""password":"worker""#,
+        r#""password":"worker","also":{"user":"u","password":""}"#,
+        "backend",
+    ),
+    (
+        r#""password":"secret""#,
+        r#""password":"secret","also":{}"#,
+        "file",
+    ),
+    (
+        r#""password":"worker""#,
+        r#""password":"worker","also":[]"#,
+        "file",
+    ),
 ];
 
 #[test]
@@ -95,7 +115,7 @@ fn the_first_object_that_has_the_fault(rt: HostRuntime) -> Result<(), Fail> {
     finds_places(&rt, BUILT_IN, &CASES)
 }
 
-/// A service that is whole stands before the others.
+/// A service that is whole comes before the others.
 const BEFORE: &str =
     r#""services":[{"id":"first","name":"n","description":"d","bindable":false,"plans":[{"id":"p","name":"n","description":"d"}]},"#;
 

@@ -19,8 +19,8 @@ invariant_of-result c =
           (c.in_ok-read_services.ensures ∙ ap (each service_of) c.services_of-services.ensures.found)
           (c.in_ok-read_plans.ensures ∙ ap (all_of_each (plans_of_service file)) c.services_of-services.ensures.found)
           c.read_order_limit.ensures
-          c.in_ok-token_at.ensures
-          c.in_ok-token_at-2.ensures;
+          c.in_ok-tokens_at.ensures
+          c.in_ok-tokens_at-2.ensures;
       services = places_of (λ (s : Service). s.id) c.in_ok-new.field-0 (texts c.as_slice.result.now) c.in_ok-read_services.field-0.items c.in_ok-new.ensures
           (ap texts c.as_slice.ensures.value ∙ c.in_ok-service_ids.ensures ∙ sym (service_ids items) ∙ ap (map (λ (s : Service). s.id)) (sym c.in_ok-read_services.ensures));
       plans = places_of (λ (p : Plan). p.id) c.in_ok-new-2.field-0 (texts c.as_slice-2.result.now) c.in_ok-read_plans.field-0.items c.in_ok-new-2.ensures

@@ -1,7 +1,8 @@
+use Rattle.std.proofs.Common.{codes, refl}
 use Rattle.std.proofs.lemmas.Option.{IfSome_then}
 use Rattle.std.proofs.lemmas.Result.{IfErr-weaker, on_ok_weaker}
-use Rattle.osb_cli.specs.Inside.{AsksBackup, AsksCheck, AsksReplay, AsksServe}
-use Rattle.osb_cli.proofs.DoneLemmas.{backs_up_only, done_well, if_failed, is_backed_up, is_checked, is_listened, is_replayed, not_both}
+use Rattle.osb_cli.specs.Inside.{AsksBackup, AsksCheck, AsksReplay, AsksServe, AsksTrim}
+use Rattle.osb_cli.proofs.DoneLemmas.{done_well, if_failed, is_backed_up, is_checked, is_listened, is_replayed, is_trimmed, not_both}
 use Rattle.osb_cli.proofs.ReportedLemmas.{of_command, other_text, unserved_more}
 use Rattle.osb_cli.proofs.ServeLemmas.{in_vain, left_as}
 use Rattle.osb_cli.proofs.commands.perform.Goals as goal
@@ -23,6 +24,12 @@ returns-in-Replay-clause-done g c taken =
     let asks : AsksReplay _ c.in-Replay.asked = rw c.in-Replay.is at c.in-Ok.ensures.ok in
     done_well c.replay.result c.without_file-in-Replay.result.0 _ c.without_file-in-Replay.ensures.well
     (on_ok_weaker c.replay.result (λ replayed. is_replayed _ _ _ _ _ _ c.in-Replay.asked asks replayed) c.replay.ensures.replayed)
+
+pub returns-in-Trim-clause-done : goal.returns-in-Trim-clause-done
+returns-in-Trim-clause-done g c taken =
+    let asks : AsksTrim _ c.in-Trim.asked = rw c.in-Trim.is at c.in-Ok.ensures.ok in
+    done_well c.trim.result c.without_file-in-Trim.result.0 _ c.without_file-in-Trim.ensures.well
+    (on_ok_weaker c.trim.result (λ made. is_trimmed _ _ _ _ _ _ c.in-Trim.asked asks made) c.trim.ensures.made)
 
 pub returns-in-Serve-clause-done : goal.returns-in-Serve-clause-done
 returns-in-Serve-clause-done g c taken =
@@ -57,12 +64,17 @@ returns-in-Serve-clause-serves g c =
 pub returns-in-Backup-clause-opened : goal.returns-in-Backup-clause-opened
 returns-in-Backup-clause-opened g c taken serves =
     let asks : AsksBackup _ c.in-Backup.asked = rw c.in-Backup.is at c.in-Ok.ensures.ok in
-    absurd (backs_up_only _ asks.named serves)
+    absurd (not_both _ (codes "backup") (codes "serve") refl asks.named serves)
 
 pub returns-in-Check-clause-opened : goal.returns-in-Check-clause-opened
 returns-in-Check-clause-opened g c taken serves =
     let asks : AsksCheck _ c.in-Check.asked = rw c.in-Check.is at c.in-Ok.ensures.ok in
-    absurd (not_both _ asks.named serves)
+    absurd (not_both _ (codes "check") (codes "serve") refl asks.named serves)
+
+pub returns-in-Trim-clause-opened : goal.returns-in-Trim-clause-opened
+returns-in-Trim-clause-opened g c taken serves =
+    let asks : AsksTrim _ c.in-Trim.asked = rw c.in-Trim.is at c.in-Ok.ensures.ok in
+    absurd (not_both _ (codes "trim") (codes "serve") refl asks.named serves)
 
 pub returns-in-Replay-clause-opened : goal.returns-in-Replay-clause-opened
 returns-in-Replay-clause-opened g c taken serves =
@@ -90,10 +102,16 @@ returns-in-Backup-clause-fault g c =
     c.backup.result c.without_file-in-Backup.result.0 c.without_file-in-Backup.ensures.same
     (IfErr-weaker c.backup.result _ _ (other_text (λ text. ⊥)) c.backup.ensures.other)
 
+pub returns-in-Trim-clause-fault : goal.returns-in-Trim-clause-fault
+returns-in-Trim-clause-fault g c =
+    of_command (λ text. ⊥) _ (λ text are. absurd are)
+    c.trim.result c.without_file-in-Trim.result.0 c.without_file-in-Trim.ensures.same
+    (IfErr-weaker c.trim.result _ _ (other_text (λ text. ⊥)) c.trim.ensures.other)
+
 pub returns-in-Check-clause-fault : goal.returns-in-Check-clause-fault
 returns-in-Check-clause-fault g c =
     let asks : AsksCheck _ c.in-Check.asked = rw c.in-Check.is at c.in-Ok.ensures.ok in
-    of_command _ _ (λ text are. record { serve = λ serves. absurd (not_both _ asks.named serves); other = λ _. rw asks.settings at are })
+    of_command _ _ (λ text are. record { serve = λ serves. absurd (not_both _ (codes "check") (codes "serve") refl asks.named serves); other = λ _. rw asks.settings at are })
     c.check.result c.without_file-in-Check.result.0 c.without_file-in-Check.ensures.same c.check.ensures.fault
 
 pub returns-in-Replay-clause-fault : goal.returns-in-Replay-clause-fault

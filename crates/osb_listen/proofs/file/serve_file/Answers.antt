@@ -10,7 +10,7 @@ use Rattle.osb_file.specs.File.{AreLivesOf}
 use Rattle.osb_broker.specs.BrokerState.{Works, lives_of, most_of, rules_in, store_of}
 use Rattle.osb_listen.specs.Held.{LeadInto, Serving, origin_line}
 use Rattle.osb_listen.proofs.HeldLemmas.{address_not_missing, before_at, has_nothing, if_some_and, known, leads_into, leads_nowhere, led, left_at, names_none, none_missed, nothing_served, of_no_file, without_broker}
-use Rattle.osb_listen.proofs.PartLemmas.{says_more}
+use Rattle.osb_listen.proofs.RefusedLemmas.{says_more_with, says_only}
 use Rattle.osb_listen.proofs.file.serve_file.Goals as goal
 
 pub returns-in-Err-clause-served : goal.returns-in-Err-clause-served
@@ -65,7 +65,7 @@ returns-clause-served g c =
         journal = serves.journal;
         many = served.3;
         first = before_at result.result made.made.1 result.ensures.fault;
-        lines = says_more _ _ _ _ _ _ _ _ c.say_origin.ensures serves.lines;
+        lines = says_more_with _ _ _ _ _ _ _ _ (says_only _ _ _ _ _ c.say_origin.ensures) serves.lines;
       },
       λ db has. record {
         works = λ works.

@@ -3,6 +3,7 @@ use Rattle.osb_broker.specs.BrokerState.{lives_of}
 use Rattle.osb_broker.proofs.CrashLemmas.{leaves_weaker}
 use Rattle.osb_broker.proofs.LostLemmas.{shown_run}
 use Rattle.osb_listen.proofs.GroupLemmas.{all_unanswered, as_many_kept, as_many_sent, kept_answered}
+use Rattle.osb_listen.proofs.RefusedLemmas.{says_only}
 use Rattle.osb_listen.proofs.group.answer_kept.Goals as goal
 
 pub answer_each-requires-clause-unanswered : goal.answer_each-requires-clause-unanswered
@@ -25,6 +26,6 @@ returns-clause-served g c =
           lives = λ before after go. are before after (shown_run (served.served before after go));
           left = λ works clean. leaves_weaker (λ lives run. are _ lives run) (served.leaves works clean);
         };
-        lines = sent.3;
+        lines = says_only _ _ _ _ _ sent.3;
       },
     )

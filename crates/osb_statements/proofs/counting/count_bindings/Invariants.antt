@@ -1,0 +1,7 @@
+use Rattle.std.proofs.Common.{◌≡◌}
+use Rattle.osb_contexts.specs.Reads.{behind}
+use Rattle.osb_statements.proofs.PlanLemmas.{HasCountedRows}
+use Rattle.osb_statements.proofs.counting.count_bindings.Given as goal
+
+abbrev pub invariant-loop : goal.invariant-loop
+invariant-loop g l = (l.tx.conn.ghost_name ≡ l.fn.tx.conn.ghost_name) × HasCountedRows (behind g.S.Store l.fn.tx) (behind g.S.Store l.tx) l.after l.counted
