@@ -402,9 +402,9 @@ def try_proved(crate, edits, told):
             more, less = try_batch(crate, names, batch, kept)
             refused, wrong = refused | more, wrong + less
         within = {edit.refused for edit, (met_limit, _) in refused.items() if met_limit}
-        wrong += pass_unedited(crate, names, within, kept)
+        wrong += pass_unedited(crate, within, kept)
         if not told.proves:
-            wrong += pass_unedited(crate, names, names - within, kept, halved=False)
+            wrong += pass_unedited(crate, names - within, kept, halved=False)
     print(*(f"{edit}: refused in {edit.refused}: {goal}" for edit, (_, goal) in refused.items()), sep="\n")
     if not wrong:
         passed(crate).parent.mkdir(parents=True, exist_ok=True)
@@ -413,13 +413,24 @@ def try_proved(crate, edits, told):
     return wrong
 
 
-def pass_unedited(crate, names, only, kept, halved=True):
+def pass_unedited(crate, only, kept, halved=True):
     """Which of these functions don't pass as they are, or not within half of the search's limits. No search is shown
     to stay within half of them by a toolkit that can't halve them."""
-    judged = check(crate, names, [], kept, only, HALVED if halved else []) if only else None
-    fail = [it for it in sorted(only) if not judged.passes(it) or halved and not HALVED]
+    more = HALVED if halved else []
+    judged = check(crate, only, [], kept, only, more) if only else None
+    fail = {it: judged.told(it) for it in sorted(only) if not judged.passes(it)}
+    calling = [it for it in fail if any(f"`{crate}::{other}`" in fail[it] for other in fail if other != it)]
+    # (one that calls another of them that doesn't pass is looked at past a hole in the place of that)
+    for function in calling:
+        alone = check(crate, [function], [], kept, [function], more)
+        if alone.passes(function):
+            del fail[function]
+        else:
+            fail[function] = alone.told(function)
+    if halved and not HALVED:
+        fail = {it: judged.told(it) for it in sorted(only)}
     how = " and within half of the limits, which its edit met" if halved else ""
-    return [f"{crate}: {it} without an edit{how}: {judged.told(it)[:300]}" for it in fail]
+    return [f"{crate}: {it} without an edit{how}: {told[:300]}" for it, told in fail.items()]
 
 
 def beside(words, told, jobs):

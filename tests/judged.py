@@ -43,6 +43,17 @@ pub fn smaller(a: u32, b: u32) -> u32
 }
 """
 
+# A function that calls another one of the crate.
+CALLER = """
+/// The number after the next one.
+pub fn after_next(n: u32) -> u32
+    requires { n ≤ 900 }
+    ensures { result ≡ n + 2 }
+{
+    next(next(n))
+}
+"""
+
 # A written answer, which names the call that it speaks of.
 ANSWER = """use Rattle.std.proofs.Common.{rules}
 use Rattle.small.proofs.smaller.Goals as goal
@@ -114,9 +125,11 @@ def try_proofs(room):
     found = {name for name in WRONG if f"small/edits/{name}: " in said and f"small/edits/{name}: refused" not in said}
     yield "edits that show nothing", (status, found, "4 to be tried, 4 faults" in said), (1, set(WRONG), True)
     yield "one under must-fail/ that can't be tried", "\nrt: must-fail small/x.edit: BAD EDIT" in said, True
-    broken, at_fault = SOURCE.replace("    n + 1", "    n + 3"), "small: next without an edit: "
-    status, said = Small(room, {"two_more": edit("next", "    n + 3", "    n + 2")}, source=broken).judged()
-    yield "a function that doesn't pass as it is", (status, at_fault in said), (1, True)
+    broken = (SOURCE + CALLER).replace("    n + 1", "    n + 3")
+    both = {"two_more": edit("next", "    n + 3", "    n + 2"), "once": edit("after_next", "next(next(n))", "next(n)")}
+    status, said = Small(room, both, source=broken).judged()
+    at_fault = [name for name in ("next", "after_next") if f"small: {name} without an edit: " in said]
+    yield "a function that doesn't pass as it is, and one that calls it", (status, at_fault), (1, ["next"])
     limit = "echo 'rt: must-fail small/x.edit: refused, as it must be (only by a limit of the prover)'"
     status, said = Small(room, {"two_more": TWO_MORE}).judged("--beside", "sh", "-c", limit)
     yield "one under must-fail/ that met a limit", (status, "1 faults" in said), (1, True)
