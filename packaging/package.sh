@@ -46,7 +46,7 @@ fill "$here/debian/copyright" > "$doc/copyright"
 printf 'osb-broker (%s) unstable; urgency=medium\n\n  * Commit %s.\n\n -- %s  %s\n' \
     "$version" "$commit" "$maintainer" "$date" | gzip -9n > "$doc/changelog.gz"
 
-# It links to the C library alone, in the version of the newest symbol that it uses.
+# It links to the C library only, in the version of the newest symbol that it uses.
 libc=$(readelf -V "$root/usr/bin/osb-broker" | grep -o 'GLIBC_[0-9.]*' | sort -uV | tail -1 | cut -d _ -f 2)
 fill "$here/debian/control" > "$root/DEBIAN/control"
 (cd "$root" && find usr lib -type f -print0 | sort -z | xargs -0 md5sum > DEBIAN/md5sums)

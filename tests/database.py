@@ -976,6 +976,13 @@ def settings_with(folder, plans):
     return path
 
 
+def judged(program, path, settings, refused=None):
+    """How `check` of a database ends with settings of one plan, beside how it has to: with the fault of a start."""
+    status, lines, errors = looked_at(program, path)
+    expected = (refused[0], lines, refused[2]) if refused else (status, lines, errors)
+    return looked_at(program, path, settings), (expected[0], b"services 1, plans 1\n" + expected[1], expected[2])
+
+
 def try_plans(program, folder):
     """Plans that are in use stay in the catalog."""
     path = new_database(folder)
@@ -986,6 +993,8 @@ def try_plans(program, folder):
     in_use = (4, b"", b"plan in use: svc p-async\n")
     yield "a plan in use", starts(program, path, sync_only), in_use
     yield "before listening", starts(program, path, sync_only, "nowhere"), in_use
+    yield "as `check` finds", *judged(program, path, sync_only, in_use)
+    yield "all plans are there, as `check` finds", *judged(program, path, async_only)
     with Serving(program, path, settings=async_only) as serving:
         yield from goes(serving, [("PUT", REPORT + "1", SUCCEEDED, 200, "{}")])
     with Serving(program, path) as serving:
@@ -993,11 +1002,13 @@ def try_plans(program, folder):
         yield from goes(serving, [changed])
     aimed = (4, b"", b"plan in use: svc p-sync\n")
     yield "the plan of a running update", starts(program, path, async_only), aimed
+    yield "that as `check` finds", *judged(program, path, async_only, aimed)
     with Serving(program, path) as serving:
         failed = ("PUT", REPORT + "2", '{"state":"failed"}', 200, "{}")
         gone = ("DELETE", I + LEAVE, "", 202, operation("delete-3"))
         ended = ("PUT", REPORT + "3", SUCCEEDED, 200, "{}")
         yield from goes(serving, [failed, gone, ended])
+    yield "a plan that isn't in use any more", *judged(program, path, sync_only)
     with Serving(program, path, settings=sync_only) as serving:
         yield from goes(serving, [("PUT", I, SYNC, 201, "{}")])
 

@@ -60,9 +60,10 @@ from proved import is_usable, prove
 
 # Halves what the search of a check may take, where the toolkit can.
 HALVED = ["--margin"] if "--margin" in rattle.help_of("check") else []
-# What the largest check of a crate takes of memory, and the largest check of edits.
+# What the largest check of a crate takes of memory, and a check of edits: of most crates, and the largest.
 BYTES_OF_CRATE = 6_000_000_000
 BYTES_OF_EDITS = 2_500_000_000
+BYTES_OF_LARGEST_EDITS = 7_000_000_000
 # All edits, those under must-fail/ too.
 LIST = ROOT / "tests" / "edits.txt"
 
@@ -470,12 +471,16 @@ def try_all(edits, words):
     told, status = Told(proves=bool(words)), 0
     jobs = lanes(BYTES_OF_CRATE) if words else 0
     at_once = max(1, min(2, (free_memory() - jobs * BYTES_OF_CRATE) // BYTES_OF_EDITS))
+    # (once the command has ended there may be more places)
+    behind = lanes(BYTES_OF_LARGEST_EDITS)
     places = threading.Semaphore(at_once)
     with concurrent.futures.ThreadPoolExecutor(len(LIBRARIES)) as pool:
         results = [pool.submit(try_crate, crate, found, told, places) for crate, found in edits.items()]
         if words:
             status = beside(words, told, jobs)
         told.end(failed=status != 0)
+        for _ in range(at_once, behind):
+            places.release()
     wrong = [line for result in results for line in result.result()] + told.wrong
     return wrong + ["not proved first:\n" + "".join(told.unproved)] * bool(told.unproved), status
 

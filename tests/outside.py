@@ -17,7 +17,7 @@ from serving import ROOT
 
 # The longest first.
 SIDE_BY_SIDE = ["unproved", "refused", "packaged", "backends", "power", "killed", "shards", "database", "backup", "trim"]
-SIDE_BY_SIDE += ["groups", "begun", "examples", "served", "foreign", "program", "rotated", "imaged", "shown"]
+SIDE_BY_SIDE += ["groups", "begun", "examples", "served", "foreign", "program", "rotated", "imaged", "shown", "mistakes"]
 # These are tried with one client after the other, too.
 ONE_BY_ONE = ["power", "killed", "served"]
 ALONE = ["clients", "together", "proxied"]

@@ -110,7 +110,7 @@ process() { systemctl show -p MainPID osb-broker; }
 before=$(process)
 write p | sed 's/, "bindable": true//' > $settings
 systemctl reload-or-restart osb-broker 2> /dev/null; echo $?
-journalctl -q --no-pager -u osb-broker -o cat | grep -A 1 '^settings'
+journalctl -q --no-pager -u osb-broker -o cat | grep -A 2 '^settings'
 [ "$(process)" = "$before" ] && call $instance/a
 write p > $settings
 
@@ -187,8 +187,11 @@ write p | cmp - $settings && call $instance/a
 echo '# a plan in use is taken away'
 write q > $settings
 (
-told: timeout 5 osb-broker
-) 2>&1
+told: osb-broker check --explain --database
+) 2>&1 | tail -n 1
+before=$(process)
+systemctl reload-or-restart osb-broker 2> /dev/null; echo $?
+[ "$(process)" = "$before" ] && call $instance/a
 systemctl restart osb-broker; until_it has_failed; state
 journalctl -q --no-pager -u osb-broker -o cat | grep '^plan in use' | sort -u
 
@@ -232,6 +235,7 @@ services 1, plans 2
 1
 settings: 2 Missing bindable
 at catalog.services[0]
+wanted: true or false
 {"parameters":{},"plan_id":"p","service_id":"svc"} 200
 # reported
 {"operation":"create-1"} 202
@@ -278,6 +282,8 @@ its owner
 {"parameters":{},"plan_id":"p","service_id":"svc"} 200
 # a plan in use is taken away
 plan in use: svc p
+1
+{"parameters":{},"plan_id":"p","service_id":"svc"} 200
 ActiveState=failed ExecMainStatus=4 NRestarts=0 Result=exit-code
 plan in use: svc p
 # no settings
@@ -546,7 +552,7 @@ def without_random_bytes(root):
 
 
 def tries(program, folder):
-    yield "the unit of a shard", settings_that_differ(), ["Description", "ExecStart", "SocketBindAllow", "StateDirectory"]
+    yield "the unit of a shard", settings_that_differ(), ["Description", "ExecReload", "ExecStart", "SocketBindAllow", "StateDirectory"]
     made = package(program, folder)
     yield "lintian", run("lintian", "--allow-root", made), (0, "")
     root, other, why = containers(folder)

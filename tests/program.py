@@ -446,48 +446,30 @@ PLACES = [
 ]
 
 
-# A text of examples/queues.json, what somebody writes in its place, and what is said to that; nothing where it is accepted.
-MISTAKES = [
-    ('"orders_per_instance": 10000', '"orders_per_instance": 10000,', "1 Text"),
-    ('"modes"', '// modes\n"modes"', "1 Text"),
-    ('{\n  "platform"', '\ufeff{\n  "platform"', "1 Text"),
-    ('"free": true', '"metadata": { "costs": [{ "amount": { "eur": 99.5 } }] }', "1 Text"),
-    ('"bindable": true', '"bindable": "true"', "2 Missing bindable\nat catalog.services[0]"),
-    ('"free": true', '"maximum_polling_duration": "10m"', "2 Missing maximum_polling_duration\nat catalog.services[0].plans[0]"),
-    ('"instances": "asynchronous"', '"instances": "async"', "2 Missing instances\nat modes.queues-own"),
-    ('"orders_per_instance": 10000', '"orders_per_instance": 0', "2 Missing orders_per_instance\nat the top"),
-    ('"queues-own": {', '"own": {', "6 Mode\nat modes.own"),
-    ('"bindings_retrievable": true,', "", "6 Mode\nat catalog.services[0].plans[1]"),
-    ('"version": "2.0.0"', '"version": "2.0"', "5 Version\nat catalog.services[0].plans[1]"),
-    ('"free": true', '"schemas": {}', "4 LeftOut schemas\nat catalog.services[0].plans[0]"),
-    ('"bindable": true', '"bindable": true, "dashboard_client": {}', "4 LeftOut dashboard_client\nat catalog.services[0]"),
-    ('"password": "correct horse"', '"password": "correct horse", "also": "new"', "2 Missing platform\nat the top"),
-    ('"instances": "asynchronous"', '"instance": "asynchronous"', ""),
-    ('"plan_updateable"', '"plan_updatable"', ""),
-    ('"worker", "password": "battery staple"', '"cf", "password": "correct horse"', ""),
-    ('"backend"', '"also": { "user": "cf", "password": "new" }, "backend"', ""),
-    ('battery staple"', 'battery staple", "also": { "user": "cf", "password": "correct horse" }', ""),
-    ('"name": "own"', '"name": "shared"', ""),
-    ('"name": "queues"', '"name": "my queues"', ""),
+# What is wanted, by the beginning of a fault and of its place.
+WANTED = [
+    ("2 Missing platform", "", "an object with the texts user and password, and with such an object if it has also"),
+    ("2 Missing backend", "", "an object with the texts user and password, and with such an object if it has also"),
+    ("2 Missing services", "", "a list of objects"),
+    ("2 Missing bindable", "", "true or false"),
+    ("2 Missing bindings", "", "synchronous or asynchronous"),
+    ("2 Missing", "", "a text that isn't empty"),
+    ("3", "", "an id that no other one has"),
+    ("4", "", "nothing, this broker leaves it out"),
+    ("5", "", "a semantic version, as 1.0.0"),
+    ("6", "modes", "the id of a plan, and no plan has this one"),
+    ("6", "", "bindings_retrievable in its service, for asynchronous bindings"),
+    ("7", "", "a user without a colon, and both texts of 1 to 256 bytes without control characters"),
 ]
 
 
-def try_mistakes(tries, folder):
-    """What is said to those of docs/SETTINGS.md."""
-    path = os.path.join(folder, "queues.json")
-    with open(os.path.join(HERE, "..", "examples", "queues.json"), encoding="utf-8") as file:
-        good = file.read()
-    for given, written, said in MISTAKES:
-        if good.count(given) != 1:
-            raise RuntimeError(f"{given} isn't in the example once")
-        with open(path, "w", encoding="utf-8") as file:
-            file.write(good.replace(given, written))
-        ends = (3, b"", f"settings: {said}\n".encode()) if said else (0, b"services 1, plans 2\n", b"")
-        tries.expect(f"mistake {written}", tries.run(["check", "--explain", path]), *ends)
+def wanted(fault, place):
+    """The line that says what is wanted there."""
+    return "wanted: " + next(text for begins, at, text in WANTED if fault.startswith(begins) and place.startswith(at))
 
 
 def try_explain(tries, folder):
-    """Where in the settings a fault is."""
+    """Where in the settings a fault is, and what is wanted there."""
     path = os.path.join(folder, "settings.json")
 
     def explain(name, content, status, output, errors):
@@ -496,10 +478,13 @@ def try_explain(tries, folder):
         tries.expect(f"explain {name}", tries.run(["check", "--explain", path]), status, output, errors)
 
     for change, fault, place in PLACES:
-        explain(place, changed(change), 3, b"", f"settings: {fault}\nat {place}\n".encode())
-    explain("an empty object", b"{}", 3, b"", b"settings: 2 Missing platform\nat the top\n")
-    explain("no object", b"[]", 3, b"", b"settings: 1 Text\n")
-    explain("good settings", json.dumps(SETTINGS).encode(), 0, b"services 1, plans 2\n", b"")
+        explain(place, changed(change), 3, b"", f"settings: {fault}\nat {place}\n{wanted(fault, place)}\n".encode())
+    login = wanted("2 Missing platform", "the top").encode()
+    explain("an empty object", b"{}", 3, b"", b"settings: 2 Missing platform\nat the top\n" + login + b"\n")
+    explain("no object", b"[]", 3, b"", b"settings: 1 Text\nnot an object\n")
+    modes = b"plan p-sync: instances synchronous, bindings synchronous\n"
+    modes += b"plan p-async: instances asynchronous, bindings asynchronous\n"
+    explain("good settings", json.dumps(SETTINGS).encode(), 0, b"services 1, plans 2\n" + modes, b"")
     os.remove(path)
     line = f"osb-broker: cannot read {path}\n".encode()
     tries.expect("explain a missing file", tries.run(["check", path, "--explain"]), 1, b"", line)
@@ -523,7 +508,6 @@ def main():
         try_words_of_bytes(tries)
         try_check(tries, folder)
         try_explain(tries, folder)
-        try_mistakes(tries, folder)
     print(f"program: {tries.passed} passed, {tries.failed} failed")
     return 1 if tries.failed or not tries.passed else 0
 

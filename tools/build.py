@@ -29,6 +29,7 @@ MINUTES = {
     "osb_tables": (0.5, 0.3),
     "osb_rows": (0.1, 0),
     "osb_catalog": (1.1, 3.4),
+    "osb_advice": (0.6, 1.8),
     "osb_asks": (1.0, 4.0),
     "osb_orders": (1.0, 2.2),
     "osb_standing": (0.3, 1.0),

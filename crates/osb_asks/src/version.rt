@@ -1,6 +1,6 @@
 //! Whether a version of the API is one that is spoken.
 
-ghost use Rattle.std.specs.Prelude.{◌≡◌, take, drop};
+ghost use Rattle.std.specs.Prelude.{◌≡◌};
 ghost use Rattle.std.specs.List.{list_all};
 ghost use Rattle.std.specs.Char.{is_ascii_digit};
 ghost use Rattle.osb_asks.specs.Versions.{is_api_version, is_minor};

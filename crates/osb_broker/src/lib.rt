@@ -36,5 +36,6 @@ pub use laws::{
     replied, reported, resend, runs_go_on, shards, texts_are_of_the_cut, together, trimmed,
     unknown,
 };
+pub use plans::first_lacking;
 pub use rooms::Room;
 pub use waiting::Waiting;

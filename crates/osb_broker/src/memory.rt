@@ -1,7 +1,7 @@
 //! The broker over records in memory, where no disk fails and the store stays open: what it says
 //! holds without a premise.
 
-ghost use Rattle.std.specs.Prelude.{◌≡◌, ◌≤◌, ◌<◌, ◌+◌, ◌⊎◌, ℕ, true, false, List, length, map, vec_items, IfOk, IfErr, OnOk, OnErr, IfSome, IsTrue};
+ghost use Rattle.std.specs.Prelude.{◌≡◌, ◌≤◌, ◌<◌, ◌+◌, ◌⊎◌, true, false, List, length, map, vec_items, IfOk, IfErr, OnOk, OnErr, IfSome, IsTrue};
 ghost use Rattle.sqlite.specs.Held.{state};
 ghost use Rattle.sqlite.specs.Steps.{over_memory};
 ghost use Rattle.osb_frames.specs.declared.limits.Limits.{Limits};

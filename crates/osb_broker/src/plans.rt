@@ -1,6 +1,6 @@
 //! The plans in use, held against the catalog.
 
-ghost use Rattle.std.specs.Prelude.{◌≡◌, None, IsTrue, IfErr, IfSome, OnOk, option_map};
+ghost use Rattle.std.specs.Prelude.{◌≡◌, None, IsTrue, IfErr, IfSome, OnOk};
 ghost use Rattle.sqlite.specs.Held.{state};
 ghost use Rattle.sqlite.specs.State.{HasCleanDisk, Survives};
 ghost use Rattle.osb_catalog.specs.Rules.{rules_of};
@@ -22,8 +22,9 @@ fn offers(settings: &Settings, pair: &(Text, Text)) -> bool
     settings.plan(pair.0.as_str(), pair.1.as_str()).is_some()
 }
 
-/// The first pair of service and plan that the catalog lacks.
-fn first_lacking(settings: &Settings, plans: Vec<(Text, Text)>) -> Option<(Text, Text)>
+/// The first of these pairs of service and plan that the catalog lacks. Over a database that has them in
+/// use a start ends with that one.
+pub fn first_lacking(settings: &Settings, plans: Vec<(Text, Text)>) -> Option<(Text, Text)>
     ensures first { result ≡ first_lacking (rules_of settings.now) plans.items }
     ensures lacks { IfSome result (λ pair. (rules_of settings.now).plan pair.0 pair.1 ≡ None) }
 {

@@ -30,5 +30,12 @@ pub use built_in::BUILT_IN;
 pub use fault::SettingsFault;
 pub use field::Field;
 pub use found::{Place, place_of};
+pub use kind::Kind;
+pub use member::{modes_of, plans_of, services_of, text_at, value_at};
+pub use mode::{mode_of_plan, timing_at};
 pub use plan::{Mode, PlanFacts, Timing};
 pub use settings::Settings;
+pub use table::{
+    FieldRule, catalog_rules, file_rules, mode_rules, plan_left_out_rules, plan_rules,
+    service_left_out_rules, service_rules,
+};

@@ -12,7 +12,7 @@ use osb_text::{items, member};
 use serde_json::{Map, Value};
 
 /// What the object holds under the field. A null counts as absent.
-pub(crate) fn value_at(object: &Value, field: Field) -> Option<&Value>
+pub fn value_at(object: &Value, field: Field) -> Option<&Value>
     ensures found { option_map (λ v. view v.now) result ≡ value_at field (view object.now) }
     ensures whole { is_whole (view object.now) ≡ true → IfSome result (λ v. is_whole (view v.now) ≡ true) }
 {
@@ -20,7 +20,7 @@ pub(crate) fn value_at(object: &Value, field: Field) -> Option<&Value>
 }
 
 /// The text under the field, empty where there is none.
-pub(crate) fn text_at(object: &Value, field: Field) -> &str
+pub fn text_at(object: &Value, field: Field) -> &str
     ensures { result.now ≡ text_at field (view object.now) }
 {
     match value_at(object, field) {
@@ -61,8 +61,8 @@ pub(crate) fn items_or_none(list: &Value) -> &[Value]
     }
 }
 
-/// The services of a file.
-pub(crate) fn services_of(file: &Value) -> &[Value]
+/// The services of a file, none where it has no list of them.
+pub fn services_of(file: &Value) -> &[Value]
     ensures whole { is_whole (view file.now) ≡ true → items_are_whole (items_view result.now) ≡ true }
     ensures found { items_view result.now ≡ services_of (view file.now) }
 {
@@ -72,8 +72,8 @@ pub(crate) fn services_of(file: &Value) -> &[Value]
     }
 }
 
-/// The plans of a service.
-pub(crate) fn plans_of(service: &Value) -> &[Value]
+/// The plans of a service, none where it has no list of them.
+pub fn plans_of(service: &Value) -> &[Value]
     ensures whole { is_whole (view service.now) ≡ true → items_are_whole (items_view result.now) ≡ true }
     ensures found { items_view result.now ≡ plans_of (view service.now) }
 {
@@ -81,7 +81,7 @@ pub(crate) fn plans_of(service: &Value) -> &[Value]
 }
 
 /// The modes of a file, by the ids of their plans.
-pub(crate) fn modes_of(file: &Value) -> Option<&Map<String, Value>>
+pub fn modes_of(file: &Value) -> Option<&Map<String, Value>>
     ensures { unwrap_or (option_map (λ m. members_view m.now.entries) result) no_members ≡ modes_of (view file.now) }
 {
     match value_at(file, Field::Modes) {

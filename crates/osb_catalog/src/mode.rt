@@ -83,7 +83,7 @@ pub(crate) fn binds_later(file: &Value, plan: &Value) -> bool
 }
 
 /// The mode that the file has for the plan with that id.
-pub(crate) fn mode_of_plan<'a>(file: &'a Value, id: &str) -> Option<&'a Value>
+pub fn mode_of_plan<'a>(file: &'a Value, id: &str) -> Option<&'a Value>
     ensures whole { is_whole (view file.now) ≡ true → IfSome result (λ v. is_whole (view v.now) ≡ true) }
     ensures found { unwrap_or (option_map (λ v. view v.now) result) null ≡ mode_of_plan (view file.now) id.now }
 {
@@ -93,8 +93,9 @@ pub(crate) fn mode_of_plan<'a>(file: &'a Value, id: &str) -> Option<&'a Value>
     }
 }
 
-/// Synchronous where the mode doesn't say.
-pub(crate) fn timing_at(mode: &Value, field: Field) -> Timing
+/// When the orders of the mode are carried out, by its `instances` or `bindings`: synchronous where it doesn't
+/// say.
+pub fn timing_at(mode: &Value, field: Field) -> Timing
     ensures { result ≡ timing_at field (view mode.now) }
 {
     if text_at(mode, field) == "asynchronous" {

@@ -59,7 +59,8 @@ fn optional(field: Field, kind: Kind) -> FieldRule
     }
 }
 
-pub(crate) fn file_rules() -> [FieldRule; 5]
+/// The rules of the file itself.
+pub fn file_rules() -> [FieldRule; 5]
     ensures { result ≡ file_rules }
 {
     [
@@ -71,13 +72,15 @@ pub(crate) fn file_rules() -> [FieldRule; 5]
     ]
 }
 
-pub(crate) fn catalog_rules() -> [FieldRule; 1]
+/// Those of the catalog.
+pub fn catalog_rules() -> [FieldRule; 1]
     ensures { result ≡ catalog_rules }
 {
     [required(Field::Services, Kind::ObjectList)]
 }
 
-pub(crate) fn service_rules() -> [FieldRule; 11]
+/// Those of a service.
+pub fn service_rules() -> [FieldRule; 11]
     ensures { result ≡ service_rules }
 {
     [
@@ -95,7 +98,8 @@ pub(crate) fn service_rules() -> [FieldRule; 11]
     ]
 }
 
-pub(crate) fn plan_rules() -> [FieldRule; 9]
+/// Those of a plan.
+pub fn plan_rules() -> [FieldRule; 9]
     ensures { result ≡ plan_rules }
 {
     [
@@ -111,7 +115,8 @@ pub(crate) fn plan_rules() -> [FieldRule; 9]
     ]
 }
 
-pub(crate) fn mode_rules() -> [FieldRule; 3]
+/// Those of a member of `modes`.
+pub fn mode_rules() -> [FieldRule; 3]
     ensures { result ≡ mode_rules }
 {
     [
@@ -122,7 +127,7 @@ pub(crate) fn mode_rules() -> [FieldRule; 3]
 }
 
 /// What a service may not announce, since the broker leaves it out.
-pub(crate) fn service_left_out_rules() -> [FieldRule; 3]
+pub fn service_left_out_rules() -> [FieldRule; 3]
     ensures { result ≡ service_left_out_rules }
 {
     [
@@ -133,7 +138,7 @@ pub(crate) fn service_left_out_rules() -> [FieldRule; 3]
 }
 
 /// What a plan may not announce.
-pub(crate) fn plan_left_out_rules() -> [FieldRule; 2]
+pub fn plan_left_out_rules() -> [FieldRule; 2]
     ensures { result ≡ plan_left_out_rules }
 {
     [

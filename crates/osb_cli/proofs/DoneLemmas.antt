@@ -63,11 +63,11 @@ module _ (contents : Contents) (IsMade : List ℕ → List ℕ → Type 0) (foun
   }
 
   pub is_checked : (asked : Check) → AsksCheck found asked
-      → AreChecked contents (option_map (λ it. it.now) asked.settings) (option_map (λ it. it.now) asked.database) old new
+      → AreChecked contents asked.explain (option_map (λ it. it.now) asked.settings) (option_map (λ it. it.now) asked.database) old new
       → IsDone contents IsMade found input old new
   is_checked asked asks checked = record {
     backup = λ is. absurd (not_both found (codes "check") (codes "backup") refl asks.named is);
-    check = λ _. rw (asks.settings, asks.database) at checked;
+    check = λ _. (asked.explain, asks.explain, rw (asks.settings, asks.database) at checked);
     serve = λ is. absurd (not_both found (codes "check") (codes "serve") refl asks.named is);
     trim = λ is. absurd (not_both found (codes "check") (codes "trim") refl asks.named is);
     replay = λ _ other _ _. absurd (other asks.named);

@@ -1,3 +1,4 @@
+mod CheckLemmas
 mod DoneLemmas
 mod FilesLemmas
 mod LineLemmas

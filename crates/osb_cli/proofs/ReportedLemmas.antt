@@ -13,6 +13,7 @@ module _ (A B : List ℕ → Type 0) (more : (text : List ℕ) → A text → B 
   pub of_more : (fault : Fault) → IsOfText A fault → IsOfText B fault
   of_more (the.Settings fault) has = (has.0, more has.0 has.1, has.2)
   of_more (the.Placed fault place) has = ((has.0.0, more has.0.0 has.0.1, has.0.2), (has.1.0, more has.1.0 has.1.1, has.1.2))
+  of_more (the.Unreadable reason) has = ((has.0.0, more has.0.0 has.0.1, has.0.2), (has.1.0, more has.1.0 has.1.1, has.1.2))
   of_more (the.CannotRead name) has = tt
   of_more (the.TooLarge name) has = tt
   of_more the.OutOfMemory has = tt
@@ -39,6 +40,7 @@ module _ (A B : List ℕ → Type 0) (more : (text : List ℕ) → A text → B 
 pub other_text : (A : List ℕ → Type 0) (fault : Fault) → IsOther fault → IsOfText A fault
 other_text A (the.Settings fault) is = absurd is
 other_text A (the.Placed fault place) is = absurd is
+other_text A (the.Unreadable reason) is = absurd is
 other_text A (the.CannotRead name) is = tt
 other_text A (the.TooLarge name) is = tt
 other_text A the.OutOfMemory is = tt

@@ -1,5 +1,5 @@
 -- What `serve` leaves of a database file.
-use Rattle.std.proofs.Common.{◌≡◌, ◌≤◌, ◌∙◌, refl, ℕ, Bool, List, sym, subst, arith, Option, None, Some, IfNone, IfSome, IsSome, Result, Ok, Err, IsErr, IsErrAnd, IsOk, OnOk, OnErr, IfErr}
+use Rattle.std.proofs.Common.{◌≡◌, ◌≤◌, ◌∙◌, refl, codes, ℕ, Bool, List, sym, subst, arith, Option, None, Some, IfNone, IfSome, IsSome, Result, Ok, Err, IsErr, IsErrAnd, IsOk, OnOk, OnErr, IfErr}
 use Rattle.std.proofs.lemmas.Option.{IfSome_then}
 use Rattle.sqlite.specs.Tree.{Trees}
 use Rattle.sqlite.specs.State.{State}
@@ -13,10 +13,10 @@ use Rattle.osb_cli.specs.declared.fault.Unserved.{Unserved}
 use Rattle.osb_cli.specs.declared.fault.Unserved.TheVariants.{Fault, PlanInUse}
 use Rattle.osb_cli.specs.Files.{Contents}
 use Rattle.osb_cli.specs.Settings.{AreOfFile}
-use Rattle.osb_cli.specs.Words.{FoundCommand}
+use Rattle.osb_cli.specs.Words.{FoundCommand, text_in}
 use Rattle.osb_cli.specs.declared.words.Listen.{Listen}
-use Rattle.osb_cli.specs.Serve.{LacksPlan, Leaves, LeavesAs, NamesSome, settings_name}
-use Rattle.osb_cli.specs.Inside.{IsPlan, NameOne, NamesInUse, AsksServe}
+use Rattle.osb_cli.specs.Serve.{FindsSome, LacksPlan, Leaves, LeavesAs, NamesSome, settings_name}
+use Rattle.osb_cli.specs.Inside.{FindsInUse, IsPlan, NameOne, NamesInUse, AsksServe}
 
 pub is_left : (contents : Contents) (name : List ℕ) (settings : SettingsData) → AreOfFile contents name settings → (k : ℕ) (existing : Bool) (db : Trees) (serving : Serving) (now : State)
     → LeavesFile (rules_of settings) k existing db serving now → Leaves contents name k existing db serving now
@@ -66,6 +66,17 @@ pub names_some : (contents : Contents) (found : FoundCommand) (db : Trees) (faul
 names_some contents found db (PlanInUse service plan) is lacks = (service, plan, lacks)
 names_some contents found db (Fault fault) is lacks = absurd is
 
+-- so does one that `check` finds
+pub finds_some : (contents : Contents) (found : FoundCommand) (fault : Unserved) → IsPlan fault
+    → FindsInUse contents (text_in (codes "settings") found) (text_in (codes "database") found) fault → FindsSome contents found
+finds_some contents found (PlanInUse service plan) is lacks = (service, plan, lacks)
+finds_some contents found (Fault fault) is lacks = absurd is
+
+-- nothing is said of a fault that names no plan
+pub finds_unless_plan : (contents : Contents) (name database : Option (List ℕ)) (fault : Unserved) → ¬ IsPlan fault → FindsInUse contents name database fault
+finds_unless_plan contents name database (PlanInUse service plan) other = absurd (other tt)
+finds_unless_plan contents name database (Fault fault) other = tt
+
 -- a fault of status 4 says what it says of the connection
 pub fault_if_4 : {A C : Type 0} (done : Result A Unserved) (status : ℕ) (conn : Option C) (P : Unserved → C → Type 0) (Q : C → Type 0)
     → OnOk done (status ≡ 0) → status ≡ 4 → IfErr done IsPlan → IfErr done (λ fault. IfSome conn (P fault))
@@ -77,6 +88,11 @@ fault_if_4 (Err fault) status conn P Q zero is plan known f = IfSome_then conn k
 pub serves_if_4 : {A : Type 0} (done : Result A Unserved) (status : ℕ) {P : Type 0} → OnOk done (status ≡ 0) → status ≡ 4 → IfErr done IsPlan → IfErr done (λ fault. IsPlan fault → P) → P
 serves_if_4 (Ok x) status zero is plan serves = absurd (omega (arith, is, zero))
 serves_if_4 (Err fault) status zero is plan serves = serves plan
+
+pub finds_if_4 : {A : Type 0} (done : Result A Unserved) (status : ℕ) {P : Unserved → Type 0} {Q : Type 0} → OnOk done (status ≡ 0) → status ≡ 4 → IfErr done IsPlan → IfErr done P
+    → ((fault : Unserved) → IsPlan fault → P fault → Q) → Q
+finds_if_4 (Ok x) status zero is plan known f = absurd (omega (arith, is, zero))
+finds_if_4 (Err fault) status zero is plan known f = f fault plan known
 
 -- what was done well opened the file, where only a fault leaves it
 pub is_opened : {A E C : Type 0} (done : Result A E) (conn : Option C) (P : E → Type 0) (x : A) → done ≡ Ok x → IfNone conn (IsErrAnd done P) → IsSome conn

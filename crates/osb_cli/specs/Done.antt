@@ -1,37 +1,50 @@
 -- What a command that ends with status 0 has written.
-use Rattle.std.specs.Prelude.{◌≡◌, ℕ, List, [], ◌∷◌, ◌++◌, length, codes, decimal, Option, None, Some, IfSome, unwrap_or}
+use Rattle.std.specs.Prelude.{◌≡◌, ⊤, Bool, true, false, ℕ, List, [], ◌∷◌, ◌++◌, length, codes, decimal, Option, None, Some, IfSome, unwrap_or}
 use Rattle.sqlite_trees.specs.Tree.{Trees}
 use Rattle.osb_catalog.specs.Rules.{rules_of}
 use Rattle.osb_catalog.specs.SettingsData.{SettingsData}
 use Rattle.osb_file.specs.declared.copied.Copied.{Copied}
 use Rattle.osb_file.specs.declared.seen.Seen.{Seen}
 use Rattle.osb_file.specs.declared.seen.Seen.TheVariants.{New, Counted}
-use Rattle.osb_file.specs.File.{HasTrees}
+use Rattle.osb_orders.specs.Lives.{Lives}
+use Rattle.osb_broker.specs.Plans.{OffersInUse}
+use Rattle.osb_file.specs.File.{AreLivesOf, HasNoTables, HasTrees}
 use Rattle.osb_file.specs.Looked.{IsSeenAs, image_in}
 use Rattle.osb_file.specs.OneFile.{IsInOne}
 use Rattle.osb_file.specs.Trimmed.{IsTrimmedInOne}
 use Rattle.osb_audit.specs.declared.counting.Counts.{Counts}
 use Rattle.osb_cli.specs.Replay.{IsReplayed}
 use Rattle.osb_listen.specs.Listen.{listening_line}
-use Rattle.osb_cli.specs.Files.{AreBytesOfAll, Contents, IsCopyOf}
+use Rattle.osb_advice.specs.Remarks.{remarks_of}
+use Rattle.osb_cli.specs.Files.{AreBytesOf, AreBytesOfAll, Contents, IsCopyOf}
 use Rattle.osb_cli.specs.Settings.{AreOfFile, AreSettingsOf}
-use Rattle.osb_cli.specs.Words.{FoundCommand, HasPerConnection, Names, text_in, texts_in}
+use Rattle.osb_cli.specs.Words.{FoundCommand, HasExplain, HasPerConnection, Names, text_in, texts_in}
 
 abbrev pub counts_line : ℕ → ℕ → List ℕ
 counts_line services plans =
     codes "services " ++ (decimal services ++ (codes ", plans " ++ (decimal plans ++ codes "\n")))
 
--- the line of the settings of a file was written
-pub record IsChecked (contents : Contents) (name old new : List ℕ) : Type 0 where
+-- these are the remarks on a file that are asked for
+abbrev pub AreRemarks : Contents → List ℕ → Bool → List ℕ → Type 0
+AreRemarks contents name false remarks = remarks ≡ []
+AreRemarks contents name true remarks = (text : List ℕ) × AreBytesOf contents name text × (remarks ≡ remarks_of text)
+
+-- the line of the settings of a file was written, and the remarks on it
+pub record IsChecked (contents : Contents) (name : List ℕ) (explain : Bool) (old new : List ℕ) : Type 0 where
   pub settings : SettingsData
   pub are : AreOfFile contents name settings
-  pub written : new ≡ old ++ counts_line (length settings.services) (length settings.plans)
+  pub remarks : List ℕ
+  pub explained : AreRemarks contents name explain remarks
+  pub written : new ≡ old ++ (counts_line (length settings.services) (length settings.plans) ++ remarks)
+
+abbrev pub counted_line : Counts → List ℕ
+counted_line counts =
+    codes "instances " ++ (decimal counts.instances ++ (codes ", bindings " ++ (decimal counts.bindings
+    ++ (codes ", running " ++ (decimal counts.running ++ codes "\n")))))
 
 abbrev pub database_line : Seen → List ℕ
 database_line New = codes "new\n"
-database_line (Counted counts) =
-    codes "instances " ++ (decimal counts.instances ++ (codes ", bindings " ++ (decimal counts.bindings
-    ++ (codes ", running " ++ (decimal counts.running ++ codes "\n")))))
+database_line (Counted counts plans) = counted_line counts
 
 -- the line of a database file was written, by what any database has that is in it and its log
 pub record IsLookedAt (contents : Contents) (name old new : List ℕ) : Type 0 where
@@ -49,22 +62,38 @@ pub record IsBackedUp (contents : Contents) (IsMade : List ℕ → List ℕ → 
   pub made : IsMade to bytes
   pub counts : Counts
   pub has : IsInOne (image_in files) bytes counts
-  pub written : new ≡ old ++ database_line (Counted counts)
+  pub written : new ≡ old ++ counted_line counts
 
 -- where a file is named, its line
-abbrev pub AreSettingsChecked : Contents → Option (List ℕ) → List ℕ → List ℕ → Type 0
-AreSettingsChecked contents None old new = new ≡ old
-AreSettingsChecked contents (Some name) old new = IsChecked contents name old new
+abbrev pub AreSettingsChecked : Contents → Bool → Option (List ℕ) → List ℕ → List ℕ → Type 0
+AreSettingsChecked contents explain None old new = new ≡ old
+AreSettingsChecked contents explain (Some name) old new = IsChecked contents name explain old new
 
 abbrev pub IsDatabaseChecked : Contents → Option (List ℕ) → List ℕ → List ℕ → Type 0
 IsDatabaseChecked contents None old new = new ≡ old
 IsDatabaseChecked contents (Some name) old new = IsLookedAt contents name old new
 
--- the line of the settings, and behind it that of the database
-pub record AreChecked (contents : Contents) (settings database : Option (List ℕ)) (old new : List ℕ) : Type 0 where
+-- The settings of a file have each plan that the database of another file has in use, unless that has no tables.
+pub record HasItsPlans (contents : Contents) (name database : List ℕ) : Type 0 where
+  pub settings : SettingsData
+  pub are : AreOfFile contents name settings
+  pub files : Copied
+  pub copy : IsCopyOf contents database files
+  pub has : (db : Trees) → HasTrees (image_in files) db → ¬ HasNoTables db →
+      (lives : Lives) × AreLivesOf db lives × OffersInUse (rules_of settings) lives
+
+-- where both are named
+abbrev pub AreAccepted : Contents → Option (List ℕ) → Option (List ℕ) → Type 0
+AreAccepted contents None database = ⊤
+AreAccepted contents (Some name) None = ⊤
+AreAccepted contents (Some name) (Some database) = HasItsPlans contents name database
+
+-- the lines of the settings, and behind them that of the database; a start with the two lacks no plan
+pub record AreChecked (contents : Contents) (explain : Bool) (settings database : Option (List ℕ)) (old new : List ℕ) : Type 0 where
   pub between : List ℕ
-  pub settings_checked : AreSettingsChecked contents settings old between
+  pub settings_checked : AreSettingsChecked contents explain settings old between
   pub database_checked : IsDatabaseChecked contents database between new
+  pub accepted : AreAccepted contents settings database
 
 -- each of these files is a connection; without any, all of the input is one, as far as it is known
 abbrev pub AreConnections : Contents → List (List ℕ) → Option (List ℕ) → List (List ℕ) → Type 0
@@ -102,8 +131,8 @@ pub record IsTrimmed (contents : Contents) (IsMade : List ℕ → List ℕ → T
 pub record IsDone (contents : Contents) (IsMade : List ℕ → List ℕ → Type 0) (found : FoundCommand) (input : Option (List ℕ)) (old new : List ℕ) : Type 0 where
   pub backup : Names (codes "backup") found → IsBackedUp contents IsMade
       (unwrap_or (text_in (codes "database") found) []) (unwrap_or (text_in (codes "to") found) []) old new
-  pub check : Names (codes "check") found →
-      AreChecked contents (text_in (codes "settings") found) (text_in (codes "database") found) old new
+  pub check : Names (codes "check") found → (explain : Bool) × HasExplain found explain
+      × AreChecked contents explain (text_in (codes "settings") found) (text_in (codes "database") found) old new
   pub serve : Names (codes "serve") found →
       new ≡ old ++ listening_line (unwrap_or (text_in (codes "listen") found) [])
   pub trim : Names (codes "trim") found →

@@ -1,8 +1,9 @@
 -- What the words ask for, and what was done of it. For contracts inside the crate.
-use Rattle.std.specs.Prelude.{ℕ, List, length, map, Option, option_map, ◌≡◌, ⊤, ◌*◌, [], codes, unwrap_or}
+use Rattle.std.specs.Prelude.{ℕ, List, length, map, Option, None, Some, option_map, ◌≡◌, ⊤, ◌*◌, [], codes, string_bytes, unwrap_or}
 use Rattle.osb_cli.specs.declared.words.Replay.{Replay}
 use Rattle.osb_file.specs.declared.copied.Copied.{Copied}
-use Rattle.osb_file.specs.Looked.{image_in}
+use Rattle.osb_file.specs.File.{HasTrees}
+use Rattle.osb_file.specs.Looked.{IsSeenAs, image_in}
 use Rattle.osb_file.specs.Trimmed.{IsTrimmedInOne}
 use Rattle.osb_cli.specs.declared.trim.Trimmed.{Trimmed}
 use Rattle.osb_cli.specs.Files.{Contents, IsCopyOf}
@@ -13,10 +14,15 @@ use Rattle.osb_listen.specs.declared.fault.ListenFault.TheVariants as listen
 use Rattle.osb_catalog.specs.declared.fault.SettingsFault.{SettingsFault}
 use Rattle.osb_cli.specs.declared.fault.Fault.TheVariants as fault
 use Rattle.osb_cli.specs.declared.fault.Fault as faults
-use Rattle.osb_cli.specs.Reported.{HasPlace}
+use Rattle.osb_catalog.specs.declared.fault.SettingsFault.TheVariants.{Text as NoText}
+use Rattle.osb_cli.specs.Reported.{HasPlace, HasReason}
 use Rattle.osb_cli.specs.declared.fault.Unserved.{Unserved}
 use Rattle.osb_cli.specs.declared.fault.Unserved.TheVariants.{Fault, PlanInUse}
-use Rattle.osb_cli.specs.Serve.{LacksPlan, settings_name}
+use Rattle.osb_cli.specs.Serve.{LacksPlan, LacksPlanOf, settings_name}
+use Rattle.osb_catalog.specs.Rules.{Rules}
+use Rattle.osb_broker.specs.Plans.{first_lacking}
+use Rattle.osb_file.specs.declared.seen.Seen.{Seen}
+use Rattle.osb_file.specs.declared.seen.Seen.TheVariants.{New, Counted}
 use Rattle.std.specs.Duration.{as_nanos}
 use Rattle.clap.specs.Words.{all_of, found_of, one_of, rows_of}
 use Rattle.clap.specs.declared.parser.matches.ArgMatches.{ArgMatches}
@@ -26,7 +32,7 @@ use Rattle.osb_cli.specs.declared.words.Listen.{Listen}
 use Rattle.osb_cli.specs.declared.words.Trim.{Trim}
 use Rattle.osb_cli.specs.declared.words.Job.{Job}
 use Rattle.osb_cli.specs.declared.words.Job.TheVariants as order
-use Rattle.osb_cli.specs.Words.{FoundCommand, Names, text_in, texts_in, one_text_in, HasNumber, HasPerConnection, HasConnections, HasExisting, HasTogether}
+use Rattle.osb_cli.specs.Words.{FoundCommand, Names, text_in, texts_in, one_text_in, HasNumber, HasPerConnection, HasConnections, HasExisting, HasExplain, HasTogether}
 
 -- as a replay was asked for
 abbrev pub IsReplayedFor : Contents → Replay → Option (List ℕ) → List ℕ → List ℕ → Type 0
@@ -37,6 +43,28 @@ IsReplayedFor contents asked = IsReplayedBy contents (option_map (λ it. it.now)
 abbrev pub NamesInUse : Contents → List ℕ → Trees → Unserved → Type 0
 NamesInUse contents name db (PlanInUse service plan) = LacksPlan contents name db service plan
 NamesInUse contents name db (Fault fault) = ⊤
+
+-- a plan that is found in use is one, by the settings and the database of these files
+abbrev pub FindsInUse : Contents → Option (List ℕ) → Option (List ℕ) → Unserved → Type 0
+FindsInUse contents name database (PlanInUse service plan) =
+    LacksPlanOf contents (unwrap_or name []) (unwrap_or database []) service plan
+FindsInUse contents name database (Fault fault) = ⊤
+
+-- it was seen in the database of a file
+abbrev pub IsOfCopy : Contents → List ℕ → Seen → Type 0
+IsOfCopy contents name seen = (files : Copied) × IsCopyOf contents name files
+    × ((db : Trees) → HasTrees (image_in files) db → IsSeenAs db seen)
+
+-- the catalog has each plan that was seen in use
+abbrev pub OffersSeen : Rules → Seen → Type 0
+OffersSeen rules New = ⊤
+OffersSeen rules (Counted counts plans) = first_lacking rules plans.items ≡ None
+
+-- a plan was seen in use, and is the first that the catalog lacks
+abbrev pub LacksSeen : Rules → Seen → Unserved → Type 0
+LacksSeen rules (Counted counts plans) (PlanInUse service plan) = first_lacking rules plans.items ≡ Some (service, plan)
+LacksSeen rules (Counted counts plans) (Fault fault) = ⊥
+LacksSeen rules New fault = ⊥
 
 -- a fault of serving and the one that the command has for it name the same plan, or none
 abbrev pub NameOne : ListenFault → Unserved → Type 0
@@ -84,6 +112,7 @@ pub record AsksServe (found : FoundCommand) (asked : Listen) : Type 0 where
 pub record AsksCheck (found : FoundCommand) (asked : Check) : Type 0 where
   pub named : Names (codes "check") found
   pub settings : option_map (λ it. it.now) asked.settings ≡ text_in (codes "settings") found
+  pub explain : HasExplain found asked.explain
   pub database : option_map (λ it. it.now) asked.database ≡ text_in (codes "database") found
 
 pub record AsksBackup (found : FoundCommand) (asked : Backup) : Type 0 where
@@ -114,14 +143,16 @@ Asks found (order.Trim asked) = AsksTrim found asked
 abbrev pub IsOther : faults.Fault → Type 0
 IsOther (fault.Settings found) = ⊥
 IsOther (fault.Placed found place) = ⊥
+IsOther (fault.Unreadable reason) = ⊥
 IsOther _ = ⊤
 
 abbrev pub IsOtherUnserved : Unserved → Type 0
 IsOtherUnserved (Fault other) = IsOther other
 IsOtherUnserved (PlanInUse service plan) = ⊤
 
--- the same fault of settings, at its place where one was found
+-- the same fault of settings, at its place where one was found, or with the reason why there is no object
 abbrev pub IsPlacedBy : (List ℕ → Type 0) → SettingsFault → faults.Fault → Type 0
 IsPlacedBy IsText of (fault.Settings found) = found ≡ of
 IsPlacedBy IsText of (fault.Placed found place) = (found ≡ of) × HasPlace IsText of place
+IsPlacedBy IsText of (fault.Unreadable reason) = (of ≡ NoText) × HasReason IsText (string_bytes reason)
 IsPlacedBy IsText of _ = ⊤

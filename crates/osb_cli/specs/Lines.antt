@@ -2,7 +2,9 @@
 use Rattle.std.specs.Prelude.{ℕ, List, [], ◌∷◌, codes, decimal, string_bytes, Option, None, Some}
 use Rattle.std.specs.List.{concat}
 use Rattle.osb_catalog.specs.declared.fault.SettingsFault.{SettingsFault}
+use Rattle.osb_catalog.specs.declared.fault.SettingsFault.TheVariants as a
 use Rattle.osb_catalog.specs.declared.field.Field.{Field}
+use Rattle.osb_advice.specs.Wanted.{wanted}
 use Rattle.osb_catalog.specs.declared.found.Place.{Place}
 use Rattle.osb_catalog.specs.declared.found.Place.TheVariants as place
 use Rattle.osb_catalog.specs.FaultNames.{fault_number, fault_name, field_in}
@@ -36,6 +38,10 @@ place_line (place.Plan service at) = concat (codes "at catalog.services[" ∷ de
     ∷ codes "].plans[" ∷ decimal at ∷ codes "]\n" ∷ [])
 place_line (place.Mode name) = concat (codes "at modes." ∷ name ∷ codes "\n" ∷ [])
 
+-- and what it would have to be
+abbrev pub wanted_line : SettingsFault → Place → List ℕ
+wanted_line fault at = concat (wanted fault (Some at) ∷ codes "\n" ∷ [])
+
 -- the number and the name of a fault of the database
 abbrev pub database_fault_line : FileFault → List ℕ
 database_fault_line file.Refused = concat (codes "database: 1 Refused\n" ∷ [])
@@ -60,7 +66,9 @@ fault_lines (the.CannotListen address) =
 fault_lines the.CannotAccept = concat (codes "osb-broker: cannot accept\n" ∷ []) ∷ []
 fault_lines (the.Words text) = concat (string_bytes text ∷ []) ∷ []
 fault_lines (the.Settings fault) = settings_line fault (field_in fault) ∷ []
-fault_lines (the.Placed fault at) = settings_line fault (field_in fault) ∷ place_line at ∷ []
+fault_lines (the.Placed fault at) = settings_line fault (field_in fault) ∷ place_line at ∷ wanted_line fault at ∷ []
+fault_lines (the.Unreadable reason) =
+    settings_line a.Text None ∷ concat (string_bytes reason ∷ codes "\n" ∷ []) ∷ []
 fault_lines (the.Unseen cause) = unseen_lines cause
 fault_lines (the.IsThere name) = concat (codes "osb-broker: already there " ∷ name.now ∷ codes "\n" ∷ []) ∷ []
 fault_lines (the.DraftIsThere name) =
@@ -77,6 +85,7 @@ abbrev pub fault_status : Fault → ℕ
 fault_status (the.Words text) = 2
 fault_status (the.Settings fault) = 3
 fault_status (the.Placed fault at) = 3
+fault_status (the.Unreadable reason) = 3
 fault_status _ = 1
 
 abbrev pub unserved_status : Unserved → ℕ

@@ -1,6 +1,8 @@
 -- The fault that a command reports, and that one of the settings is one that they have.
-use Rattle.std.specs.Prelude.{◌≡◌, ◌≤◌, ℕ, List, Option, None, Some, Result, Err, IsOk, codes, ⊤}
+use Rattle.std.specs.Prelude.{◌≡◌, ◌≤◌, ℕ, List, Option, None, Some, Result, Err, IsOk, codes, string_bytes, ⊤}
+use Rattle.osb_advice.specs.Unreadable.{IsReason}
 use Rattle.osb_catalog.specs.declared.fault.SettingsFault.{SettingsFault}
+use Rattle.osb_catalog.specs.declared.fault.SettingsFault.TheVariants.{Text}
 use Rattle.osb_catalog.specs.declared.found.Place.{Place}
 use Rattle.osb_catalog.specs.Faults.{settings_of}
 use Rattle.osb_catalog.specs.Found.{place_of}
@@ -25,10 +27,16 @@ HasFault IsText fault = (text : List ℕ) × IsText text × (settings_of text �
 abbrev pub HasPlace : (List ℕ → Type 0) → SettingsFault → Place → Type 0
 HasPlace IsText fault place = (text : List ℕ) × IsText text × (place_of fault text ≡ Some place)
 
--- a fault of settings is one that such a text has, at the place that is said; any other has to do with none
+-- and this is why it has no object
+abbrev pub HasReason : (List ℕ → Type 0) → List ℕ → Type 0
+HasReason IsText reason = (text : List ℕ) × IsText text × IsReason text (Some reason)
+
+-- a fault of settings is one that such a text has, at the place or for the reason that is said; any other has to do with
+-- none
 abbrev pub IsOfText : (List ℕ → Type 0) → Fault → Type 0
 IsOfText IsText (the.Settings fault) = HasFault IsText fault
 IsOfText IsText (the.Placed fault place) = HasFault IsText fault × HasPlace IsText fault place
+IsOfText IsText (the.Unreadable reason) = HasFault IsText Text × HasReason IsText (string_bytes reason)
 IsOfText IsText _ = ⊤
 
 abbrev pub IsUnservedOf : (List ℕ → Type 0) → Unserved → Type 0

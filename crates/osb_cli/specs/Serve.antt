@@ -1,14 +1,18 @@
--- What `serve` did, and what it leaves of a database file, of which is supposed what it held.
-use Rattle.std.specs.Prelude.{ℕ, Bool, List, [], codes, unwrap_or}
+-- What `serve` did, and what it leaves of a database file, of which is supposed what it held. And the plans that keep it
+-- from serving, as `serve` and `check` find them.
+use Rattle.std.specs.Prelude.{◌⊎◌, ℕ, Bool, List, [], codes, unwrap_or}
 use Rattle.sqlite.specs.Tree.{Trees}
 use Rattle.sqlite.specs.State.{State}
 use Rattle.osb_catalog.specs.Rules.{rules_of}
 use Rattle.osb_catalog.specs.SettingsData.{SettingsData}
 use Rattle.osb_broker.specs.Conversations.{Conversation}
 use Rattle.osb_listen.specs.Held.{HasServed, IsInUse, LeavesFile, Serving}
-use Rattle.osb_cli.specs.Files.{Contents}
+use Rattle.osb_file.specs.declared.copied.Copied.{Copied}
+use Rattle.osb_file.specs.File.{HasTrees}
+use Rattle.osb_file.specs.Looked.{image_in}
+use Rattle.osb_cli.specs.Files.{Contents, IsCopyOf}
 use Rattle.osb_cli.specs.Settings.{AreOfFile}
-use Rattle.osb_cli.specs.Words.{FoundCommand, HasConnections, HasExisting, HasPerConnection, text_in}
+use Rattle.osb_cli.specs.Words.{FoundCommand, HasConnections, HasExisting, HasPerConnection, Names, text_in}
 
 -- the settings file that the words name
 abbrev pub settings_name : FoundCommand → List ℕ
@@ -40,6 +44,21 @@ pub record LacksPlan (contents : Contents) (name : List ℕ) (db : Trees) (servi
   pub settings : SettingsData
   pub are : AreOfFile contents name settings
   pub lacks : IsInUse (rules_of settings) db service plan
+
+-- the same, of the database of another file
+pub record LacksPlanOf (contents : Contents) (name database service plan : List ℕ) : Type 0 where
+  pub files : Copied
+  pub copy : IsCopyOf contents database files
+  pub lacks : (db : Trees) → HasTrees (image_in files) db → LacksPlan contents name db service plan
+
+-- the words name a command that may find a plan in use
+abbrev pub MayFindPlans : FoundCommand → Type 0
+MayFindPlans found = Names (codes "serve") found ⊎ Names (codes "check") found
+
+-- some plan that the database which the words name has in use is lacking
+abbrev pub FindsSome : Contents → FoundCommand → Type 0
+FindsSome contents found = (service plan : List ℕ)
+    × LacksPlanOf contents (settings_name found) (unwrap_or (text_in (codes "database") found) []) service plan
 
 -- some plan that the lives in these trees have in use is lacking
 abbrev pub NamesSome : Contents → FoundCommand → Trees → Type 0

@@ -51,6 +51,9 @@ HasConnections found = HasNumber 1000000 1000000 (one_text_in (codes "connection
 abbrev pub HasExisting : FoundCommand → Bool → Type 0
 HasExisting found = HasFlag (one_text_in (codes "existing") found)
 
+abbrev pub HasExplain : FoundCommand → Bool → Type 0
+HasExplain found = HasFlag (one_text_in (codes "explain") found)
+
 -- how many clients may be connected at the same time where nothing is asked for, by how many requests each may make
 abbrev pub default_together : ℕ → ℕ
 default_together per_connection = if per_connection == 1 then 64 else 1

@@ -2,10 +2,9 @@
 
 ghost use Rattle.std.specs.Prelude.{◌≡◌, ◌++◌, IfErr, IfOk, OnOk};
 ghost use Rattle.osb_file.specs.declared.copied.Copied.{Copied};
-ghost use Rattle.osb_file.specs.declared.seen.Seen.TheVariants.{Counted};
 ghost use Rattle.osb_file.specs.Looked.{image_in};
 ghost use Rattle.osb_file.specs.OneFile.{IsInOne};
-ghost use Rattle.osb_cli.specs.Done.{IsBackedUp, database_line};
+ghost use Rattle.osb_cli.specs.Done.{IsBackedUp, counted_line};
 ghost use Rattle.osb_cli.specs.Files.{IsCopyOf};
 ghost use Rattle.osb_cli.specs.Inside.{IsOther};
 
@@ -63,7 +62,7 @@ fn report<F: NamedFiles, W: Sink>(
     output: &mut W,
 ) -> Result<(), Fault<'static>>
     ensures written { OnOk result (W.taken output.new
-        ≡ W.taken output.old ++ database_line (Counted one.now.counts)) }
+        ≡ W.taken output.old ++ counted_line one.now.counts) }
     ensures other { IfErr result IsOther }
 {
     let written = write_counted(one.counts(), output);

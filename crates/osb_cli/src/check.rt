@@ -1,21 +1,26 @@
-//! `check`: whether a settings file is accepted, and what a database file has.
+//! `check`: whether a settings file is accepted, what a database file has, and whether a start with
+//! both lacks a plan.
 
-ghost use Rattle.std.specs.Prelude.{◌≡◌, ◌++◌, IfErr, OnOk, decimal, option_map};
-ghost use Rattle.osb_cli.specs.Done.{AreChecked, AreSettingsChecked, IsChecked, IsDatabaseChecked, IsLookedAt, counts_line, database_line};
+ghost use Rattle.std.specs.Prelude.{◌≡◌, ◌++◌, ℕ, List, true, IfErr, IfOk, OnOk, Some, decimal, length, option_map};
+ghost use Rattle.osb_advice.specs.Remarks.{remarks_of};
+ghost use Rattle.osb_catalog.specs.Rules.{rules_of};
+ghost use Rattle.osb_cli.specs.Done.{AreChecked, IsChecked, IsLookedAt, counted_line, counts_line, database_line};
 ghost use Rattle.osb_cli.specs.Files.{AreBytesOf};
-ghost use Rattle.osb_cli.specs.Inside.{IsOther, IsPlacedBy};
-ghost use Rattle.osb_cli.specs.Reported.{IsOfText, IsTextOf};
-ghost use Rattle.osb_file.specs.declared.seen.Seen.TheVariants.{Counted};
+ghost use Rattle.osb_cli.specs.Inside.{FindsInUse, IsOfCopy, IsOther, IsPlacedBy, LacksSeen, OffersSeen};
+ghost use Rattle.osb_cli.specs.Reported.{IsOfText, IsTextOf, IsUnservedOf};
+ghost use Rattle.osb_cli.specs.Settings.{AreOfFile};
 
-use crate::fault::Fault;
+use crate::fault::{Fault, Unserved};
 use crate::files::NamedFiles;
 use crate::input::read_file;
 use crate::output::write;
 use crate::settings::read_settings;
 use crate::words::Check;
 use itoa::Buffer;
+use osb_advice::{remarks, unreadable};
 use osb_audit::Counts;
-use osb_catalog::{SettingsFault, place_of};
+use osb_broker::first_lacking;
+use osb_catalog::{Settings, SettingsFault, place_of};
 use osb_file::Seen;
 use osb_frames::Sink;
 use std::alloc::Global;
@@ -56,7 +61,7 @@ pub(crate) fn write_number<W: Sink>(
 /// Writes the line of a database that has so much of everything. It takes no memory.
 pub(crate) fn write_counted<W: Sink>(counts: Counts, output: &mut W) -> Result<(), Fault<'static>>
     ensures written { OnOk result (W.taken output.new
-        ≡ W.taken output.old ++ database_line (Counted counts)) }
+        ≡ W.taken output.old ++ counted_line counts) }
     ensures other { IfErr result IsOther }
 {
     write_number(b"instances ", counts.instances, output)?;
@@ -66,34 +71,59 @@ pub(crate) fn write_counted<W: Sink>(counts: Counts, output: &mut W) -> Result<(
 }
 
 /// Writes the line of a database. It takes no memory.
-fn write_database<W: Sink>(seen: Seen, output: &mut W) -> Result<(), Fault<'static>>
+fn write_database<W: Sink>(seen: &Seen, output: &mut W) -> Result<(), Fault<'static>>
     ensures written { OnOk result (W.taken output.new
-        ≡ W.taken output.old ++ database_line seen) }
+        ≡ W.taken output.old ++ database_line seen.now) }
     ensures other { IfErr result IsOther }
 {
     match seen {
         Seen::New => write(output, b"new\n"),
-        Seen::Counted(counts) => write_counted(counts, output),
+        Seen::Counted(counts, _) => write_counted(*counts, output),
     }
 }
 
-/// Prints the number of services and of plans in the catalog of a settings file.
-fn check_file<'a, F: NamedFiles, W: Sink>(
+/// Prints the number of services and of plans in the catalog of a settings file, and gives its
+/// settings.
+fn read_checked<'a, F: NamedFiles, W: Sink>(
     alloc: Global,
     files: &F,
     name: &'a str,
     output: &mut W,
-) -> Result<(), Fault<'a>>
-    ensures checked { OnOk result (IsChecked (F.contents files.now) name.entry.now
-        (W.taken output.old) (W.taken output.new)) }
+) -> Result<Settings, Fault<'a>>
+    ensures are { IfOk result (AreOfFile (F.contents files.now) name.entry.now) }
+    ensures written { IfOk result (λ settings. W.taken output.new
+        ≡ W.taken output.old ++ counts_line (length settings.services) (length settings.plans)) }
     ensures fault { IfErr result (IsOfText (AreBytesOf (F.contents files.now) name.entry.now)) }
 {
     let settings = read_settings(alloc, files, name)?;
     let (services, plans) = settings.counts();
-    write_counts(services, plans, output)
+    write_counts(services, plans, output)?;
+    Ok(settings)
 }
 
-/// The fault of the file with the place where it is. The file is read again.
+/// The fault of this text, with the place where it is.
+fn with_place(alloc: Global, fault: SettingsFault, text: &[u8]) -> Fault<'static>
+    ensures { IsPlacedBy (λ it. it ≡ text.now) fault result }
+{
+    match place_of(alloc, fault, text) {
+        Ok(Some(place)) => Fault::Placed(fault, place),
+        Ok(None) => Fault::Settings(fault),
+        Err(_) => Fault::OutOfMemory,
+    }
+}
+
+/// The fault of a text without an object, with the reason.
+fn with_reason(alloc: Global, text: &[u8]) -> Fault<'static>
+    ensures { IsPlacedBy (λ it. it ≡ text.now) SettingsFault.Text result }
+{
+    match unreadable(alloc, text) {
+        Ok(Some(reason)) => Fault::Unreadable(reason),
+        Ok(None) => Fault::Settings(SettingsFault::Text),
+        Err(_) => Fault::OutOfMemory,
+    }
+}
+
+/// The fault of the file, with its place or its reason. The file is read again.
 fn placed<'a, F: NamedFiles>(
     alloc: Global,
     files: &F,
@@ -106,65 +136,122 @@ fn placed<'a, F: NamedFiles>(
         Ok(text) => text,
         Err(fault) => return fault,
     };
-    match place_of(alloc, fault, text.as_slice()) {
-        Ok(Some(place)) => Fault::Placed(fault, place),
-        Ok(None) => Fault::Settings(fault),
-        Err(_) => Fault::OutOfMemory,
+    match fault {
+        SettingsFault::Text => with_reason(alloc, text.as_slice()),
+        _ => with_place(alloc, fault, text.as_slice()),
     }
 }
 
-/// Checks the settings file, where one is named.
+/// Prints the remarks on a settings file. The file is read again.
+fn write_remarks<'a, F: NamedFiles, W: Sink>(
+    alloc: Global,
+    files: &F,
+    name: &'a str,
+    output: &mut W,
+) -> Result<(), Fault<'a>>
+    ensures written { OnOk result ((text : List ℕ)
+        × AreBytesOf (F.contents files.now) name.entry.now text
+        × (W.taken output.new ≡ W.taken output.old ++ remarks_of text)) }
+    ensures other { IfErr result IsOther }
+{
+    let text = read_file(alloc, files, name)?;
+    let remarks = remarks(alloc, text.as_slice())?;
+    write(output, remarks.as_bytes())
+}
+
+/// Checks a settings file, and says more of it than whether it is accepted.
+fn explain_settings<'a, F: NamedFiles, W: Sink>(
+    alloc: Global,
+    files: &F,
+    name: &'a str,
+    output: &mut W,
+) -> Result<Settings, Fault<'a>>
+    ensures are { IfOk result (AreOfFile (F.contents files.now) name.entry.now) }
+    ensures checked { OnOk result (IsChecked (F.contents files.now) name.entry.now true
+        (W.taken output.old) (W.taken output.new)) }
+    ensures fault { IfErr result (IsOfText (AreBytesOf (F.contents files.now) name.entry.now)) }
+{
+    match read_checked(alloc, files, name, output) {
+        Ok(settings) => {
+            write_remarks(alloc, files, name, output)?;
+            Ok(settings)
+        }
+        Err(Fault::Settings(fault)) => Err(placed(alloc, files, name, fault)),
+        Err(fault) => Err(fault),
+    }
+}
+
+/// Checks a settings file.
 fn check_settings<'a, F: NamedFiles, W: Sink>(
     alloc: Global,
     files: &F,
-    asked: &Check<'a>,
+    name: &'a str,
+    explain: bool,
     output: &mut W,
-) -> Result<(), Fault<'a>>
-    ensures checked { OnOk result (AreSettingsChecked (F.contents files.now)
-        (option_map (λ it. it.now) asked.now.settings) (W.taken output.old) (W.taken output.new)) }
-    ensures fault { IfErr result (IsOfText (IsTextOf (F.contents files.now)
-        (option_map (λ it. it.now) asked.now.settings))) }
+) -> Result<Settings, Fault<'a>>
+    ensures are { IfOk result (AreOfFile (F.contents files.now) name.entry.now) }
+    ensures checked { OnOk result (IsChecked (F.contents files.now) name.entry.now explain
+        (W.taken output.old) (W.taken output.new)) }
+    ensures fault { IfErr result (IsOfText (AreBytesOf (F.contents files.now) name.entry.now)) }
 {
-    let Some(name) = asked.settings else {
-        return Ok(());
-    };
-    match check_file(alloc, files, name, output) {
-        Err(Fault::Settings(fault)) if asked.explain => Err(placed(alloc, files, name, fault)),
-        checked => checked,
+    if explain {
+        explain_settings(alloc, files, name, output)
+    } else {
+        read_checked(alloc, files, name, output)
     }
 }
 
-/// Prints what the database of a file has.
+/// Prints what the database of a file has, and gives it.
 fn look_at<'a, F: NamedFiles, W: Sink>(
     alloc: Global,
     files: &F,
     path: &str,
     output: &mut W,
-) -> Result<(), Fault<'a>>
+) -> Result<Seen, Fault<'a>>
     ensures looked { OnOk result (IsLookedAt (F.contents files.now) path.now
         (W.taken output.old) (W.taken output.new)) }
+    ensures seen { IfOk result (IsOfCopy (F.contents files.now) path.now) }
     ensures other { IfErr result IsOther }
 {
     let copied = files.read_database(path)?;
     let seen = copied.look(alloc)?;
-    write_database(seen, output)
+    write_database(&seen, output)?;
+    Ok(seen)
 }
 
-/// Looks at the database file, where one is named.
-fn check_database<'a, F: NamedFiles, W: Sink>(
-    alloc: Global,
-    files: &F,
-    asked: &Check<'a>,
-    output: &mut W,
-) -> Result<(), Fault<'a>>
-    ensures checked { OnOk result (IsDatabaseChecked (F.contents files.now)
-        (option_map (λ it. it.now) asked.now.database) (W.taken output.old) (W.taken output.new)) }
-    ensures other { IfErr result IsOther }
+/// Refuses a database that has a plan in use which the settings lack.
+fn check_plans(settings: &Settings, seen: Seen) -> Result<(), Unserved<'static>>
+    ensures ok { OnOk result (OffersSeen (rules_of settings.now) seen) }
+    ensures lacks { IfErr result (LacksSeen (rules_of settings.now) seen) }
 {
-    match asked.database {
-        Some(path) => look_at(alloc, files, path, output),
+    let Seen::Counted(_, plans) = seen else {
+        return Ok(());
+    };
+    match first_lacking(settings, plans) {
+        Some((service, plan)) => Err(Unserved::PlanInUse(service, plan)),
         None => Ok(()),
     }
+}
+
+/// Checks both files, and whether a start with the two would lack a plan.
+fn check_both<'a, F: NamedFiles, W: Sink>(
+    alloc: Global,
+    files: &F,
+    name: &'a str,
+    explain: bool,
+    path: &str,
+    output: &mut W,
+) -> Result<(), Unserved<'a>>
+    ensures checked { OnOk result (AreChecked (F.contents files.now) explain
+        (Some name.entry.now) (Some path.now) (W.taken output.old) (W.taken output.new)) }
+    ensures lacks { IfErr result (FindsInUse (F.contents files.now)
+        (Some name.entry.now) (Some path.now)) }
+    ensures fault { IfErr result (IsUnservedOf
+        (AreBytesOf (F.contents files.now) name.entry.now)) }
+{
+    let settings = check_settings(alloc, files, name, explain, output)?;
+    let seen = look_at(alloc, files, path, output)?;
+    check_plans(&settings, seen)
 }
 
 /// The fault of words that name no file.
@@ -186,16 +273,26 @@ pub(crate) fn check<'a, F: NamedFiles, W: Sink>(
     files: &F,
     asked: &Check<'a>,
     output: &mut W,
-) -> Result<(), Fault<'a>>
-    ensures checked { OnOk result (AreChecked (F.contents files.now)
+) -> Result<(), Unserved<'a>>
+    ensures checked { OnOk result (AreChecked (F.contents files.now) asked.now.explain
         (option_map (λ it. it.now) asked.now.settings)
         (option_map (λ it. it.now) asked.now.database) (W.taken output.old) (W.taken output.new)) }
-    ensures fault { IfErr result (IsOfText (IsTextOf (F.contents files.now)
+    ensures lacks { IfErr result (FindsInUse (F.contents files.now)
+        (option_map (λ it. it.now) asked.now.settings)
+        (option_map (λ it. it.now) asked.now.database)) }
+    ensures fault { IfErr result (IsUnservedOf (IsTextOf (F.contents files.now)
         (option_map (λ it. it.now) asked.now.settings))) }
 {
-    if asked.settings.is_none() && asked.database.is_none() {
-        return Err(no_file(alloc));
+    match (asked.settings, asked.database) {
+        (None, None) => Err(Unserved::from(no_file(alloc))),
+        (Some(name), None) => {
+            check_settings(alloc, files, name, asked.explain, output)?;
+            Ok(())
+        }
+        (None, Some(path)) => {
+            look_at(alloc, files, path, output)?;
+            Ok(())
+        }
+        (Some(name), Some(path)) => { check_both(alloc, files, name, asked.explain, path, output) }
     }
-    check_settings(alloc, files, asked, output)?;
-    check_database(alloc, files, asked, output)
 }

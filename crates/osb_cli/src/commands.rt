@@ -8,12 +8,12 @@ ghost use Rattle.sqlite.specs.Held.{state};
 ghost use Rattle.osb_file.specs.File.{HasTrees};
 ghost use Rattle.osb_broker.specs.BrokerState.{Works};
 ghost use Rattle.osb_cli.specs.Done.{IsDone, IsReplayedBy};
-ghost use Rattle.osb_cli.specs.Inside.{IsOther, IsReplayedFor, IsPlan, NamesInUse};
+ghost use Rattle.osb_cli.specs.Inside.{FindsInUse, IsOther, IsReplayedFor, IsPlan, NamesInUse};
 ghost use Rattle.osb_cli.specs.Reported.{IsOfText, IsReported, IsSettingsText, IsStatusOf, IsTextOf, IsUnservedOf, Reports};
 ghost use Rattle.osb_cli.specs.declared.fault.Unserved.TheVariants as Unserved;
 ghost use Rattle.osb_listen.specs.Held.{Serving};
-ghost use Rattle.osb_cli.specs.Serve.{HasServedAs, LeavesAs, NamesSome, settings_name};
-ghost use Rattle.osb_cli.specs.Words.{AreTaken, Names, found_by};
+ghost use Rattle.osb_cli.specs.Serve.{FindsSome, HasServedAs, LeavesAs, MayFindPlans, NamesSome, settings_name};
+ghost use Rattle.osb_cli.specs.Words.{AreTaken, Names, found_by, text_in};
 
 use crate::backup::backup;
 use crate::check::check;
@@ -118,8 +118,13 @@ fn perform<'a, D: Database, F: NamedFiles, L: Entrance, R: Source, W: Sink, E: S
         (IsSettingsText (F.contents files.now) (found_by (map string_bytes words.now)))) }
     ensures unopened { ¬ Names (codes "serve") (found_by (map string_bytes words.now)) →
         result.1 ≡ None }
-    ensures serves { IfErr result.0 (λ fault. IsPlan fault →
-        Names (codes "serve") (found_by (map string_bytes words.now))) }
+    ensures finds { IfErr result.0 (λ fault. IsPlan fault →
+        MayFindPlans (found_by (map string_bytes words.now))) }
+    ensures checks { IfErr result.0 (λ fault.
+        Names (codes "check") (found_by (map string_bytes words.now)) →
+        FindsInUse (F.contents files.now)
+        (text_in (codes "settings") (found_by (map string_bytes words.now)))
+        (text_in (codes "database") (found_by (map string_bytes words.now))) fault) }
     ensures lacks { IfErr result.0 (λ fault. IfSome result.1 (λ conn.
         Works (state D.Store.Store conn) →
         (db : Trees) → HasTrees (D.held database) db →
@@ -132,7 +137,7 @@ fn perform<'a, D: Database, F: NamedFiles, L: Entrance, R: Source, W: Sink, E: S
     };
     match order {
         Job::Backup(asked) => without_file::<D>(backup(rt.alloc(), files, &asked, output)),
-        Job::Check(asked) => without_file::<D>(check(rt.alloc(), files, &asked, output)),
+        Job::Check(asked) => (check(rt.alloc(), files, &asked, output), None),
         Job::Replay(asked) => without_file::<D>(replay(rt.alloc(), files, &asked, input, output)),
         Job::Trim(asked) => without_file::<D>(trim(rt.alloc(), files, &asked, output)),
         Job::Serve(asked) => listen(rt, files, &asked, database, entrance, output, errors),
@@ -213,8 +218,9 @@ pub fn run<D: Database, F: NamedFiles, L: Entrance, R: Source, W: Sink, E: Sink>
         result.1 ≡ None }
     ensures opened { AreTaken (map string_bytes words.now) → result.0 ≡ 0 →
         Names (codes "serve") (found_by (map string_bytes words.now)) → IsSome result.1 }
-    ensures serves { result.0 ≡ 4 →
-        Names (codes "serve") (found_by (map string_bytes words.now)) }
+    ensures finds { result.0 ≡ 4 → MayFindPlans (found_by (map string_bytes words.now)) }
+    ensures checks { result.0 ≡ 4 → Names (codes "check") (found_by (map string_bytes words.now)) →
+        FindsSome (F.contents files.now) (found_by (map string_bytes words.now)) }
     ensures lacks { result.0 ≡ 4 → IfSome result.1 (λ conn. Works (state D.Store.Store conn) →
         (db : Trees) → HasTrees (D.held database) db →
         NamesSome (F.contents files.now) (found_by (map string_bytes words.now)) db) }

@@ -1,12 +1,12 @@
 //! Why a command ends with another status than 0.
 
-ghost use Rattle.std.specs.Prelude.{◌≡◌, ◌≤◌, ◌∷◌, [], map};
-ghost use Rattle.std.specs.List.{concat};
+ghost use Rattle.std.specs.Prelude.{◌≡◌, ◌≤◌, ◌∷◌, []};
 ghost use Rattle.osb_catalog.specs.FaultNames.{field_in};
 ghost use Rattle.osb_listen.specs.Lines.{Says};
 ghost use Rattle.osb_cli.specs.Lines.{database_fault_line, place_line, settings_line, unseen_lines};
 
 use itoa::Buffer;
+use osb_advice::wanted;
 use osb_catalog::{Place, SettingsFault};
 use osb_file::{FileFault, Unseen};
 use osb_frames::Sink;
@@ -38,6 +38,8 @@ pub(crate) enum Fault<'a> {
     Settings(SettingsFault),
     /// The same, and where in them the fault is.
     Placed(SettingsFault, Place),
+    /// The settings have no object, for this reason.
+    Unreadable(String),
     /// The database file can't be looked at.
     Unseen(Unseen),
     /// The file of that name, which is to be made, is there already.
@@ -48,7 +50,7 @@ pub(crate) enum Fault<'a> {
     CannotMake(&'a str),
 }
 
-/// Why `serve` ends with another status than 0.
+/// Why `serve` ends with another status than 0, or would end, as `check` finds.
 #[derive(Debug, Drop)]
 pub(crate) enum Unserved<'a> {
     /// As another command might.
@@ -201,7 +203,7 @@ impl Fault<'_> {
             | Fault::DraftIsThere(_)
             | Fault::CannotMake(_) => 1,
             Fault::Words(_) => 2,
-            Fault::Settings(_) | Fault::Placed(_, _) => 3,
+            Fault::Settings(_) | Fault::Placed(_, _) | Fault::Unreadable(_) => 3,
         }
     }
 
@@ -227,6 +229,11 @@ impl Fault<'_> {
             Fault::Placed(fault, place) => {
                 print_settings_fault(*fault, errors);
                 print_place(place, errors);
+                say(errors, &[wanted(*fault, Some(place)), "\n"]);
+            }
+            Fault::Unreadable(reason) => {
+                print_settings_fault(SettingsFault::Text, errors);
+                say(errors, &[reason.as_str(), "\n"]);
             }
             Fault::Unseen(unseen) => print_unseen(*unseen, errors),
             Fault::IsThere(file) => say(errors, &["osb-broker: already there ", file, "\n"]),

@@ -1,6 +1,6 @@
 //! The files that a command names.
 
-ghost use Rattle.std.specs.Prelude.{◌≡◌, ℕ, List, IfOk, OnOk};
+ghost use Rattle.std.specs.Prelude.{ℕ, List, IfOk, OnOk};
 ghost use Rattle.osb_cli.specs.Files.{AreBytesOf, Contents, IsCopyOf};
 
 use crate::input::{ReadFault, read_whole};

@@ -43,13 +43,18 @@ const CHECK: &str = "Check a settings file, a database file, or both";
 
 const CHECK_MORE: &str = "Of a settings file it prints the number of services and of plans in the
 catalog, as `services 1, plans 2`; or on standard error the first fault of the
-settings, as `settings: 2 Missing id`, and with `--explain` where it is, as
-`at catalog.services[0].plans[1]`. docs/SETTINGS.md lists the fields and the
-faults.
+settings, as `settings: 2 Missing id`. docs/SETTINGS.md lists the fields and
+the faults. With `--explain` it also says where the fault is, as
+`at catalog.services[0].plans[1]`, and what is wanted there. Of settings that
+are accepted it then says how each plan's orders are carried out, which names
+are read past, as `read past: modes.own.instance`, and more that is hardly meant.
 Of a database file it prints what it has, as `instances 2, bindings 1, running
-0`, or `new` where it has no tables yet; or on standard error why `serve` wouldn't open it, as `database: 1 Refused`
-and behind it `in use`. It reads the file and its log into memory and changes
-neither, so it may look at a backup, or at the file of a broker that runs.";
+0`, or `new` where it has no tables yet; or on standard error why `serve`
+wouldn't open it, as `database: 1 Refused` and behind it `in use`. It reads the
+file and its log into memory and changes neither, so it may look at a backup, or
+at the file of a broker that runs.
+With both, a plan in use that the settings lack is reported as by a start, as
+`plan in use: SERVICE PLAN`, with status 4.";
 
 const REPLAY: &str = "Answer the requests in files or on standard input";
 
@@ -244,7 +249,7 @@ fn check_command<'a>(alloc: Global) -> Result<Command<'a>, Error>
     ensures err { IfErr result (λ error. kind_of error ≡ ErrorKind.OutOfMemory) }
 {
     let usage = "osb-broker check [--explain] [--database FILE] [FILE]";
-    let place = "Says where in the settings a fault is";
+    let place = "Says where a fault is and what is wanted, or what is hardly meant";
     let path = "A database file to look at";
     Ok(
         begun(alloc, "check", CHECK, CHECK_MORE, usage)

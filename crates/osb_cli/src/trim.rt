@@ -1,11 +1,7 @@
 //! `trim`: a database file, written anew without what no answer rests on.
 
 ghost use Rattle.std.specs.Prelude.{◌≡◌, ◌++◌, IfErr, IfOk, OnOk, length};
-ghost use Rattle.osb_file.specs.declared.copied.Copied.{Copied};
-ghost use Rattle.osb_file.specs.Looked.{image_in};
-ghost use Rattle.osb_file.specs.Trimmed.{IsTrimmedInOne};
 ghost use Rattle.osb_cli.specs.Done.{IsTrimmed, trimmed_line};
-ghost use Rattle.osb_cli.specs.Files.{IsCopyOf};
 ghost use Rattle.osb_cli.specs.Inside.{IsOther, IsTrimmedOf};
 
 use crate::backup::unmade;

@@ -1,7 +1,6 @@
 //! What the words of a command line ask for.
 
-ghost use Rattle.std.specs.Prelude.{◌≡◌, ◌≢◌, ◌*◌, ℕ, List, map, true, IfOk, IfErr, string_bytes, Some, None, [], codes, unwrap_or};
-ghost use Rattle.std.specs.Duration.{as_nanos};
+ghost use Rattle.std.specs.Prelude.{◌≡◌, ◌≢◌, ℕ, List, map, IfOk, IfErr, string_bytes, Some, None, codes, unwrap_or};
 ghost use Rattle.clap.specs.Words.{kind_of, found_of, rows_of};
 ghost use Rattle.osb_cli.specs.Words.{AreTaken, HasNumber, default_together, found_by};
 ghost use Rattle.osb_cli.specs.Inside.{Asks, one_text_of, option_texts_of};

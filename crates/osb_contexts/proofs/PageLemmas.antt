@@ -162,11 +162,11 @@ IsOne row = column row 1 ≡ Int (pos 1)
 
 module _ (passes : Row → Bool) (most : ℕ) (table rows : List Row) (page : IsPage passes most table rows) where
   -- fewer rows than were asked for are all that pass
-  whole_page : length rows < most → IsPermutation (map page.told (filter passes table)) rows
-  whole_page few = subst (IsPermutation (map page.told (filter passes table))) (sym (page.first ∙ few_are_all most page.all (subst (λ (read : List Row). length read < most) page.first few))) page.same
+  whole_page : length rows < most → IsPermutation (map page.shown (filter passes table)) rows
+  whole_page few = subst (IsPermutation (map page.shown (filter passes table))) (sym (page.first ∙ few_are_all most page.all (subst (λ (read : List Row). length read < most) page.first few))) page.same
 
   -- those below the id of one of them are among them
-  rows_below : (id : Value) → HasId id rows → IsPermutation (map page.told (filter (is_below id) (filter passes table))) (filter (is_below id) rows)
+  rows_below : (id : Value) → HasId id rows → IsPermutation (map page.shown (filter (is_below id) (filter passes table))) (filter (is_below id) rows)
   rows_below id has =
       let rest = rest_behind _ most page.all page.rising has.place has.row (subst (λ (read : List Row). slice_get read has.place ≡ Some has.row) page.first has.is) in
       let none : filter (is_below id) (drop most page.all) ≡ [] =
@@ -174,23 +174,23 @@ module _ (passes : Row → Bool) (most : ℕ) (table rows : List Row) (page : Is
       let found : filter (is_below id) page.all ≡ filter (is_below id) rows =
       ap (filter (is_below id)) (sym (take-append-drop most page.all)) ∙ filter-append (is_below id) (take most page.all) (drop most page.all) ∙ ap (λ end. filter (is_below id) (take most page.all) ++ end) none
       ∙ append-nil (filter (is_below id) (take most page.all)) ∙ ap (filter (is_below id)) (sym page.first) in
-      let those : filter (is_below id) (map page.told (filter passes table)) ≡ map page.told (filter (is_below id) (filter passes table)) =
-      filter-map (is_below id) page.told (filter passes table) ∙ ap (map page.told) (filter_same _ (is_below id) (λ row. ap (λ v. is_lt (value_cmp v id)) (page.tells.ids row)) (filter passes table)) in
+      let those : filter (is_below id) (map page.shown (filter passes table)) ≡ map page.shown (filter (is_below id) (filter passes table)) =
+      filter-map (is_below id) page.shown (filter passes table) ∙ ap (map page.shown) (filter_same _ (is_below id) (λ row. ap (λ v. is_lt (value_cmp v id)) (page.shows.ids row)) (filter passes table)) in
       subst₂ IsPermutation those found (IsPermutation-filter (is_below id) _ _ page.same)
 
-  each_read : (P : Row → Type 0) → AllByRecursion (λ row. P (page.told row)) (filter passes table) → AllByRecursion P rows
-  each_read P all = subst (AllByRecursion P) (sym page.first) (all_taken P most page.all (all-permutation P _ _ page.same (all_map P page.told (filter passes table) all)))
+  each_read : (P : Row → Type 0) → AllByRecursion (λ row. P (page.shown row)) (filter passes table) → AllByRecursion P rows
+  each_read P all = subst (AllByRecursion P) (sym page.first) (all_taken P most page.all (all-permutation P _ _ page.same (all_map P page.shown (filter passes table) all)))
 
   -- where all rows of the table are named, those of the page are
   named_read : AreNamed table → AllByRecursion IsOne rows
-  named_read all = each_read IsOne (all_weaker _ _ (λ row is. (page.tells.named row).1 is) (filter passes table) (all-filter _ passes table all))
+  named_read all = each_read IsOne (all_weaker _ _ (λ row is. (page.shows.named row).1 is) (filter passes table) (all-filter _ passes table all))
 
-  module _ (part read : List Row) (same : IsPermutation (map page.told part) read) where
+  module _ (part read : List Row) (same : IsPermutation (map page.shown part) read) where
     rowids_of : AreRowids read → HaveRowids part
-    rowids_of = have_rowids page.told page.tells.ids part read same
+    rowids_of = have_rowids page.shown page.shows.ids part read same
 
     names_of : AllByRecursion IsOne read → AreNamed part
-    names_of all = all_weaker _ _ (λ row is. (page.tells.named row).0 is) part (all_unmap IsOne page.told part (all-permutation IsOne _ _ (IsPermutation-sym _ _ same) all))
+    names_of all = all_weaker _ _ (λ row is. (page.shows.named row).0 is) part (all_unmap IsOne page.shown part (all-permutation IsOne _ _ (IsPermutation-sym _ _ same) all))
 
 -- the first page
 module _ (most : ℕ) (table rows : List Row) (page : IsPage (λ _. true) most table rows) (named : Bool) (are : AreRowids rows) (says : (named ≡ true) ↔ AllByRecursion IsOne rows) where
@@ -199,10 +199,10 @@ module _ (most : ℕ) (table rows : List Row) (page : IsPage (λ _. true) most t
 
   pub first_read : (next : Option ℤ) → IsNext most rows next → AreReadTo table named next
   first_read None few =
-      let same = subst (λ (part : List Row). IsPermutation (map page.told part) rows) (all_in table) (whole_page any most table rows page few) in
+      let same = subst (λ (part : List Row). IsPermutation (map page.shown part) rows) (all_in table) (whole_page any most table rows page few) in
       (rowids_of any most table rows page table rows same are, (λ is. names_of any most table rows page table rows same (says.0 is), λ all. says.1 (named_read any most table rows page all)))
   first_read (Some id) has =
-      let same = subst (λ (part : List Row). IsPermutation (map page.told (filter (is_below (Int id)) part)) (filter (is_below (Int id)) rows)) (all_in table) (rows_below any most table rows page (Int id) has) in record {
+      let same = subst (λ (part : List Row). IsPermutation (map page.shown (filter (is_below (Int id)) part)) (filter (is_below (Int id)) rows)) (all_in table) (rows_below any most table rows page (Int id) has) in record {
         rowids = rowids_of any most table rows page _ _ same (rowids_below (Int id) rows are);
         named_below = λ is. names_of any most table rows page _ _ same (all-filter IsOne (is_below (Int id)) rows (says.0 is));
         all_named = λ all. says.1 (named_read any most table rows page all);
@@ -254,7 +254,7 @@ module _ (most : ℕ) (table rows : List Row) (from : ℤ) (page : IsPage (is_fr
       let up : is_lt (value_cmp (Int id) (Int from)) ≡ false =
       ap (λ v. is_lt (value_cmp v (Int from))) (sym has.id_is)
       ∙ all-slice_get (λ row. is_below (Int from) row ≡ false) rows has.place has.row has.is
-      (each_read (is_from (Int from)) most table rows page (λ row. is_below (Int from) row ≡ false) (all_weaker _ _ (λ row is. ap (λ v. is_lt (value_cmp v (Int from))) (page.tells.ids row) ∙ is) rest rest_high)) in
+      (each_read (is_from (Int from)) most table rows page (λ row. is_below (Int from) row ≡ false) (all_weaker _ _ (λ row is. ap (λ v. is_lt (value_cmp v (Int from))) (page.shows.ids row) ∙ is) rest rest_high)) in
       let below = filter (is_below (Int id)) table in
       let later = filter (is_below (Int id)) rest in
       let parts : IsPermutation below (first ++ later) =
@@ -304,8 +304,8 @@ module _ (tree : ℕ) (db : Trees) (tests : List Term) (limit : Term) (params : 
       let found : IsPermutation (map told kept) a.ordered =
       subst (λ own. IsPermutation (map told own) a.ordered) (filter_same _ _ is (seen tree) ∙ ap (filter passes) sees) (answered tree tests named_cells by_rowid limit seen params rows a) in
       let keyed : AllByRecursion HasKey a.ordered = all-permutation HasKey _ _ found (all-map HasKey told (λ row. refl) kept) in record {
-        told = λ row. column row 0 ∷ named_cell row ∷ [];
-        tells = record { ids = λ _. refl; named = named_is };
+        shown = λ row. column row 0 ∷ named_cell row ∷ [];
+        shows = record { ids = λ _. refl; named = named_is };
         all = map (λ (o : Output). o.1) a.ordered;
         same = subst (λ shown. IsPermutation shown (map (λ (o : Output). o.1) a.ordered)) (map-map (λ (o : Output). o.1) told kept) (IsPermutation-map (λ (o : Output). o.1) _ _ found);
         rising = told_in_order (λ x y. is_gt (output_cmp query x y) ≡ false) (λ v w. is_gt (value_cmp (rowid v) (rowid w)) ≡ false) HasKey (λ (o : Output). o.1)

@@ -26,16 +26,16 @@ abbrev pub is_below : Value → Row → Bool
 is_below id row = is_lt (value_cmp (rowid row) id)
 
 -- a row is shown with its id, and with 1 where it has the id of an instance
-pub record Tells (told : Row → Row) : Type 0 where
-  pub ids : (row : Row) → rowid (told row) ≡ rowid row
-  pub named : (row : Row) → (column (told row) 1 ≡ Int (pos 1)) ↔ (is_row_between [] beyond row ≡ true)
+pub record ShowsNamed (shown : Row → Row) : Type 0 where
+  pub ids : (row : Row) → rowid (shown row) ≡ rowid row
+  pub named : (row : Row) → (column (shown row) 1 ≡ Int (pos 1)) ↔ (is_row_between [] beyond row ≡ true)
 
 -- The rows show the first so many of those that pass, by their ids.
 pub record IsPage (passes : Row → Bool) (most : ℕ) (table rows : List Row) : Type 0 where
-  pub told : Row → Row
-  pub tells : Tells told
+  pub shown : Row → Row
+  pub shows : ShowsNamed shown
   pub all : List Row
-  pub same : IsPermutation (map told (filter passes table)) all
+  pub same : IsPermutation (map shown (filter passes table)) all
   pub rising : IsAscending (λ a b. is_gt (value_cmp (rowid a) (rowid b)) ≡ false) all
   pub first : rows ≡ take most all
 

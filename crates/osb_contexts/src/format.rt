@@ -1,6 +1,6 @@
 //! The table of the format, which holds one version.
 
-ghost use Rattle.std.specs.Prelude.{◌≡◌, [], IsTrue, OnOk};
+ghost use Rattle.std.specs.Prelude.{◌≡◌, [], IsTrue};
 ghost use Rattle.sqlite.specs.State.{HasCleanDisk};
 ghost use Rattle.osb_tables.specs.Tables.{second_schema};
 ghost use Rattle.osb_contexts.specs.Inside.{ShowsSchema};

@@ -1,8 +1,7 @@
 //! The ids of a table's rows, and whether the rows have ids of instances, in pages.
 
-ghost use Rattle.std.specs.Prelude.{◌≡◌, ◌↔◌, ◌<◌, ℕ, not, true, false, IfOk, IfSome, length};
+ghost use Rattle.std.specs.Prelude.{◌≡◌, ◌↔◌, ◌<◌, not, true, false, IfOk, length};
 ghost use Rattle.sqlite.specs.declared.types.Value.TheVariants.{Int};
-ghost use Rattle.sqlite.specs.State.{HasCleanDisk};
 ghost use Rattle.osb_tables.specs.Tables.{second_schema};
 ghost use Rattle.osb_contexts.specs.Inside.{ShowsSchema};
 ghost use Rattle.osb_contexts.specs.Pages.{tree_of, is_below, IsPage, IsNext, IsPageOf, AreRead, AreReadTo};

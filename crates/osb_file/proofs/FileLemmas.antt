@@ -35,7 +35,7 @@ use Rattle.osb_file.specs.declared.seen.Seen.TheVariants as seen
 use Rattle.osb_file.specs.File.{AreLivesOf, HasNoTables, HasTrees, IsOriginOf, KeepsLivesOf}
 use Rattle.osb_file.specs.Database.{IsOpenedTo}
 use Rattle.osb_file.specs.Looked.{IsSeenAs}
-use Rattle.osb_file.specs.Inside.{IsSeenIn}
+use Rattle.osb_file.specs.Inside.{IsSeenIn, IsSeenOf}
 
 -- nothing is recovered from an empty file
 no_bytes : (bytes : List ℕ) → bytes ≡ [] → 0 < length bytes → ⊥
@@ -183,12 +183,17 @@ pub origin_opened : (conn : State) (db : Trees) (origin : Origin) → Opens conn
 origin_opened conn db New opens live shows new kept = new_opened conn db opens live shows (new refl)
 origin_opened conn db Kept opens live shows new kept = kept_opened conn db opens live shows (kept refl)
 
+-- what lives have was seen in the database that has them
+pub seen_in_kept : (db : Database) (lives : Lives) (seen : Seen) → db.schema ≢ no_schema → AreLivesOfDatabase db lives → IsSeenOf lives seen → IsSeenIn db seen
+seen_in_kept db lives seen.New kept are is = absurd is
+seen_in_kept db lives (seen.Counted counts plans) kept are is = (kept, (lives, are, is.0, is.1))
+
 -- what was seen in a database that was opened is what its trees have
 pub seen_opened : (conn : State) (db : Trees) (seen : Seen) → Opens conn → IsLive conn → Shows conn db → IsSeenIn conn.now seen → IsSeenAs db seen
 seen_opened conn db seen.New opens live shows is = new_opened conn db opens live shows is
-seen_opened conn db (seen.Counted counts) opens live shows is = (
+seen_opened conn db (seen.Counted counts plans) opens live shows is = (
   kept_opened conn db opens live shows is.0,
-  (is.1.0, found_lives conn db is.1.0 opens live shows is.1.1, is.1.2),
+  (is.1.0, found_lives conn db is.1.0 opens live shows is.1.1, is.1.2, is.1.3),
 )
 
 -- the fault of a file is NotOurs only where that of its records is, and never Missing

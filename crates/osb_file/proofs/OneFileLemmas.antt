@@ -15,7 +15,7 @@ use Rattle.osb_audit.specs.declared.counting.Counts.{Counts}
 use Rattle.osb_file.specs.declared.copied.Copied.{Copied}
 use Rattle.osb_file.specs.File.{AreLivesOf, HasTrees}
 use Rattle.osb_file.specs.Looked.{IsCounted, image_in}
-use Rattle.osb_file.specs.OneFile.{IsInOne, IsMerged, alone}
+use Rattle.osb_file.specs.OneFile.{IsInOne, IsMerged, without_log}
 use Rattle.osb_file.specs.Inside.{IsCountedIn}
 use Rattle.osb_file.proofs.FileLemmas.{Shows}
 
@@ -28,7 +28,7 @@ pub image_as : (copied : Copied) (log db : List ℕ) → log ≡ copied.log.item
 image_as copied log db is_log is_db = ap₂ (λ (x : List ℕ) (y : List ℕ). let image : Image = record { log = x; db = y } in image) is_log is_db
 
 -- and one with an empty log stands by itself
-pub alone_as : (log db bytes : List ℕ) → log ≡ [] → db ≡ bytes → record { log = log; db = db } ≡ alone bytes
+pub alone_as : (log db bytes : List ℕ) → log ≡ [] → db ≡ bytes → record { log = log; db = db } ≡ without_log bytes
 alone_as log db bytes none is = ap₂ (λ (x : List ℕ) (y : List ℕ). let image : Image = record { log = x; db = y } in image) none is
 
 -- what an opening shows of a database with tables is what the files have
@@ -37,16 +37,16 @@ shown_kept conn db some (inl same) = sym same
 shown_kept conn db some (inr (none, bare)) = absurd (some none)
 
 -- the trees that are in one file are those that were counted in it
-counted_trees : (bytes : List ℕ) (counts : Counts) (db : Trees) → ∥ HoldsDatabase (alone bytes) db ∥₁ → (counted : IsCountedIn (alone bytes) counts) → db ≡ counted.0
+counted_trees : (bytes : List ℕ) (counts : Counts) (db : Trees) → ∥ HoldsDatabase (without_log bytes) db ∥₁ → (counted : IsCountedIn (without_log bytes) counts) → db ≡ counted.0
 counted_trees bytes counts db holds counted = ∥∥₁_elim holds (Trees-set _ _) (counted.1 db)
 
-pub counted_one : (both : Image) (bytes : List ℕ) (counts : Counts) (db : Trees) → IsMerged both bytes db → IsCountedIn (alone bytes) counts → IsInOne both bytes counts
+pub counted_one : (both : Image) (bytes : List ℕ) (counts : Counts) (db : Trees) → IsMerged both bytes db → IsCountedIn (without_log bytes) counts → IsInOne both bytes counts
 counted_one both bytes counts db merged counted =
     (db, merged, subst (λ (trees : Trees). IsCounted trees counts) (sym (counted_trees bytes counts db merged.written counted)) counted.2)
 
 -- lives that the two files have are in the one
 pub others_in_one : (both : Image) (bytes : List ℕ) (db : Trees) → IsMerged both bytes db
-    → ((found : Trees) → HoldsDatabase (alone bytes) found → (lives : Lives) → ¬ AreLivesOf found lives)
+    → ((found : Trees) → HoldsDatabase (without_log bytes) found → (lives : Lives) → ¬ AreLivesOf found lives)
     → (found : Trees) → HasTrees both found → (lives : Lives) → ¬ AreLivesOf found lives
 others_in_one both bytes db merged none found has lives are =
     ∥∥₁_elim merged.written (λ x y. absurd x) (λ holds. none db holds lives (subst (λ (trees : Trees). AreLivesOf trees lives) (merged.read found has) are))

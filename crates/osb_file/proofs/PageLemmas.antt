@@ -25,7 +25,7 @@ use Rattle.osb_file.specs.File.{HoldsNoTables}
 abbrev leaf : Kind
 leaf = record { tree = Table; leaf = true }
 
--- a page that counts itself alone and no free page, and has a table without rows
+-- a page that counts itself, and no free page, and has a table without rows
 pub record IsBlankPage (page : List ℕ) : Type 0 where
   pub long : length page ≡ 1024
   pub header : IsHeader 1024 (take 100 page)

@@ -14,7 +14,7 @@ use Rattle.osb_statements.specs.Steps.{IsReady, stored}
 use Rattle.osb_records.specs.Opened.{AreLivesOfDatabase}
 use Rattle.osb_trim.specs.Trimmed.{trimmed_lives}
 use Rattle.osb_file.specs.File.{AreLivesOf, HasNoTables, HasTrees, HoldsNoTables}
-use Rattle.osb_file.specs.OneFile.{alone}
+use Rattle.osb_file.specs.OneFile.{without_log}
 use Rattle.osb_file.specs.Inside.{IsOfFiles}
 use Rattle.osb_file.specs.Trimmed.{HaveLives, HoldsLivesOf, IsTrimmedInOne}
 use Rattle.osb_file.proofs.FileLemmas.{bare_lives, lives_found, opened_stand}
@@ -40,7 +40,7 @@ ready_stand s ready clean live is_open =
 
 -- and in the file, once that is closed
 pub closed_holds : {V E : Type 0} (result : Result V E) (bytes : V → List ℕ) (s : State) → IsReady s → HasCleanDisk s → IsLive s
-    → IfOk result (λ files. ∥ HoldsDatabase (alone (bytes files)) s.committed.trees ∥₁) → OnOk result (IsTrue s.is_open) → IfOk result (λ files. HoldsLivesOf (bytes files) (stored s))
+    → IfOk result (λ files. ∥ HoldsDatabase (without_log (bytes files)) s.committed.trees ∥₁) → OnOk result (IsTrue s.is_open) → IfOk result (λ files. HoldsLivesOf (bytes files) (stored s))
 closed_holds (Ok files) bytes s ready clean live written is_open = record { trees = s.committed.trees; written = written; are = ready_stand s ready clean live is_open }
 closed_holds (Err fault) bytes s ready clean live written is_open = tt
 

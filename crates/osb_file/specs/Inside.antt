@@ -9,6 +9,7 @@ use Rattle.osb_orders.specs.Life.{Life}
 use Rattle.osb_orders.specs.Lives.{Lives, life_of}
 use Rattle.osb_audit.specs.declared.counting.Counts.{Counts}
 use Rattle.osb_audit.specs.Counts.{AreCounts}
+use Rattle.osb_audit.specs.Plans.{plans_in_use}
 use Rattle.osb_tables.specs.Tables.{no_schema}
 use Rattle.osb_records.specs.Opened.{AreLivesOfDatabase}
 use Rattle.osb_file.specs.declared.seen.Seen.{Seen}
@@ -17,11 +18,16 @@ use Rattle.osb_statements.specs.Steps.{stored}
 use Rattle.osb_file.specs.File.{AreLivesOf, HasTrees}
 use Rattle.osb_file.specs.Looked.{IsCounted}
 
--- it has no tables; or it has some, and so much of everything
+-- lives have so much of everything, with these plans in use
+abbrev pub IsSeenOf : Lives → Seen → Type 0
+IsSeenOf lives New = ⊥
+IsSeenOf lives (Counted counts plans) = AreCounts lives counts × (plans.items ≡ plans_in_use lives)
+
+-- it has no tables; or it has some, and so much of everything, with these plans in use
 abbrev pub IsSeenIn : Database → Seen → Type 0
 IsSeenIn db New = db.schema ≡ no_schema
-IsSeenIn db (Counted counts) =
-    (db.schema ≢ no_schema) × ((lives : Lives) × AreLivesOfDatabase db lives × AreCounts lives counts)
+IsSeenIn db (Counted counts plans) = (db.schema ≢ no_schema)
+    × ((lives : Lives) × AreLivesOfDatabase db lives × AreCounts lives counts × (plans.items ≡ plans_in_use lives))
 
 -- any trees that a file has are these, in which so much of everything is
 abbrev pub IsCountedIn : Image → Counts → Type 0

@@ -1,9 +1,11 @@
 -- What was seen in a database.
+use Rattle.std.specs.Prelude.{◌≡◌, List}
 use Rattle.sqlite.specs.Tree.{Trees}
 use Rattle.sqlite_wal.specs.Recovery.{Image}
 use Rattle.osb_orders.specs.Lives.{Lives}
 use Rattle.osb_audit.specs.declared.counting.Counts.{Counts}
 use Rattle.osb_audit.specs.Counts.{AreCounts}
+use Rattle.osb_audit.specs.Plans.{Pair, plans_in_use}
 use Rattle.osb_file.specs.declared.copied.Copied.{Copied}
 use Rattle.osb_file.specs.declared.seen.Seen.{Seen}
 use Rattle.osb_file.specs.declared.seen.Seen.TheVariants.{New, Counted}
@@ -17,7 +19,12 @@ image_in copied = record { log = copied.log.items; db = copied.database.items }
 abbrev pub IsCounted : Trees → Counts → Type 0
 IsCounted db counts = (lives : Lives) × AreLivesOf db lives × AreCounts lives counts
 
--- a database without tables is new; of any other its lives were counted
+-- they have these plans in use, too
+abbrev pub IsCountedWith : Trees → Counts → List Pair → Type 0
+IsCountedWith db counts plans =
+    (lives : Lives) × AreLivesOf db lives × AreCounts lives counts × (plans ≡ plans_in_use lives)
+
+-- a database without tables is new; of any other its lives were counted, and their plans found
 abbrev pub IsSeenAs : Trees → Seen → Type 0
 IsSeenAs db New = HasNoTables db
-IsSeenAs db (Counted counts) = (¬ HasNoTables db) × IsCounted db counts
+IsSeenAs db (Counted counts plans) = (¬ HasNoTables db) × IsCountedWith db counts plans.items

@@ -8,12 +8,12 @@ use Rattle.osb_file.specs.File.{HasTrees}
 use Rattle.osb_file.specs.Looked.{IsCounted}
 
 -- a file of these bytes, with no log beside it
-abbrev pub alone : List ℕ → Image
-alone bytes = record { log = []; db = bytes }
+abbrev pub without_log : List ℕ → Image
+without_log bytes = record { log = []; db = bytes }
 
 -- A file of these bytes has these trees without a log. Trees that the two files have are no others.
 pub record IsMerged (both : Image) (bytes : List ℕ) (db : Trees) : Type 0 where
-  pub written : ∥ HoldsDatabase (alone bytes) db ∥₁
+  pub written : ∥ HoldsDatabase (without_log bytes) db ∥₁
   pub read : (found : Trees) → HasTrees both found → found ≡ db
 
 -- and so much of everything is in the well-formed lives that are in these trees

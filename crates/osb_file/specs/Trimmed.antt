@@ -6,7 +6,7 @@ use Rattle.sqlite.specs.Files.{HoldsDatabase}
 use Rattle.osb_orders.specs.Lives.{Lives}
 use Rattle.osb_trim.specs.Trimmed.{trimmed_lives}
 use Rattle.osb_file.specs.File.{AreLivesOf, HasTrees}
-use Rattle.osb_file.specs.OneFile.{alone}
+use Rattle.osb_file.specs.OneFile.{without_log}
 
 -- The two files have no other trees than these, in which these lives are.
 pub record HaveLives (both : Image) (lives : Lives) : Type 0 where
@@ -17,7 +17,7 @@ pub record HaveLives (both : Image) (lives : Lives) : Type 0 where
 -- A file of these bytes has a database without a log, and these lives are in it.
 pub record HoldsLivesOf (bytes : List ℕ) (lives : Lives) : Type 0 where
   pub trees : Trees
-  pub written : ∥ HoldsDatabase (alone bytes) trees ∥₁
+  pub written : ∥ HoldsDatabase (without_log bytes) trees ∥₁
   pub are : AreLivesOf trees lives
 
 -- The lives of both files are in one file, trimmed.

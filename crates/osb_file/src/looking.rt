@@ -8,7 +8,9 @@ ghost use Rattle.sqlite_disk.specs.Memory.{memory_bytes, memory_is_usable};
 ghost use Rattle.sqlite_trees.specs.Tree.{Trees};
 ghost use Rattle.osb_orders.specs.Lives.{Lives};
 ghost use Rattle.osb_audit.specs.Counts.{AreCounts};
+ghost use Rattle.osb_audit.specs.Plans.{plans_in_use};
 ghost use Rattle.osb_statements.specs.declared.fault.StoreFault.TheVariants as faults;
+ghost use Rattle.osb_records.specs.Looks.{Looks};
 ghost use Rattle.osb_records.specs.Opened.{AreLivesOfDatabase};
 ghost use Rattle.osb_statements.specs.Steps.{stored};
 ghost use Rattle.osb_file.specs.declared.unseen.Unseen.TheVariants.{NotOurs, NoTables};
@@ -16,13 +18,14 @@ ghost use Rattle.osb_file.specs.File.{AreLivesOf, HasTrees};
 ghost use Rattle.osb_tables.specs.Tables.{no_schema};
 ghost use Rattle.osb_file.specs.declared.seen.Seen.TheVariants.{New};
 ghost use Rattle.osb_file.specs.Looked.{IsSeenAs};
-ghost use Rattle.osb_file.specs.Inside.{IsSeenIn};
+ghost use Rattle.osb_file.specs.Inside.{IsSeenIn, IsSeenOf};
 
 use crate::origin::{Origin, origin_of};
 use crate::seen::Seen;
 use crate::unseen::Unseen;
 use osb_audit::Counts;
 use osb_records::{Cause, Records, StoreFault};
+use osb_text::Text;
 use sqlite::{Alter, Connection, Error, ErrorCode, FileStore, Options};
 use sqlite_disk::{Disk, Files, Memory};
 use std::alloc::Global;
@@ -64,6 +67,20 @@ pub(crate) fn unadopted(fault: StoreFault) -> Unseen
     }
 }
 
+/// The pairs of service and plan that records have in use.
+fn plans_of<S: Alter>(alloc: Global, records: &mut Records<S>) -> Result<Vec<(Text, Text)>, Unseen>
+    ensures ok { HasCleanDisk (state S.Store records.new) → IfOk result (λ plans.
+        plans.items ≡ plans_in_use (stored (state S.Store records.old))) }
+    ensures looks { Looks (state S.Store records.old) (state S.Store records.new) result }
+    ensures not_ours { result ≢ Err NotOurs }
+{
+    match records.plans_in_use(alloc) {
+        Ok(plans) => Ok(plans),
+        Err(StoreFault::Refused(cause)) => Err(unread_rows(cause)),
+        Err(StoreFault::NotOurs) => Err(Unseen::Row),
+    }
+}
+
 /// The counts of records that were taken over.
 fn counts_of<S: Alter + Drop>(alloc: Global, mut records: Records<S>) -> Result<Counts, Unseen>
     requires clean { (held : Held S) → HasCleanDisk (state S.Store held) }
@@ -100,6 +117,35 @@ pub(crate) fn count_in<S: Alter + Drop>(
     }
 }
 
+/// What records that were taken over have.
+fn seen_of<S: Alter + Drop>(alloc: Global, mut records: Records<S>) -> Result<Seen, Unseen>
+    requires clean { (held : Held S) → HasCleanDisk (state S.Store held) }
+    ensures ok { IfOk result (λ seen. IsTrue (state S.Store records).is_open ×
+        IsSeenOf (stored (state S.Store records)) seen) }
+    ensures not_ours { result ≢ Err NotOurs }
+{
+    let plans = plans_of(alloc, &mut records)?;
+    let counts = counts_of(alloc, records)?;
+    Ok(Seen::Counted(counts, plans))
+}
+
+/// Takes a database with tables over, and looks at all of it.
+fn look_at_kept<S: Alter + Drop>(alloc: Global, conn: Connection<S>) -> Result<Seen, Unseen>
+    requires clean { (held : Held S) → HasCleanDisk (state S.Store held) }
+    requires kept { (state S.Store conn).now.schema ≢ no_schema }
+    ensures seen { IfOk result (IsSeenIn (state S.Store conn).now) }
+    ensures not_ours { result ≡ Err NotOurs → (lives : Lives) →
+        ¬ AreLivesOfDatabase (state S.Store conn).now lives }
+{
+    match Records::adopt(alloc, conn) {
+        Ok(records) => seen_of(alloc, records),
+        Err((fault, left)) => {
+            drop(left);
+            Err(unadopted(fault))
+        }
+    }
+}
+
 /// What a database has. One without tables isn't taken over.
 fn look_in<S: Alter + Drop>(alloc: Global, conn: Connection<S>) -> Result<Seen, Unseen>
     requires clean { (held : Held S) → HasCleanDisk (state S.Store held) }
@@ -113,10 +159,7 @@ fn look_in<S: Alter + Drop>(alloc: Global, conn: Connection<S>) -> Result<Seen, 
             drop(conn);
             Ok(Seen::New)
         }
-        Origin::Kept => match count_in(alloc, conn) {
-            Ok(counts) => Ok(Seen::Counted(counts)),
-            Err(unseen) => Err(unseen),
-        },
+        Origin::Kept => look_at_kept(alloc, conn),
     }
 }
 

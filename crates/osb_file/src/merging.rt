@@ -9,7 +9,7 @@ ghost use Rattle.osb_tables.specs.Tables.{no_schema};
 ghost use Rattle.osb_file.specs.declared.unseen.Unseen.TheVariants.{NotOurs, NoTables};
 ghost use Rattle.osb_file.specs.File.{AreLivesOf, HasNoTables, HasTrees};
 ghost use Rattle.osb_file.specs.Inside.{IsCountedIn};
-ghost use Rattle.osb_file.specs.OneFile.{IsMerged, alone};
+ghost use Rattle.osb_file.specs.OneFile.{IsMerged, without_log};
 
 use crate::looking::{count_in, disk_of, unopened};
 use crate::origin::{Origin, origin_of};
@@ -23,7 +23,7 @@ use std::alloc::Global;
 pub(crate) fn close<D: Disk + Drop>(conn: Connection<FileStore<D>>) -> Result<Files<D>, Unseen>
     requires honest { (disk : D) → D.Disk.is_clean disk ≡ true }
     ensures written { IfOk result (λ files.
-        ∥ HoldsDatabase (alone (D.Disk.seen files.db)) (file_state conn).committed.trees ∥₁) }
+        ∥ HoldsDatabase (without_log (D.Disk.seen files.db)) (file_state conn).committed.trees ∥₁) }
     ensures open { OnOk result (IsTrue (file_state conn).is_open) }
     ensures other { result ≢ Err NotOurs }
     ensures some { result ≢ Err NoTables }
@@ -41,7 +41,7 @@ pub(crate) fn close<D: Disk + Drop>(conn: Connection<FileStore<D>>) -> Result<Fi
 fn close_kept<D: Disk + Drop>(conn: Connection<FileStore<D>>) -> Result<Files<D>, Unseen>
     requires honest { (disk : D) → D.Disk.is_clean disk ≡ true }
     ensures written { IfOk result (λ files.
-        ∥ HoldsDatabase (alone (D.Disk.seen files.db)) (file_state conn).committed.trees ∥₁) }
+        ∥ HoldsDatabase (without_log (D.Disk.seen files.db)) (file_state conn).committed.trees ∥₁) }
     ensures kept { IfOk result (λ _. (file_state conn).now.schema ≢ no_schema) }
     ensures new { result ≡ Err NoTables → (file_state conn).now.schema ≡ no_schema }
     ensures other { result ≢ Err NotOurs }
@@ -118,9 +118,9 @@ fn count_files<D: Disk + Drop>(alloc: Global, files: Files<D>) -> Result<Counts,
 
 /// The counts of a database that is in one file of these bytes.
 pub(crate) fn count_alone(alloc: Global, bytes: &[u8]) -> Result<Counts, Unseen>
-    ensures counted { IfOk result (IsCountedIn (alone bytes.now)) }
+    ensures counted { IfOk result (IsCountedIn (without_log bytes.now)) }
     ensures not_ours { result ≡ Err NotOurs → (db : Trees) →
-        HoldsDatabase (alone bytes.now) db → (lives : Lives) → ¬ AreLivesOf db lives }
+        HoldsDatabase (without_log bytes.now) db → (lives : Lives) → ¬ AreLivesOf db lives }
     ensures some { result ≢ Err NoTables }
 {
     let log = Memory::new(alloc);

@@ -14,9 +14,8 @@ ghost use Rattle.osb_statements.specs.Steps.{stored};
 ghost use Rattle.osb_trim.specs.Trimmed.{trimmed_lives};
 ghost use Rattle.osb_file.specs.declared.unseen.Unseen.TheVariants.{NotOurs, NoTables};
 ghost use Rattle.osb_file.specs.File.{AreLivesOf, HasNoTables, HasTrees, HoldsNoTables};
-ghost use Rattle.osb_file.specs.OneFile.{alone};
 ghost use Rattle.osb_file.specs.Inside.{IsOfFiles};
-ghost use Rattle.osb_file.specs.Trimmed.{HaveLives, HoldsLivesOf, IsTrimmedInOne};
+ghost use Rattle.osb_file.specs.Trimmed.{HoldsLivesOf, IsTrimmedInOne};
 
 use crate::first_page::first_page;
 use crate::looking::{disk_of, unadopted, unopened};

@@ -1,11 +1,11 @@
 //! Lives copied into another database, each trimmed.
 
-ghost use Rattle.std.specs.Prelude.{◌≡◌, ◌≢◌, ◌==◌, true, false, ℕ, [], Err, bytes_eq, IsTrue, IfOk, OnOk, List};
+ghost use Rattle.std.specs.Prelude.{◌≡◌, ◌≢◌, true, [], Err, IsTrue, OnOk};
 ghost use Rattle.std.specs.FinMap.{empty};
 ghost use Rattle.sqlite.specs.Held.{Held, state};
 ghost use Rattle.sqlite.specs.State.{HasCleanDisk};
 ghost use Rattle.osb_text.specs.Id.{is_id};
-ghost use Rattle.osb_orders.specs.IsLife.{IsLife, IsLives};
+ghost use Rattle.osb_orders.specs.IsLife.{IsLife};
 ghost use Rattle.osb_orders.specs.Lives.{life_of};
 ghost use Rattle.osb_statements.specs.Steps.{stored};
 ghost use Rattle.osb_trim.specs.Trimmed.{trimmed, trimmed_lives};

@@ -1,6 +1,6 @@
 //! A line on standard error.
 
-ghost use Rattle.std.specs.Prelude.{◌≡◌, [], ◌∷◌, map};
+ghost use Rattle.std.specs.Prelude.{[], ◌∷◌, map};
 ghost use Rattle.std.specs.List.{concat};
 ghost use Rattle.osb_listen.specs.Lines.{Says};
 

@@ -1,6 +1,6 @@
 //! Whether tables of version 2 are those of well-formed lives: they are read in pieces, inside a transaction.
 
-ghost use Rattle.std.specs.Prelude.{◌≡◌, ◌≢◌, ◌↔◌, true, ℕ, List, Err, IfOk, IfErr, IsTrue};
+ghost use Rattle.std.specs.Prelude.{◌≡◌, ◌≢◌, ◌↔◌, true, Err, IfOk, IfErr, IsTrue};
 ghost use Rattle.std.specs.declared.cmp.Ordering.TheVariants.{Less};
 ghost use Rattle.std.specs.Ordering.{nat_cmp};
 ghost use Rattle.std.specs.Cmp.Lexicographic.{slice_cmp};
@@ -11,21 +11,14 @@ ghost use Rattle.sqlite.specs.Values.{bound_value};
 ghost use Rattle.sqlite.specs.declared.types.Value.TheVariants.{Text as Words};
 ghost use Rattle.sqlite_value.specs.Value.{owned};
 ghost use Rattle.osb_audit.specs.declared.entry.BindingEntry.{BindingEntry};
-ghost use Rattle.osb_audit.specs.Orders.{Entry, entry_cmp};
-ghost use Rattle.osb_audit.specs.Instances.{InstanceEntry, instance_cmp};
-ghost use Rattle.osb_audit.specs.Bindings.{binding_cmp};
 ghost use Rattle.osb_joined.specs.Audit.{HaveNoContexts, AreRowsWithContexts};
 ghost use Rattle.osb_tables.specs.Tables.{second_schema};
-ghost use Rattle.osb_rows.specs.Rows.{Stores};
 ghost use Rattle.osb_contexts.specs.Format.{HoldsVersion};
 ghost use Rattle.osb_contexts.specs.Inside.{ShowsSchema};
 ghost use Rattle.osb_contexts.specs.Pieces.{piece, AreNamed};
 ghost use Rattle.osb_contexts.specs.Read.{HaveRowids};
 ghost use Rattle.osb_contexts.specs.Reads.{Reads, MayRead, Finds, MayFind, behind};
-ghost use Rattle.osb_statements.specs.Bindings.{binding_row, binding_cells};
-ghost use Rattle.osb_statements.specs.Instances.{instance_row, instance_cells};
 ghost use Rattle.osb_statements.specs.Pieces.{AreSeparateRows, MayBeCut, HoldRows, IsReadOf};
-ghost use Rattle.osb_statements.specs.Stored.{entry_row, order_cells};
 ghost use Rattle.osb_statements.specs.StoredLives.{StoreLives};
 ghost use Rattle.osb_statements.specs.Causes.{IsRefused};
 ghost use Rattle.osb_statements.specs.declared.fault.StoreFault.TheVariants as faults;

@@ -7,6 +7,7 @@ use osb_file::{
     open_file, replace,
 };
 use osb_records::{Records, StoreFault};
+use osb_text::Text;
 use sqlite::{Alter, Start, Unknown};
 use std::alloc::Global;
 use std::os::unix::fs::MetadataExt;
@@ -141,7 +142,7 @@ fn a_log_without_its_file_is_refused(rt: HostRuntime) -> Result<(), Fail> {
     let log = format!(in rt.alloc(); "{}-wal", path.as_str())?;
     fs::write(&rt, log.as_str(), "a change")?;
     assert!(rt; origin_at(&rt, path.as_str(), false) == Err(FileFault::Refused));
-    assert!(rt; looked_at(&rt, path.as_str()) == Err(Unseen::LogOnly));
+    assert!(rt; looked_at(&rt, path.as_str()).err() == Some(Unseen::LogOnly));
     Ok(())
 }
 
@@ -157,19 +158,37 @@ fn looked_at(rt: &HostRuntime, path: &str) -> Result<Seen, Unseen> {
     files.look(rt.alloc())
 }
 
+/// Whether these are the services and plans.
+fn are_plans(plans: &[(Text, Text)], expected: &[(&str, &str)]) -> bool {
+    for (plan, other) in plans.iter().zip(expected) {
+        if plan.0.as_str() != other.0 || plan.1.as_str() != other.1 {
+            return false;
+        }
+    }
+    plans.len() == expected.len()
+}
+
+/// Whether a file that is looked at has so much of everything, and these plans in use.
+fn has(rt: &HostRuntime, path: &str, counts: Counts, plans: &[(&str, &str)]) -> bool {
+    match looked_at(rt, path) {
+        Ok(Seen::Counted(found, in_use)) => found == counts && are_plans(&in_use, plans),
+        Ok(Seen::New) | Err(_) => false,
+    }
+}
+
 #[test]
 fn a_file_is_looked_at(rt: HostRuntime) -> Result<(), Fail> {
     let path = unused(&rt, "osb_file_seen.db")?;
-    assert!(rt; looked_at(&rt, path.as_str()) == Err(Unseen::NoFile));
+    assert!(rt; looked_at(&rt, path.as_str()).err() == Some(Unseen::NoFile));
     fs::write(&rt, path.as_str(), "")?;
-    assert!(rt; looked_at(&rt, path.as_str()) == Ok(Seen::New));
+    assert!(rt; matches!(looked_at(&rt, path.as_str()), Ok(Seen::New)));
     assert!(rt; open_and_run(&rt, path.as_str(), &WHOLE)? == 0);
     let one = Counts {
         instances: 1,
         bindings: 0,
         running: 0,
     };
-    assert!(rt; looked_at(&rt, path.as_str()) == Ok(Seen::Counted(one)));
+    assert!(rt; has(&rt, path.as_str(), one, &[("s", "p")]));
     Ok(())
 }
 
@@ -200,7 +219,7 @@ fn a_file_is_backed_up(rt: HostRuntime) -> Result<(), Fail> {
     let made = one_file_of(&rt, path.as_str())?;
     assert!(rt; is_made(&rt, &made, to.as_str(), one));
     drop(made);
-    assert!(rt; looked_at(&rt, to.as_str()) == Ok(Seen::Counted(one)));
+    assert!(rt; has(&rt, to.as_str(), one, &[("s", "p")]));
     assert!(rt; open_and_run(&rt, to.as_str(), &[])? == 1);
     Ok(())
 }
@@ -240,7 +259,7 @@ fn a_file_is_trimmed(rt: HostRuntime) -> Result<(), Fail> {
         bindings: 0,
         running: 0,
     };
-    assert!(rt; looked_at(&rt, path.as_str()) == Ok(Seen::Counted(none)));
+    assert!(rt; has(&rt, path.as_str(), none, &[]));
     assert!(rt; trim(&rt, path.as_str())? == 0);
     assert!(rt; open_and_run(&rt, path.as_str(), &[])? == 2);
     Ok(())
@@ -250,9 +269,9 @@ fn a_file_is_trimmed(rt: HostRuntime) -> Result<(), Fail> {
 fn what_is_no_database_is_not_looked_at(rt: HostRuntime) -> Result<(), Fail> {
     let path = unused(&rt, "osb_file_text.db")?;
     fs::write(&rt, path.as_str(), "no database, but some text")?;
-    assert!(rt; looked_at(&rt, path.as_str()) == Err(Unseen::NoDatabase));
-    assert!(rt; looked_at(&rt, ".") == Err(Unseen::Folder));
-    assert!(rt; looked_at(&rt, ":memory:") == Err(Unseen::NoFile));
+    assert!(rt; looked_at(&rt, path.as_str()).err() == Some(Unseen::NoDatabase));
+    assert!(rt; looked_at(&rt, ".").err() == Some(Unseen::Folder));
+    assert!(rt; looked_at(&rt, ":memory:").err() == Some(Unseen::NoFile));
     assert!(rt; Unseen::Folder.fault() == FileFault::Refused);
     assert!(rt; Unseen::Folder.text() == "a folder");
     Ok(())

@@ -1,10 +1,11 @@
 //! A catalog that lacks a plan in use.
 
-use osb_broker::{Broker, NewFault};
+use osb_broker::{Broker, NewFault, first_lacking};
 use osb_catalog::Settings;
 use osb_records::{Records, open_memory};
+use osb_text::Text;
 use sqlite::MemStore;
-use std::alloc::Global;
+use std::alloc::{AllocError, Global};
 use std::test::Fail;
 use tests_support::asks::{ASYNC, POLL, PUT_LATER};
 use tests_support::catalogs::built_in;
@@ -83,5 +84,50 @@ fn plan_in_use(rt: HostRuntime) -> Result<(), Fail> {
     let records = stay(rt.alloc(), &settings);
     drop(settings);
     drop(records?);
+    Ok(())
+}
+
+fn text_of(alloc: Global, text: &str) -> Result<Text, AllocError> {
+    Ok(Text::from(String::from_str(alloc, text)?))
+}
+
+/// These plans of the service `svc`.
+fn pairs_of(alloc: Global, plans: &[&str]) -> Result<Vec<(Text, Text)>, AllocError> {
+    let mut pairs = Vec::new(alloc);
+    for plan in plans {
+        pairs.push((text_of(alloc, "svc")?, text_of(alloc, plan)?))?;
+    }
+    Ok(pairs)
+}
+
+/// Whether this is the plan which the settings lack of these plans.
+fn lacks(
+    alloc: Global,
+    settings: &Settings,
+    plans: &[&str],
+    expected: Option<&str>,
+) -> Result<bool, AllocError> {
+    let lacking = first_lacking(settings, pairs_of(alloc, plans)?);
+    Ok(match (lacking, expected) {
+        (Some((_, plan)), Some(other)) => plan.as_str() == other,
+        (None, None) => true,
+        _ => false,
+    })
+}
+
+#[test]
+fn first_plan_that_lacks(rt: HostRuntime) -> Result<(), Fail> {
+    let alloc = rt.alloc();
+    let fewer = Settings::read(alloc, SYNC_ALONE.as_bytes())?;
+    assert!(rt; lacks(alloc, &fewer, &["p-sync"], None)?);
+    assert!(rt;
+        lacks(
+            alloc,
+            &fewer,
+            &["p-sync", "p-async", "other"],
+            Some("p-async")
+        )?
+    );
+    assert!(rt; lacks(alloc, &fewer, &[], None)?);
     Ok(())
 }

@@ -1,10 +1,11 @@
-use Rattle.std.proofs.Common.{codes, refl}
+use Rattle.std.proofs.Common.{codes, refl, inl, inr, map, string_bytes}
 use Rattle.std.proofs.lemmas.Option.{IfSome_then}
 use Rattle.std.proofs.lemmas.Result.{IfErr-weaker, on_ok_weaker}
 use Rattle.osb_cli.specs.Inside.{AsksBackup, AsksCheck, AsksReplay, AsksServe, AsksTrim}
 use Rattle.osb_cli.proofs.DoneLemmas.{done_well, if_failed, is_backed_up, is_checked, is_listened, is_replayed, is_trimmed, not_both}
 use Rattle.osb_cli.proofs.ReportedLemmas.{of_command, other_text, unserved_more}
-use Rattle.osb_cli.proofs.ServeLemmas.{in_vain, left_as}
+use Rattle.osb_cli.proofs.ServeLemmas.{finds_unless_plan, in_vain, left_as}
+use Rattle.osb_cli.specs.Words.{found_by, text_in}
 use Rattle.osb_cli.proofs.commands.perform.Goals as goal
 
 pub returns-in-Backup-clause-done : goal.returns-in-Backup-clause-done
@@ -16,8 +17,7 @@ returns-in-Backup-clause-done g c taken =
 pub returns-in-Check-clause-done : goal.returns-in-Check-clause-done
 returns-in-Check-clause-done g c taken =
     let asks : AsksCheck _ c.in-Check.asked = rw c.in-Check.is at c.in-Ok.ensures.ok in
-    done_well c.check.result c.without_file-in-Check.result.0 _ c.without_file-in-Check.ensures.well
-    (on_ok_weaker c.check.result (λ checked. is_checked _ _ _ _ _ _ c.in-Check.asked asks checked) c.check.ensures.checked)
+    on_ok_weaker c.check.result (λ checked. is_checked _ _ _ _ _ _ c.in-Check.asked asks checked) c.check.ensures.checked
 
 pub returns-in-Replay-clause-done : goal.returns-in-Replay-clause-done
 returns-in-Replay-clause-done g c taken =
@@ -56,10 +56,41 @@ returns-in-Serve-clause-lacks g c =
     let asks : AsksServe _ c.in-Serve.asked = rw c.in-Serve.is at c.in-Ok.ensures.ok in
     rw asks.settings at c.listen.ensures.lacks
 
-pub returns-in-Serve-clause-serves : goal.returns-in-Serve-clause-serves
-returns-in-Serve-clause-serves g c =
+pub returns-in-Serve-clause-finds : goal.returns-in-Serve-clause-finds
+returns-in-Serve-clause-finds g c =
     let asks : AsksServe _ c.in-Serve.asked = rw c.in-Serve.is at c.in-Ok.ensures.ok in
-    if_failed c.listen.result.0 _ (λ fault plan. asks.named)
+    if_failed c.listen.result.0 _ (λ fault plan. inl asks.named)
+
+pub returns-in-Check-clause-finds : goal.returns-in-Check-clause-finds
+returns-in-Check-clause-finds g c =
+    let asks : AsksCheck _ c.in-Check.asked = rw c.in-Check.is at c.in-Ok.ensures.ok in
+    if_failed c.check.result _ (λ fault plan. inr asks.named)
+
+pub returns-in-Check-clause-checks : goal.returns-in-Check-clause-checks
+returns-in-Check-clause-checks g c =
+    let asks : AsksCheck _ c.in-Check.asked = rw c.in-Check.is at c.in-Ok.ensures.ok in
+    IfErr-weaker c.check.result _ _ (λ fault finds _. rw (asks.settings, asks.database) at finds) c.check.ensures.lacks
+
+pub returns-in-Serve-clause-checks : goal.returns-in-Serve-clause-checks
+returns-in-Serve-clause-checks g c =
+    let asks : AsksServe _ c.in-Serve.asked = rw c.in-Serve.is at c.in-Ok.ensures.ok in
+    if_failed c.listen.result.0 _ (λ fault checks. absurd (not_both _ (codes "serve") (codes "check") refl asks.named checks))
+
+pub returns-in-Backup-clause-checks : goal.returns-in-Backup-clause-checks
+returns-in-Backup-clause-checks g c =
+    IfErr-weaker c.without_file-in-Backup.result.0 _ _ (λ fault other _. finds_unless_plan _ (text_in (codes "settings") (found_by (map string_bytes c.args.words.now))) (text_in (codes "database") (found_by (map string_bytes c.args.words.now))) fault other) c.without_file-in-Backup.ensures.other
+
+pub returns-in-Trim-clause-checks : goal.returns-in-Trim-clause-checks
+returns-in-Trim-clause-checks g c =
+    IfErr-weaker c.without_file-in-Trim.result.0 _ _ (λ fault other _. finds_unless_plan _ (text_in (codes "settings") (found_by (map string_bytes c.args.words.now))) (text_in (codes "database") (found_by (map string_bytes c.args.words.now))) fault other) c.without_file-in-Trim.ensures.other
+
+pub returns-in-Replay-clause-checks : goal.returns-in-Replay-clause-checks
+returns-in-Replay-clause-checks g c =
+    IfErr-weaker c.without_file-in-Replay.result.0 _ _ (λ fault other _. finds_unless_plan _ (text_in (codes "settings") (found_by (map string_bytes c.args.words.now))) (text_in (codes "database") (found_by (map string_bytes c.args.words.now))) fault other) c.without_file-in-Replay.ensures.other
+
+pub returns-in-Err-clause-checks : goal.returns-in-Err-clause-checks
+returns-in-Err-clause-checks g c =
+    IfErr-weaker c.without_file.result.0 _ _ (λ fault other _. finds_unless_plan _ (text_in (codes "settings") (found_by (map string_bytes c.args.words.now))) (text_in (codes "database") (found_by (map string_bytes c.args.words.now))) fault other) c.without_file.ensures.other
 
 pub returns-in-Backup-clause-opened : goal.returns-in-Backup-clause-opened
 returns-in-Backup-clause-opened g c taken serves =
@@ -111,8 +142,7 @@ returns-in-Trim-clause-fault g c =
 pub returns-in-Check-clause-fault : goal.returns-in-Check-clause-fault
 returns-in-Check-clause-fault g c =
     let asks : AsksCheck _ c.in-Check.asked = rw c.in-Check.is at c.in-Ok.ensures.ok in
-    of_command _ _ (λ text are. record { serve = λ serves. absurd (not_both _ (codes "check") (codes "serve") refl asks.named serves); other = λ _. rw asks.settings at are })
-    c.check.result c.without_file-in-Check.result.0 c.without_file-in-Check.ensures.same c.check.ensures.fault
+    IfErr-weaker c.check.result _ _ (unserved_more _ _ (λ text are. record { serve = λ serves. absurd (not_both _ (codes "check") (codes "serve") refl asks.named serves); other = λ _. rw asks.settings at are })) c.check.ensures.fault
 
 pub returns-in-Replay-clause-fault : goal.returns-in-Replay-clause-fault
 returns-in-Replay-clause-fault g c =

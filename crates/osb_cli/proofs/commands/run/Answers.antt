@@ -5,7 +5,7 @@ use Rattle.osb_cli.specs.Grammar.{osb_broker}
 use Rattle.osb_cli.specs.Reported.{Reports}
 use Rattle.osb_cli.proofs.DoneLemmas.{is_plain, nothing_named, nothing_taken}
 use Rattle.osb_cli.proofs.ReportedLemmas.{reports_of}
-use Rattle.osb_cli.proofs.ServeLemmas.{fault_if_4, if_none_then, names_some, serves_if_4}
+use Rattle.osb_cli.proofs.ServeLemmas.{fault_if_4, finds_if_4, finds_some, if_none_then, names_some, serves_if_4}
 use Rattle.osb_cli.proofs.StatusLemmas.{well_if_0}
 use Rattle.osb_cli.proofs.commands.run.Goals as goal
 
@@ -48,9 +48,14 @@ pub returns-clause-opened : goal.returns-clause-opened
 returns-clause-opened g c taken zero serves =
     well_if_0 c.perform-done.result.0 c.status_of.result _ c.status_of.ensures.fails zero (c.perform-done.ensures.opened taken serves)
 
-pub returns-clause-serves : goal.returns-clause-serves
-returns-clause-serves g c four =
-    serves_if_4 c.perform-done.result.0 c.status_of.result c.status_of.ensures.zero four (c.status_of.ensures.plan four) c.perform-done.ensures.serves
+pub returns-clause-finds : goal.returns-clause-finds
+returns-clause-finds g c four =
+    serves_if_4 c.perform-done.result.0 c.status_of.result c.status_of.ensures.zero four (c.status_of.ensures.plan four) c.perform-done.ensures.finds
+
+pub returns-clause-checks : goal.returns-clause-checks
+returns-clause-checks g c four checks =
+    finds_if_4 c.perform-done.result.0 c.status_of.result c.status_of.ensures.zero four (c.status_of.ensures.plan four) c.perform-done.ensures.checks
+    (λ fault is finds. finds_some (g.F.NamedFiles.contents c.args.files.now) (subcommand_of osb_broker (map string_bytes c.args.words.now)) fault is (finds checks))
 
 pub returns-clause-lacks : goal.returns-clause-lacks
 returns-clause-lacks g c four =

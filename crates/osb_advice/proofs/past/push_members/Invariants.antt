@@ -1,0 +1,7 @@
+use Rattle.std.proofs.Common.{◌≡◌, ◌++◌, string_bytes}
+use Rattle.serde_json.specs.View.{members_view}
+use Rattle.osb_advice.specs.Past.{past_members}
+use Rattle.osb_advice.proofs.past.push_members.Given as goal
+
+abbrev pub invariant-loop-name : goal.invariant-loop-name
+invariant-loop-name l = string_bytes l.text ++ past_members l.kind l.path (members_view l.name-iterator) ≡ string_bytes l.initial.text ++ past_members l.kind l.path (members_view l.members.entries)

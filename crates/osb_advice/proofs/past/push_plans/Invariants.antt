@@ -1,0 +1,7 @@
+use Rattle.std.proofs.Common.{◌≡◌, ◌++◌, drop, string_bytes}
+use Rattle.serde_json.specs.View.{items_view}
+use Rattle.osb_advice.specs.Past.{lines_of, past_in_plan}
+use Rattle.osb_advice.proofs.past.push_plans.Given as goal
+
+abbrev pub invariant-loop-at : goal.invariant-loop-at
+invariant-loop-at l = string_bytes l.text ++ lines_of (past_in_plan l.number) l.at (items_view (drop l.at l.plans)) ≡ string_bytes l.initial.text ++ lines_of (past_in_plan l.number) 0 (items_view l.plans)

@@ -1,0 +1,22 @@
+//! Advice on a settings file, for those who write one: the value that is wanted where a fault is, the reason why a
+//! file has no object, and remarks on a file that may be accepted and not meant so.
+//!
+//! Each is a text, and `specs/` has it word by word.
+#![tactic(auto)]
+
+pub mod laws;
+mod logins;
+mod names;
+mod object_kind;
+mod past;
+mod paths;
+mod pieces;
+mod reason;
+mod remark;
+mod spaces;
+mod timings;
+mod wants;
+
+pub use reason::unreadable;
+pub use remark::remarks;
+pub use wants::wanted;

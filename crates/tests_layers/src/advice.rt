@@ -1,0 +1,3 @@
+mod reasons;
+mod remarks;
+mod wanted;
