@@ -203,23 +203,24 @@ def try_refused(program, folder):
     yield from refused(program, folder, "a log without its file", moved, unseen("a log without its file"))
 
 
+# Changes the time of a file again and again.
+TOUCH = "import os, sys, time\nwhile True: os.utime(sys.argv[1], ns=(0, time.time_ns()))"
+
+
 def try_in_use(program, folder):
-    """A file that is written to all the time is given up."""
-    path, ended = new_database(folder), threading.Event()
+    """A file that is written to all the time is given up. Several processes write to it, so that one does while another
+    waits for a processor; and it takes some time to read."""
+    path = new_database(folder)
     with open(path, "wb") as file:
-        file.truncate(16 << 20)
-
-    def touch():
-        while not ended.is_set():
-            os.utime(path, ns=(0, time.time_ns()))
-
-    writer = threading.Thread(target=touch)
-    writer.start()
+        file.truncate(64 << 20)
+    writers = [subprocess.Popen([sys.executable, "-c", TOUCH, path]) for _ in range(3)]
     try:
+        time.sleep(0.2)
         yield from refused(program, folder, "a file that is written to", path, unseen("in use"))
     finally:
-        ended.set()
-        writer.join()
+        for writer in writers:
+            writer.kill()
+            writer.wait()
 
 
 def cannot(what, path):

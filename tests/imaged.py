@@ -40,6 +40,11 @@ volume_path = "{0}/volumes"
 tmp_dir = "{0}/engine"
 """
 
+# How the plans of examples/settings.json are done, as `check --explain` says it.
+MODES = """plan p-sync: instances synchronous, bindings synchronous
+plan p-async: instances asynchronous, bindings asynchronous
+"""
+
 
 def run(*words, **more):
     """What a command prints, on both outputs, and its status."""
@@ -133,7 +138,7 @@ def tries(program, folder):
     yield "it is made", run(SCRIPT, program, NAME), (0, f"{NAME}\n")
     yield from configuration()
     checks = told("podman run").replace("localhost/osb-broker:VERSION", NAME)
-    yield "the settings are looked at", run("sh", "-c", checks, cwd=folder), (0, "services 1, plans 2\n")
+    yield "the settings are looked at", run("sh", "-c", checks, cwd=folder), (0, "services 1, plans 2\n" + MODES)
     yield from serves(settings)
 
 

@@ -4,7 +4,9 @@
 usage: tests/unproved.py
 """
 
+import contextlib
 import os
+import random
 import shutil
 import signal
 import socket
@@ -14,11 +16,21 @@ import tempfile
 import threading
 
 from conversations import CATALOG_REPLY, GET_CATALOG, I, SYNC, reply, request
-from serving import ROOT, free_address, newest_version, read_to_end, tell
+from serving import ROOT, newest_version, read_to_end, tell
 
 VERSION = f"osb-broker {newest_version()} unproved\n".encode()
 # Who waits longer than this for a program waits for none.
 SECONDS = 1800
+
+
+def lasting_address():
+    """An address of loopback at which nobody listens, and nobody will for minutes: its port is below those that the
+    system gives to other trials."""
+    for port in random.sample(range(20_000, 30_000), 100):
+        with contextlib.suppress(OSError), socket.socket() as free:
+            free.bind(("127.0.0.1", port))
+            return f"127.0.0.1:{port}"
+    raise RuntimeError("no port is free")
 
 
 def files_in(folder):
@@ -68,7 +80,7 @@ def tries():
         copy, room = os.path.join(folder, "copy"), os.path.join(folder, "room")
         os.mkdir(room)
         shutil.copytree(ROOT, copy, ignore=shutil.ignore_patterns(".git", "out", "osb-broker*", "__pycache__"))
-        files, address = files_in(copy), free_address()
+        files, address = files_in(copy), lasting_address()
         how = {"stdout": subprocess.PIPE, "stderr": subprocess.STDOUT, "text": True, "start_new_session": True}
         command = ["make", "-C", copy, "--no-print-directory", "try", f"ADDRESS={address}"]
         with subprocess.Popen(command, env={**os.environ, "TMPDIR": room}, **how) as trying:
