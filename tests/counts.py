@@ -196,7 +196,7 @@ def compare(found, clauses, definitions, crates):
     if worse:
         print("\n".join(f"nothing reaches {path}.{name}" for path, name in unreached(definitions, crates)))
         print("\n".join(f"no contract has {text}" for text in missing(clauses)))
-    print(f"counts: {len(found) - len(worse)} passed, {len(worse)} failed")
+    print(f"counts: {len(found) - len(worse)} passed, {len(worse)} failed" + (f": {', '.join(worse)}" if worse else ""))
     return 1 if worse else 0
 
 

@@ -1,12 +1,12 @@
 """Tries edits that must be refused: wrong bodies, each of which the prover has to refuse in the function
 that the edit names.
 
-    python3 tests/edits.py [CRATE ..]
+    python3 tests/edits.py [CRATE | CRATE/EDIT ..]
     python3 tests/edits.py --beside make tried
     python3 tests/edits.py --keep
 
-The first tries the edits of these crates, or of all, over the libraries that are there; those that lack, or that were
-proved of other sources, are proved first.
+The first tries the edits of these crates, or only these, or all, over the libraries that are there; those that lack, or
+that were proved of other sources, are proved first.
 The second runs a command that proves all crates, and tries each crate's edits beside it, behind its work,
 as soon as it reports that the libraries below that crate are proved. The third writes the list of all edits,
 tests/edits.txt: an edit that is in the list and has no file is a fault, and so is one that isn't in the list.
@@ -407,7 +407,7 @@ def try_proved(crate, edits, told):
         if not told.proves:
             wrong += pass_unedited(crate, names - within, kept, halved=False)
     print(*(f"{edit}: refused in {edit.refused}: {goal}" for edit, (_, goal) in refused.items()), sep="\n")
-    if not wrong:
+    if not wrong and len(edits) == len(in_folder(edits_in(crate))):
         passed(crate).parent.mkdir(parents=True, exist_ok=True)
         passed(crate).touch()
     print(f"{crate}: {len(edits)} edits, {len(wrong)} faults", flush=True)
@@ -448,6 +448,23 @@ def edits_in(crate):
     """The edits of a crate, those under must-fail/ too."""
     folders = [ROOT / "crates" / crate / name for name in ("edits", "must-fail")]
     return [Edit(it) for folder in folders for it in sorted(folder.glob("*.edit"))]
+
+
+def in_folder(edits):
+    """Those under edits/."""
+    return [it for it in edits if it.folder == "edits"]
+
+
+def chosen(words, every):
+    """The edits of the crates that are named, or those that are named by their crate and name; without a word all. And
+    the words that name none."""
+    found, unknown = {}, []
+    for word in words or every:
+        crate, _, name = word.partition("/")
+        edits = [it for it in in_folder(every.get(crate, [])) if name in ("", it.name)]
+        found[crate] = found.get(crate, []) + edits
+        unknown += [f"{word}: there is no such edit"] * bool(name and not edits or crate not in every)
+    return found, unknown
 
 
 def has_public_functions(crate):
@@ -492,8 +509,8 @@ def main():
         LIST.write_text("".join(f"{edit}\n" for edits in every.values() for edit in edits))
         return 0
     wrong, status = faults_of_files(every), 0
-    crates = every if words else sys.argv[1:] or every
-    edits = {crate: [it for it in every[crate] if it.folder == "edits"] for crate in crates}
+    edits, unknown = chosen([] if words else sys.argv[1:], every)
+    wrong += unknown
     if not wrong:
         wrong, status = try_all({crate: found for crate, found in edits.items() if found}, words)
     print(*wrong, sep="\n")

@@ -111,6 +111,8 @@ def try_files(room):
     yield "an edit isn't listed", (status, "small/edits/two_more: it isn't in" in said), (1, True)
     status, said = Small(room, {"same": edit("next", "    n + 1", "    n + 1")}).judged()
     yield "an edit changes no text", (status, "small/edits/same: it changes nothing" in said), (1, True)
+    status, said = Small(room, {"two_more": TWO_MORE}).judged("small/three_more")
+    yield "no such edit", (status, "small/three_more: there is no such edit" in said), (1, True)
     status, said = Small(room, {"lost": edit("next", "n + 3", "n + 2")}).judged()
     yield "an edit can't be made", (status, "has the old text 0 times" in said), (1, True)
 
@@ -120,6 +122,8 @@ def try_proofs(room):
     good = "echo 'rt: must-fail small/x.edit: refused, as it must be'; echo 'rt: ok; must-fail edits: 1 refused'"
     status, said = Small(room, {"two_more": TWO_MORE}).judged("--beside", "sh", "-c", good)
     yield "a good edit", (status, "small/edits/two_more: refused in next: returns: " in said), (0, True)
+    status, said = Small(room, {"two_more": TWO_MORE, **WRONG}).judged("small/two_more")
+    yield "one edit by its name", (status, "small/edits/two_more: refused" in said, "1 to be tried, 0 faults" in said), (0, True, True)
     bad = "echo 'rt: small proved'; echo 'rt: must-fail small/x.edit: BAD EDIT: it has no pair'"
     status, said = Small(room, {"two_more": TWO_MORE, **WRONG}).judged("--beside", "sh", "-c", bad)
     found = {name for name in WRONG if f"small/edits/{name}: " in said and f"small/edits/{name}: refused" not in said}
