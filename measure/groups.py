@@ -5,7 +5,7 @@ docs/MEASUREMENTS.md.
 usage: measure/groups.py [--rounds N] [--seconds S] [--folder F] NAME=PROGRAM NAME=PROGRAM
 
 In each round both programs are measured one after the other, each over a new database in the folder. Where syncs are
-slow, a library in front of the C library (tests/slow.c) holds each of them for three milliseconds. A ratio is that of
+slow, a library in front of the C library (tests/lib/slow.c) holds each of them for three milliseconds. A ratio is that of
 the second program to the first one in the same round; of all rounds the median stands in the table, with the least
 and the most.
 """
@@ -27,7 +27,7 @@ class Bench:
         self.programs = dict(word.split("=", 1) for word in options.programs)
         self.load, self.slow = os.path.join(folder, "load"), os.path.join(folder, "slow.so")
         subprocess.run(["cc", "-O2", "-o", self.load, os.path.join(HERE, "load.c")], check=True)
-        slow = os.path.join(HERE, "..", "tests", "slow.c")
+        slow = os.path.join(HERE, "..", "tests", "lib", "slow.c")
         subprocess.run(["cc", "-O2", "-shared", "-fPIC", "-o", self.slow, slow, "-ldl"], check=True)
 
     def cell(self, program, clients, is_slow):

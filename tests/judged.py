@@ -12,6 +12,8 @@ import subprocess
 import sys
 import tempfile
 
+sys.path.append(os.path.join(os.path.dirname(os.path.abspath(__file__)), "lib"))
+
 from serving import ROOT, tell
 
 SOURCE = """//! A crate whose edits are judged.

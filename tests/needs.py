@@ -11,6 +11,8 @@ import sys
 import tempfile
 import time
 
+sys.path.append(os.path.join(os.path.dirname(os.path.abspath(__file__)), "lib"))
+
 from serving import ROOT, tell
 
 NEEDED = {"bash": "bash", "curl": "curl", "sqlite3": "sqlite3", "python3": "python3", "cc": "gcc libc6-dev"}

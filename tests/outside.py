@@ -13,6 +13,8 @@ import subprocess
 import sys
 from concurrent.futures import ThreadPoolExecutor
 
+sys.path.append(os.path.join(os.path.dirname(os.path.abspath(__file__)), "lib"))
+
 from serving import ROOT
 
 # The longest first.
@@ -25,7 +27,7 @@ ALONE = ["clients", "together", "proxied"]
 
 def tried(name, program, together=None):
     """Whether a script passes, with so many clients at the same time where it doesn't say it itself."""
-    words = [sys.executable, os.path.join(ROOT, "tests", f"{name}.py"), program]
+    words = [sys.executable, os.path.join(ROOT, "tests", "trials", f"{name}.py"), program]
     environment = {**os.environ, "TOGETHER": together} if together else None
     how = {"stdin": subprocess.DEVNULL, "stdout": subprocess.PIPE, "stderr": subprocess.STDOUT, "env": environment}
     ran = subprocess.run(words, **how)

@@ -19,7 +19,7 @@ use Rattle.osb_asks.specs.Reads.{Meets, ◌>>=◌, needed}
 use Rattle.osb_asks.specs.Ids as id
 use Rattle.osb_asks.specs.Queries as query
 use Rattle.osb_asks.specs.Bodies as body
-use Rattle.osb_asks.specs.Offers.{has_service, has_plan, has_given_plan}
+use Rattle.osb_asks.specs.Offers.{has_plan, has_given_plan}
 use Rattle.osb_asks.specs.Targets.{query_of}
 use Rattle.osb_asks.specs.Doors.{entry_of}
 use Rattle.osb_asks.specs.declared.content.NamedPlan.{NamedPlan}
@@ -123,7 +123,7 @@ record IsGoodFor (rules : Rules) (a : Ask) : Type 0 where
   its_offer : IsOffered rules a
   late : asks.is_catalog a ≡ false
 
-late_fault : (e : AskFault) → is_late e ≡ true → asks.is_early_fault e ≡ false
+late_fault : (e : AskFault) → is_late e ≡ true → asks.is_early (Err e) ≡ false
 late_fault fault.NoDoor h = absurd (true≢false (sym h))
 late_fault fault.Auth h = absurd (true≢false (sym h))
 late_fault fault.Version h = absurd (true≢false (sym h))
@@ -158,7 +158,7 @@ module _ (rules : Rules) (q b : List ℕ) where
   IsGood a = IsGoodFor rules a
 
   there : (service plan : List ℕ) → has_plan rules service plan ≡ true → HasPlan rules service plan
-  there service plan h = and_parts (has_service rules service) (is_some (rules.plan service plan)) h
+  there service plan h = and_parts (is_some (rules.service service)) (is_some (rules.plan service plan)) h
 
   given_there : (service : List ℕ) (o : Option (List ℕ)) → has_given_plan rules service o ≡ true → IsSome (rules.service service) × IfSome o (λ plan. IsSome (rules.plan service plan))
   given_there service None h = (h, tt)

@@ -1,13 +1,15 @@
 -- An object that is found in a readable one is readable.
 use Rattle.std.proofs.Common.{◌≡◌, ℕ, List, true, Option, Some, None, Ok, option_and_then, refl, ap, subst}
+use Rattle.std.specs.Prelude.{ok_or}
 use Rattle.serde_json.specs.Data.{Data, null, boolean, number, string, array, object}
 use Rattle.serde_json.specs.Find.{get}
-use Rattle.osb_text.specs.Member.{unless_null, read_as, field, object_value}
+use Rattle.osb_text.specs.declared.fault.TextFault.TheVariants.{WrongKind}
+use Rattle.osb_text.specs.Member.{unless_null, if_given, field, object_value}
 use Rattle.osb_text.specs.ObjectText.{IsReadable}
 use Rattle.osb_text.specs.Reading.{is_object}
 use Rattle.osb_text.proofs.ReadableLemmas.{readable_member}
 
-pub object_found : (o : Option Data) (d : Data) → read_as object_value (option_and_then unless_null o) ≡ Ok (Some d)
+pub object_found : (o : Option Data) (d : Data) → if_given (λ x. ok_or (object_value x) WrongKind) (option_and_then unless_null o) ≡ Ok (Some d)
     → (o ≡ Some d) × (is_object d ≡ true)
 object_found None d h = cc
 object_found (Some null) d h = cc

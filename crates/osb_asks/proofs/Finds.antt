@@ -4,7 +4,7 @@ use Rattle.std.specs.Prelude.{⊤}
 use Rattle.std.proofs.lemmas.Bool.{and_parts}
 use Rattle.std.proofs.lemmas.Bool.Decides.{nat_tests}
 use Rattle.std.proofs.lemmas.Str.{chars-nil}
-use Rattle.std.specs.Str.{is_utf8}
+use Rattle.std.specs.Option.{option_transpose}
 use Rattle.std.specs.Str.Parse.{digits_value}
 use Rattle.percent_encoding.specs.Percent.{percent_decode}
 use Rattle.serde_json.specs.Data.{Data}
@@ -12,7 +12,7 @@ use Rattle.serde_json.specs.Find.{get, as_str}
 use Rattle.serde_json.specs.Written.{compact_text}
 use Rattle.osb_text.specs.Id.{is_id, has_no_controls}
 use Rattle.osb_text.specs.declared.fault.TextFault.{TextFault}
-use Rattle.osb_text.specs.Member.{field, object_value}
+use Rattle.osb_text.specs.Member.{if_given, field, object_value}
 use Rattle.osb_text.specs.ObjectText.{IsReadable}
 use Rattle.osb_text.specs.Reading.{object_of}
 use Rattle.osb_text.proofs.ReadableLemmas.{readable, object_text, empty_object}
@@ -20,7 +20,7 @@ use Rattle.osb_asks.specs.declared.ask.ReportState.{ReportState}
 use Rattle.osb_asks.specs.declared.ask.ReportState.TheVariants.{Succeeded, Failed}
 use Rattle.osb_asks.specs.declared.ask_fault.AskFault.{AskFault}
 use Rattle.osb_asks.specs.declared.ask_fault.AskFault.TheVariants as fault
-use Rattle.osb_asks.specs.Reads.{◌>>=◌, needed, given}
+use Rattle.osb_asks.specs.Reads.{◌>>=◌, needed}
 use Rattle.osb_asks.specs.Ids as id
 use Rattle.osb_asks.specs.Queries as query
 use Rattle.osb_asks.specs.Bodies as body
@@ -57,6 +57,10 @@ tested_finds P false x e late h = record { found = late }
 abbrev pub Anything : {A : Type 0} → A → Type 0
 Anything x = ⊤
 
+any_finds : {A : Type 0} {P : A → Type 0} {r : Result A AskFault} → Finds A P r → Finds A Anything r
+any_finds {r = Ok x} here = record { found = tt }
+any_finds {r = Err e} here = record { found = here.found }
+
 needed_finds : {A : Type 0} (e : AskFault) (o : Option A) → is_late e ≡ true → Finds A Anything (needed e o)
 needed_finds e None late = record { found = late }
 needed_finds e (Some x) late = record { found = tt }
@@ -67,11 +71,7 @@ id_or_finds : (e : AskFault) (text : List ℕ) → is_late e ≡ true → Finds 
 id_or_finds e text late = tested_finds IsId (is_id text) text e late (λ h. h)
 
 pub id_finds : (segment : List ℕ) → Finds (List ℕ) IsId (id.id_of segment)
-id_finds segment = by (is_utf8 (percent_decode segment)) (percent_decode segment)
-  where
-    by : (b : Bool) (text : List ℕ) → Finds (List ℕ) IsId (cond b (id.id_or fault.Id text) (Err fault.Id))
-    by true text = id_or_finds fault.Id text refl
-    by false text = record { found = refl }
+id_finds segment = id_or_finds fault.Id (percent_decode segment) refl
 
 pub number_finds : (segment : List ℕ) → Finds ℕ Anything (id.order_number_of segment)
 number_finds segment = tested_finds Anything (id.is_order_number segment) (digits_value 10 segment) fault.Id refl (λ h. tt)
@@ -79,17 +79,22 @@ number_finds segment = tested_finds Anything (id.is_order_number segment) (digit
 abbrev pub IsGivenId : Option (List ℕ) → Type 0
 IsGivenId o = IfSome o IsId
 
-given_finds : (r : Result (List ℕ) AskFault) → Finds (List ℕ) IsId r → Finds (Option (List ℕ)) IsGivenId (given r)
-given_finds (Ok x) h = record { found = h.found }
-given_finds (Err e) h = record { found = h.found }
+-- P of each that is given
+given_finds : {A B : Type 0} (P : B → Type 0) (f : A → Result B AskFault) → ((x : A) → Finds B P (f x)) → (o : Option A) → Finds (Option B) (λ found. IfSome found P) (if_given f o)
+given_finds P f h None = record { found = tt }
+given_finds {B = B} P f h (Some x) = by (f x) (h x)
+  where
+    by : (r : Result B AskFault) → Finds B P r → Finds (Option B) (λ found. IfSome found P) (option_transpose (Some r))
+    by (Ok y) here = record { found = here.found }
+    by (Err e) here = record { found = here.found }
 
 unless_empty_finds : (e : AskFault) (o : Option (List ℕ)) → is_late e ≡ true → Finds (Option (List ℕ)) IsGivenId (id.id_unless_empty_or e o)
 unless_empty_finds e None late = record { found = tt }
 unless_empty_finds e (Some text) late = by (length text == 0)
   where
-    by : (b : Bool) → Finds (Option (List ℕ)) IsGivenId (cond b (Ok None) (given (id.id_or e text)))
+    by : (b : Bool) → Finds (Option (List ℕ)) IsGivenId (if_given (id.id_or e) (cond b None (Some text)))
     by true = record { found = tt }
-    by false = given_finds (id.id_or e text) (id_or_finds e text late)
+    by false = given_finds IsId (id.id_or e) (λ t. id_or_finds e t late) (Some text)
 
 -- ---- queries
 
@@ -98,11 +103,10 @@ chosen_finds true c x y e late = record { found = tt }
 chosen_finds false c x y e late = tested_finds Anything c y e late (λ h. tt)
 
 pub accepts_finds : (q : List ℕ) → Finds Bool Anything (query.accepts_incomplete_in q)
-accepts_finds q = by (query.query_value (codes "accepts_incomplete") q)
+accepts_finds q = by (unwrap_or (query.query_value (codes "accepts_incomplete") q) (codes "false"))
   where
-    by : (o : Option (List ℕ)) → Finds Bool Anything (query.accepts_incomplete_by o)
-    by None = record { found = tt }
-    by (Some text) = chosen_finds (bytes_eq text (codes "true")) (bytes_eq text (codes "false")) true false fault.Query refl
+    by : (text : List ℕ) → Finds Bool Anything (cond (bytes_eq text (codes "true")) (Ok true) (cond (bytes_eq text (codes "false")) (Ok false) (Err fault.Query)))
+    by text = chosen_finds (bytes_eq text (codes "true")) (bytes_eq text (codes "false")) true false fault.Query refl
 
 pub id_in_finds : (name q : List ℕ) → Finds (List ℕ) IsId (query.query_id name q)
 id_in_finds name q = then_finds Anything IsId (needed fault.Query (query.query_value name q)) _ (needed_finds fault.Query _ refl) (λ text _. id_or_finds fault.Query text refl)
@@ -126,18 +130,19 @@ body_finds bytes = by (object_of bytes) refl
 text_finds : (name : List ℕ) (v : Data) → Finds (Option (List ℕ)) Anything (body.body_text_at name v)
 text_finds name v = or_body_finds (field as_str name v)
 
+-- the text of the name, which has to be there
+there_finds : (name : List ℕ) (v : Data) → Finds (List ℕ) Anything (body.body_text_at name v >>= needed fault.Body)
+there_finds name v = then_finds Anything Anything (body.body_text_at name v) (needed fault.Body) (text_finds name v) (λ o _. needed_finds fault.Body o refl)
+
 pub id_at_finds : (name : List ℕ) (v : Data) → Finds (List ℕ) IsId (body.id_at name v)
 id_at_finds name v =
-    then_finds Anything IsId (body.body_text_at name v >>= needed fault.Body) _
-    (then_finds Anything Anything (body.body_text_at name v) (needed fault.Body) (text_finds name v) (λ o _. needed_finds fault.Body o refl))
+    then_finds Anything IsId (body.body_text_at name v >>= needed fault.Body) _ (there_finds name v)
     (λ text _. id_or_finds fault.Body text refl)
 
 pub given_id_finds : (name : List ℕ) (v : Data) → Finds (Option (List ℕ)) IsGivenId (body.given_id_at name v)
-given_id_finds name v = then_finds Anything IsGivenId (body.body_text_at name v) body.given_id_by (text_finds name v) (λ o _. by o)
-  where
-    by : (o : Option (List ℕ)) → Finds (Option (List ℕ)) IsGivenId (body.given_id_by o)
-    by None = record { found = tt }
-    by (Some text) = given_finds (id.id_or fault.Body text) (id_or_finds fault.Body text refl)
+given_id_finds name v =
+    then_finds Anything IsGivenId (body.body_text_at name v) (if_given (id.id_or fault.Body)) (text_finds name v)
+    (λ o _. given_finds IsId (id.id_or fault.Body) (λ text. id_or_finds fault.Body text refl) o)
 
 pub app_finds : (v : Data) → Finds (Option (List ℕ)) IsGivenId (body.app_guid_at v)
 app_finds v = then_finds Anything IsGivenId (body.body_text_at (codes "app_guid") v) _ (text_finds (codes "app_guid") v) (λ o _. unless_empty_finds fault.Body o refl)
@@ -156,11 +161,9 @@ description_finds v = then_finds Anything IsDescription (body.body_text_at (code
     by (Some text) = tested_finds IsDescription (nat_le (length text) 1000 && has_no_controls text) text fault.Body refl (described text)
 
 pub state_finds : (v : Data) → Finds ReportState Anything (body.state_at v)
-state_finds v = then_finds Anything Anything (body.body_text_at (codes "state") v) body.state_by (text_finds (codes "state") v) (λ o _. by o)
-  where
-    by : (o : Option (List ℕ)) → Finds ReportState Anything (body.state_by o)
-    by None = record { found = refl }
-    by (Some text) = chosen_finds (bytes_eq text (codes "succeeded")) (bytes_eq text (codes "failed")) Succeeded Failed fault.Body refl
+state_finds v =
+    then_finds Anything Anything (body.body_text_at (codes "state") v >>= needed fault.Body) _ (there_finds (codes "state") v)
+    (λ text _. chosen_finds (bytes_eq text (codes "succeeded")) (bytes_eq text (codes "failed")) Succeeded Failed fault.Body refl)
 
 -- ---- objects
 
@@ -193,12 +196,6 @@ or_empty_finds name v ok = then_finds IsGivenObject IsObject (body.object_at nam
     by (Some text) h = record { found = h }
 
 pub maintenance_finds : (v : Data) → Finds (Option (List ℕ)) Anything (body.maintenance_at v)
-maintenance_finds v = then_finds Anything Anything (body.or_body (field object_value (codes "maintenance_info") v)) body.maintenance_by (or_body_finds (field object_value (codes "maintenance_info") v)) (λ o _. by o)
-  where
-    text_by : (o : Option (List ℕ)) → Finds (Option (List ℕ)) Anything (given (needed fault.Body o))
-    text_by None = record { found = refl }
-    text_by (Some text) = record { found = tt }
-
-    by : (o : Option Data) → Finds (Option (List ℕ)) Anything (body.maintenance_by o)
-    by None = record { found = tt }
-    by (Some info) = then_finds Anything Anything (body.body_text_at (codes "version") info) _ (text_finds (codes "version") info) (λ o _. text_by o)
+maintenance_finds v =
+    then_finds Anything Anything (body.or_body (field object_value (codes "maintenance_info") v)) _ (or_body_finds (field object_value (codes "maintenance_info") v))
+    (λ o _. any_finds (given_finds Anything (λ info. body.body_text_at (codes "version") info >>= needed fault.Body) (there_finds (codes "version")) o))

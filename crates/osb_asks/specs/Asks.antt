@@ -1,5 +1,6 @@
 -- The ask of a request, or its first fault.
-use Rattle.std.specs.Prelude.{ℕ, List, Bool, true, false, Result, Ok, Err}
+use Rattle.std.specs.Prelude.{Bool, true, false, Result, Ok, Err}
+use Rattle.osb_text.specs.Names.{Bytes}
 use Rattle.osb_frames.specs.Cuts.{Message}
 use Rattle.osb_catalog.specs.Rules.{Rules}
 use Rattle.osb_asks.specs.declared.ask_fault.AskFault.{AskFault}
@@ -16,7 +17,7 @@ use Rattle.osb_asks.specs.Bindings.{bind_of, fetch_binding_of, unbind_of, bindin
 use Rattle.osb_asks.specs.Backend.{orders_of, report_of}
 
 -- what is asked by that route
-abbrev pub ask_at : Rules → List ℕ → List ℕ → Routed → Result Ask AskFault
+abbrev pub ask_at : Rules → Bytes → Bytes → Routed → Result Ask AskFault
 ask_at rules query body route.Catalog = Ok ask.Catalog
 ask_at rules query body (route.Provision i) = provision_of rules i query body
 ask_at rules query body (route.Fetch i) = fetch_of i
@@ -37,17 +38,14 @@ ask_of rules q = admit_of rules q >>= ask_at rules (query_of q.target) q.body
 
 -- ---- what is found before an id is read, for which no memory is taken: the faults up to NoRoute, and the catalog
 
-abbrev pub is_early_fault : AskFault → Bool
-is_early_fault fault.NoDoor = true
-is_early_fault fault.Auth = true
-is_early_fault fault.Version = true
-is_early_fault fault.NoRoute = true
-is_early_fault _ = false
-
 abbrev pub is_catalog : Ask → Bool
 is_catalog ask.Catalog = true
 is_catalog _ = false
 
 abbrev pub is_early : Result Ask AskFault → Bool
 is_early (Ok ask) = is_catalog ask
-is_early (Err fault) = is_early_fault fault
+is_early (Err fault.NoDoor) = true
+is_early (Err fault.Auth) = true
+is_early (Err fault.Version) = true
+is_early (Err fault.NoRoute) = true
+is_early (Err _) = false

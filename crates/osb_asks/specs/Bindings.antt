@@ -1,7 +1,8 @@
 -- What requests for bindings ask, by the segments of the ids of instance and binding, the query and the body. Faults
 -- are found in the order of the lines: of the ids, of the query, of the body, and of the catalog.
-use Rattle.std.specs.Prelude.{ℕ, List, Bool, Result, Ok, codes}
+use Rattle.std.specs.Prelude.{Bool, Result, Ok, codes}
 use Rattle.serde_json.specs.Data.{Data}
+use Rattle.osb_text.specs.Names.{Bytes, Id}
 use Rattle.osb_catalog.specs.Rules.{Rules}
 use Rattle.osb_asks.specs.declared.ask_fault.AskFault.{AskFault}
 use Rattle.osb_asks.specs.declared.ask.Ask.{Ask}
@@ -15,7 +16,7 @@ use Rattle.osb_asks.specs.Offers.{has_plan, if_offered}
 
 -- ---- OSB API 2.17, "Binding"
 
-unfoldable pub bind_in : List ℕ → List ℕ → Bool → Data → Result Bind AskFault
+unfoldable pub bind_in : Id → Id → Bool → Data → Result Bind AskFault
 bind_in instance binding accepts_incomplete v = do
   named ← plan_at v
   app_guid ← app_guid_at v
@@ -23,7 +24,7 @@ bind_in instance binding accepts_incomplete v = do
   details ← details_at v
   Ok (record { instance = instance; binding = binding; service = named.service; plan = named.plan; app_guid = app_guid; bind_resource = bind_resource; context = details.context; parameters = details.parameters; accepts_incomplete = accepts_incomplete })
 
-unfoldable pub bind_of : Rules → List ℕ → List ℕ → List ℕ → List ℕ → Result Ask AskFault
+unfoldable pub bind_of : Rules → Bytes → Bytes → Bytes → Bytes → Result Ask AskFault
 bind_of rules i b q body = do
   instance ← id_of i
   binding ← id_of b
@@ -34,7 +35,7 @@ bind_of rules i b q body = do
 
 -- ---- "Fetching a Service Binding"
 
-unfoldable pub fetch_binding_of : List ℕ → List ℕ → Result Ask AskFault
+unfoldable pub fetch_binding_of : Bytes → Bytes → Result Ask AskFault
 fetch_binding_of i b = do
   instance ← id_of i
   binding ← id_of b
@@ -42,7 +43,7 @@ fetch_binding_of i b = do
 
 -- ---- "Unbinding"
 
-unfoldable pub unbind_of : Rules → List ℕ → List ℕ → List ℕ → Result Ask AskFault
+unfoldable pub unbind_of : Rules → Bytes → Bytes → Bytes → Result Ask AskFault
 unbind_of rules i b q = do
   instance ← id_of i
   binding ← id_of b
@@ -53,8 +54,8 @@ unbind_of rules i b q = do
 
 -- ---- "Polling Last Operation for Service Bindings"
 
-unfoldable pub binding_op_of : List ℕ → List ℕ → List ℕ → Result Ask AskFault
+unfoldable pub binding_op_of : Bytes → Bytes → Bytes → Result Ask AskFault
 binding_op_of i b q = do
   instance ← id_of i
   binding ← id_of b
-  Ok (ask.BindingOp (record { instance = instance; binding = binding; operation = query.operation_in q }))
+  Ok (ask.BindingOp (record { instance = instance; binding = binding; operation = query.query_value (codes "operation") q }))

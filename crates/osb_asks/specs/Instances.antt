@@ -1,7 +1,8 @@
 -- What requests for instances ask, by the segment of the instance's id, the query and the body. Faults are found in
 -- the order of the lines: of the id, of the query, of the body, and of the catalog.
-use Rattle.std.specs.Prelude.{ℕ, List, Bool, Result, Ok, codes}
+use Rattle.std.specs.Prelude.{Bool, Result, Ok, codes}
 use Rattle.serde_json.specs.Data.{Data}
+use Rattle.osb_text.specs.Names.{Bytes, Id}
 use Rattle.osb_catalog.specs.Rules.{Rules}
 use Rattle.osb_asks.specs.declared.ask_fault.AskFault.{AskFault}
 use Rattle.osb_asks.specs.declared.ask.Ask.{Ask}
@@ -16,7 +17,7 @@ use Rattle.osb_asks.specs.Offers.{has_plan, has_given_plan, if_offered}
 
 -- ---- OSB API 2.17, "Provisioning"
 
-unfoldable pub provision_in : List ℕ → Bool → Data → Result Provision AskFault
+unfoldable pub provision_in : Id → Bool → Data → Result Provision AskFault
 provision_in instance accepts_incomplete v = do
   named ← plan_at v
   place ← space_at v
@@ -24,7 +25,7 @@ provision_in instance accepts_incomplete v = do
   maintenance ← maintenance_at v
   Ok (record { instance = instance; service = named.service; plan = named.plan; organization = place.organization; space = place.space; context = details.context; parameters = details.parameters; maintenance = maintenance; accepts_incomplete = accepts_incomplete })
 
-unfoldable pub provision_of : Rules → List ℕ → List ℕ → List ℕ → Result Ask AskFault
+unfoldable pub provision_of : Rules → Bytes → Bytes → Bytes → Result Ask AskFault
 provision_of rules i q body = do
   instance ← id_of i
   accepts_incomplete ← query.accepts_incomplete_in q
@@ -34,14 +35,12 @@ provision_of rules i q body = do
 
 -- ---- "Fetching a Service Instance"
 
-unfoldable pub fetch_of : List ℕ → Result Ask AskFault
-fetch_of i = do
-  instance ← id_of i
-  Ok (ask.Fetch (record { instance = instance }))
+unfoldable pub fetch_of : Bytes → Result Ask AskFault
+fetch_of i = id_of i >>= λ instance. Ok (ask.Fetch (record { instance = instance }))
 
 -- ---- "Updating a Service Instance"
 
-unfoldable pub update_in : List ℕ → Bool → Data → Result Update AskFault
+unfoldable pub update_in : Id → Bool → Data → Result Update AskFault
 update_in instance accepts_incomplete v = do
   service ← id_at (codes "service_id") v
   plan ← given_id_at (codes "plan_id") v
@@ -50,7 +49,7 @@ update_in instance accepts_incomplete v = do
   maintenance ← maintenance_at v
   Ok (record { instance = instance; service = service; plan = plan; context = context; parameters = parameters; maintenance = maintenance; accepts_incomplete = accepts_incomplete })
 
-unfoldable pub update_of : Rules → List ℕ → List ℕ → List ℕ → Result Ask AskFault
+unfoldable pub update_of : Rules → Bytes → Bytes → Bytes → Result Ask AskFault
 update_of rules i q body = do
   instance ← id_of i
   accepts_incomplete ← query.accepts_incomplete_in q
@@ -60,7 +59,7 @@ update_of rules i q body = do
 
 -- ---- "Deprovisioning"
 
-unfoldable pub deprovision_of : Rules → List ℕ → List ℕ → Result Ask AskFault
+unfoldable pub deprovision_of : Rules → Bytes → Bytes → Result Ask AskFault
 deprovision_of rules i q = do
   instance ← id_of i
   accepts_incomplete ← query.accepts_incomplete_in q
@@ -70,7 +69,7 @@ deprovision_of rules i q = do
 
 -- ---- "Polling Last Operation for Service Instances"
 
-unfoldable pub instance_op_of : List ℕ → List ℕ → Result Ask AskFault
+unfoldable pub instance_op_of : Bytes → Bytes → Result Ask AskFault
 instance_op_of i q = do
   instance ← id_of i
-  Ok (ask.InstanceOp (record { instance = instance; operation = query.operation_in q }))
+  Ok (ask.InstanceOp (record { instance = instance; operation = query.query_value (codes "operation") q }))

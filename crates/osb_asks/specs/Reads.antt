@@ -1,5 +1,5 @@
 -- What a reader of a request answers: what is found, or the first fault, unless memory was refused.
-use Rattle.std.specs.Prelude.{◌≡◌, ◌≢◌, Option, Some, None, Result, Ok, Err}
+use Rattle.std.specs.Prelude.{◌≡◌, ◌≢◌, Option, ok_or, Result, Ok, Err}
 use Rattle.osb_asks.specs.declared.ask_fault.AskFault.{AskFault}
 use Rattle.osb_asks.specs.declared.ask_fault.AskFault.TheVariants.{Memory}
 
@@ -16,10 +16,4 @@ abbrev pub ◌>>=◌ : {A B : Type 0} → Result A AskFault → (A → Result B 
 
 -- what is there, or the fault
 abbrev pub needed : {A : Type 0} → AskFault → Option A → Result A AskFault
-needed fault None = Err fault
-needed fault (Some x) = Ok x
-
--- what is found, as something that may be there
-abbrev pub given : {A : Type 0} → Result A AskFault → Result (Option A) AskFault
-given (Ok x) = Ok (Some x)
-given (Err fault) = Err fault
+needed fault found = ok_or found fault

@@ -15,9 +15,9 @@ pub data Routed : Type 0 where
 abbrev pub method_of : List ℕ → Option Method
 method_of name =
     if bytes_eq name (codes "GET") then Some Get
-    else (if bytes_eq name (codes "PUT") then Some Put
-    else (if bytes_eq name (codes "PATCH") then Some Patch
-    else (if bytes_eq name (codes "DELETE") then Some Delete else None)))
+    else if bytes_eq name (codes "PUT") then Some Put
+    else if bytes_eq name (codes "PATCH") then Some Patch
+    else if bytes_eq name (codes "DELETE") then Some Delete else None
 
 abbrev pub route_at : Method → Named → Option Routed
 route_at Get catalog = Some Catalog

@@ -34,6 +34,7 @@ fn door_at(segment: &[u8]) -> Option<Door>
 }
 
 /// The door that a target leads to, and what is behind it.
+#[tactic(auto, using(crate::proofs::TargetLemmas::no_entry))]
 pub(crate) fn entry_of(target: &[u8]) -> Option<DoorAndPath<'_>>
     ensures { option_map seen_path result ≡ spec.entry_of target.now }
 {

@@ -37,6 +37,7 @@ impl Id {
         }
     }
 
+    /// The text of the id.
     pub fn as_str(&self) -> &str
         ensures value { result.now ≡ self.now }
         ensures id { is_id self.now ≡ true }

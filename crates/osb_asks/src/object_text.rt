@@ -63,6 +63,7 @@ impl ObjectText {
         })
     }
 
+    /// The compact text of the object.
     pub fn as_str(&self) -> &str
         ensures value { result.now ≡ self.now }
         ensures object { is_object_text self.now ≡ true }

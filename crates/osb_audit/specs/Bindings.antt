@@ -5,7 +5,7 @@ use Rattle.std.specs.Ordering.{nat_cmp, ordering_then}
 use Rattle.std.specs.Cmp.Lexicographic.{slice_cmp}
 use Rattle.std.specs.FinMap.{entries}
 use Rattle.osb_orders.specs.declared.view.BindingNow.{BindingNow}
-use Rattle.osb_orders.specs.Orders.{no_context}
+use Rattle.osb_orders.specs.Orders.{empty_object}
 use Rattle.osb_orders.specs.Life.{Life}
 use Rattle.osb_orders.specs.Lives.{Lives, life_of}
 use Rattle.osb_standing.specs.Rows.{bindings_of}
@@ -36,7 +36,7 @@ binding_now entry = record {
     spot = entry.bind_resource;
     parameters = entry.parameters;
     maintenance = [];
-    context = no_context;
+    context = empty_object;
   };
   credentials = entry.credentials;
 }

@@ -7,14 +7,14 @@ use Rattle.osb_orders.specs.declared.order.Order.{Order}
 use Rattle.osb_orders.specs.declared.order.Change.{Change}
 use Rattle.osb_orders.specs.declared.order.Change.TheVariants.{Nothing, Append, Finish}
 use Rattle.osb_orders.specs.declared.view.Standing.{Standing}
-use Rattle.osb_orders.specs.Orders.{no_context}
+use Rattle.osb_orders.specs.Orders.{empty_object}
 use Rattle.osb_orders.specs.Life.{Life}
 use Rattle.osb_orders.specs.Lives.{Lives}
 use Rattle.osb_standing.specs.declared.row.InstanceRow.{InstanceRow}
 use Rattle.osb_audit.specs.Orders.{Entry}
 
 abbrev pub bare_attributes : Attributes → Attributes
-bare_attributes attributes = record attributes { context = no_context }
+bare_attributes attributes = record attributes { context = empty_object }
 
 abbrev pub bare_order : Order → Order
 bare_order order = record order { attributes = bare_attributes order.attributes }

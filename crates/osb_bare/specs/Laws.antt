@@ -6,7 +6,7 @@ use Rattle.osb_orders.specs.declared.order.Order.{Order}
 use Rattle.osb_orders.specs.declared.order.Change.{Change}
 use Rattle.osb_orders.specs.declared.view.BindingNow.{BindingNow}
 use Rattle.osb_orders.specs.Lists.{last_of}
-use Rattle.osb_orders.specs.Orders.{no_context}
+use Rattle.osb_orders.specs.Orders.{empty_object}
 use Rattle.osb_orders.specs.Life.{Life, standing_of}
 use Rattle.osb_orders.specs.Bindings.{has_bindings}
 use Rattle.osb_orders.specs.Lives.{Lives, life_of}
@@ -30,7 +30,7 @@ use Rattle.osb_bare.specs.Context.{standing_context, context_edit}
 -- ---- the lives
 
 abbrev pub BareLivesHaveNoContext : Type 0
-BareLivesHaveNoContext = (life : Life) → AllByRecursion (λ order. order.attributes.context ≡ no_context) (bare_life life)
+BareLivesHaveNoContext = (life : Life) → AllByRecursion (λ order. order.attributes.context ≡ empty_object) (bare_life life)
 
 abbrev pub BareLivesAreWellFormed : Type 0
 BareLivesAreWellFormed = (lives : Lives) → IsLives lives → IsLives (bare_lives lives)

@@ -11,26 +11,27 @@ use Rattle.osb_asks.specs.declared.ask.Ask.{Ask}
 use Rattle.osb_asks.specs.declared.ask_fault.AskFault.{AskFault}
 use Rattle.osb_asks.specs.Asks.{ask_of}
 use Rattle.osb_orders.specs.Lives.{Lives, life_of}
-use Rattle.osb_orders.specs.Named.{instance_in}
+use Rattle.osb_asks.specs.Subjects.{instance_id_of}
 use Rattle.osb_machine.specs.Machine.{after_step}
 use Rattle.osb_laws.proofs.MapLemmas.{answers_apart, one_life, others_stay, unnamed_stay}
 use Rattle.osb_broker.specs.Machine.{Answered, reply_of}
-use Rattle.osb_broker.specs.Steps.{answer_alone, step_of, step_for, lives_after}
+use Rattle.osb_broker.specs.Steps.{step_of, step_for, lives_after}
 use Rattle.osb_broker.specs.Connection.{ConnectionText, Run}
 use Rattle.osb_broker.specs.Resend.{refusing}
 use Rattle.osb_broker.specs.Apart.{AsksOf, Chooses, picked, InstancesAreApart}
 use Rattle.osb_broker.proofs.OneByOneLemmas.{text_of_request}
 use Rattle.osb_broker.proofs.RequestLemmas.{Kind, silent, broken, asks, Seen, view, AreValidTexts}
 use Rattle.osb_broker.proofs.RepeatLemmas.{once}
+use Rattle.osb_broker.proofs.StepLemmas.{answer_alone}
 
 -- two maps with one life for the instance answer alike
-pub same_told : (rules : Rules) (s v : Lives) (ask : Ask) (id : List ℕ) → instance_in ask ≡ Some id → life_of s id ≡ life_of v id → (step_of rules s ask).0 ≡ (step_of rules v ask).0
+pub same_told : (rules : Rules) (s v : Lives) (ask : Ask) (id : List ℕ) → instance_id_of ask ≡ Some id → life_of s id ≡ life_of v id → (step_of rules s ask).0 ≡ (step_of rules v ask).0
 same_told rules s v ask id e same = ap answer_alone (answers_apart rules s v ask id e same)
 
 -- ---- whether a connection asks something of the instance
 
 module _ (rules : Rules) (limits : Limits) (id : List ℕ) where
-  decide_at : (bytes : List ℕ) (q : Message) (n : ℕ) → IsFront limits bytes (whole q n) → (r : Result Ask AskFault) → ask_of rules q ≡ r → (at : Option (List ℕ)) → ((ask : Ask) → r ≡ Ok ask → instance_in ask ≡ at) → AsksOf rules limits id bytes ⊎ (AsksOf rules limits id bytes → ⊥)
+  decide_at : (bytes : List ℕ) (q : Message) (n : ℕ) → IsFront limits bytes (whole q n) → (r : Result Ask AskFault) → ask_of rules q ≡ r → (at : Option (List ℕ)) → ((ask : Ask) → r ≡ Ok ask → instance_id_of ask ≡ at) → AsksOf rules limits id bytes ⊎ (AsksOf rules limits id bytes → ⊥)
   decide_at bytes q n front (Err f) e at is = inr (λ names.
       let same = front_unique limits bytes (whole q n) (whole names.q names.n) front names.front in
       let one : q ≡ names.q = cc in
@@ -41,7 +42,7 @@ module _ (rules : Rules) (limits : Limits) (id : List ℕ) where
       let one : q ≡ names.q = cc in
       let found : Ok ask ≡ Ok names.ask = sym e ∙ ap (ask_of rules) one ∙ names.asks in
       let its : ask ≡ names.ask = cc in
-      let none : None ≡ Some id = sym (is ask refl) ∙ ap instance_in its ∙ names.names in
+      let none : None ≡ Some id = sym (is ask refl) ∙ ap instance_id_of its ∙ names.names in
       cc)
   decide_at bytes q n front (Ok ask) e (Some other) is = by (bytes_eq other id) refl
     where
@@ -52,14 +53,14 @@ module _ (rules : Rules) (limits : Limits) (id : List ℕ) where
           let one : q ≡ names.q = cc in
           let found : Ok ask ≡ Ok names.ask = sym e ∙ ap (ask_of rules) one ∙ names.asks in
           let its : ask ≡ names.ask = cc in
-          let some : Some other ≡ Some id = sym (is ask refl) ∙ ap instance_in its ∙ names.names in
+          let some : Some other ≡ Some id = sym (is ask refl) ∙ ap instance_id_of its ∙ names.names in
           let it : other ≡ id = cc in
           let sure : bytes_eq other id ≡ true = (bytes_eq-Decides other id).1 it in
           let bad : true ≡ false = sym sure ∙ t in
           cc)
 
   abbrev pub instance_found : Result Ask AskFault → Option (List ℕ)
-  instance_found (Ok ask) = instance_in ask
+  instance_found (Ok ask) = instance_id_of ask
   instance_found (Err f) = None
 
   pub decide : (bytes : List ℕ) → Kind limits bytes → AsksOf rules limits id bytes ⊎ (AsksOf rules limits id bytes → ⊥)
@@ -77,12 +78,12 @@ module _ (rules : Rules) (limits : Limits) (takes : Message → Bool) (id bytes 
   stays (asks q n at) s marks texts u (true, reply, a, b, answered) unnamed = ap (λ l. life_of l id) answered.2
   stays (asks q n at) s marks texts u (false, reply, a, b, answered) unnamed = ap (λ l. life_of l id) answered.1 ∙ by (ask_of rules q) refl
     where
-      over : (ask : Ask) → ask_of rules q ≡ Ok ask → (found : Option (List ℕ)) → instance_in ask ≡ found → life_of (after_step rules s ask) id ≡ life_of s id
+      over : (ask : Ask) → ask_of rules q ≡ Ok ask → (found : Option (List ℕ)) → instance_id_of ask ≡ found → life_of (after_step rules s ask) id ≡ life_of s id
       over ask e None is = ap (λ l. life_of l id) (unnamed_stay rules s ask is)
       over ask e (Some other) is = others_stay rules s ask other id is (λ same. unnamed (record { q = q; n = n; ask = ask; front = at; asks = e; names = is ∙ ap Some (sym same) }))
 
       by : (r : Result Ask AskFault) → ask_of rules q ≡ r → life_of (step_for rules s r).1 id ≡ life_of s id
-      by (Ok ask) e = over ask e (instance_in ask) refl
+      by (Ok ask) e = over ask e (instance_id_of ask) refl
       by (Err f) e = refl
 
   -- one that does is answered alike where the instance has that life, and leaves one life

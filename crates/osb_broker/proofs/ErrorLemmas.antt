@@ -6,7 +6,7 @@ use Rattle.osb_asks.specs.declared.ask.Ask.{Ask}
 use Rattle.osb_asks.specs.declared.ask_fault.AskFault.{AskFault}
 use Rattle.osb_asks.specs.Asks.{ask_of}
 use Rattle.osb_orders.specs.Lives.{Lives}
-use Rattle.osb_orders.specs.Named.{instance_in}
+use Rattle.osb_asks.specs.Subjects.{instance_id_of}
 use Rattle.osb_machine.specs.Machine.{answer_to}
 use Rattle.osb_laws.specs.Statuses.{is_success}
 use Rattle.osb_laws.proofs.FailureLemmas.{errors_change_nothing}
@@ -18,4 +18,4 @@ errors_stay rules lives q = by (ask_of rules q)
   where
     by : (r : Result Ask AskFault) → is_success (step_for rules lives r).0.status ≡ false → (step_for rules lives r).1 ≡ lives
     by (Err f) e = refl
-    by (Ok ask) e = quiet_step (answer_to rules lives ask).change lives (instance_in ask) (errors_change_nothing rules lives ask e)
+    by (Ok ask) e = quiet_step (answer_to rules lives ask).change lives (instance_id_of ask) (errors_change_nothing rules lives ask e)

@@ -1,12 +1,13 @@
 -- What lacks the logins of its door changes nothing and learns nothing, and each door has its own asks.
 use Rattle.std.proofs.Common.{◌≡◌, ℕ, Bool, true, false, not, ◌==◌, List, [], ◌∷◌, drop, take, codes, bytes_eq, Option, Some, None, IfSome, Result, Ok, Err, refl, sym, ap, subst, ◌∙◌, inl, inr, ◌⊎◌}
 use Rattle.std.specs.Prelude.{if◌then◌else◌}
+use Rattle.std.specs.List.{slice_get}
 use Rattle.std.specs.Option.{option_map_or, option_and_then}
 use Rattle.std.specs.Str.{str_to_ascii_lowercase}
 use Rattle.std.proofs.lemmas.Bool.{and_parts}
 use Rattle.std.proofs.lemmas.List.Folds.{Any-from_list_any}
 use Rattle.std.proofs.lemmas.Slice.Eq.{bytes_eq-Decides}
-use Rattle.osb_frames.specs.Fields.{values_of, first_value}
+use Rattle.osb_frames.specs.Fields.{values_of}
 use Rattle.osb_frames.specs.Cuts.{Message}
 use Rattle.osb_catalog.specs.Rules.{Rules}
 use Rattle.osb_asks.specs.declared.ask.Ask.{Ask}
@@ -242,5 +243,5 @@ pub platform_reports_nothing : PlacesHaveDoors → (rules : Rules) (q : Message)
 platform_reports_nothing places rules q ask apart let_in asked = by (asks_have_logins places rules q ask asked)
   where
     by : HasOwn rules q ask → is_of_backend ask ≡ false
-    by (inl both) = absurd (apart (in_both rules.platform_tokens rules.backend_tokens (first_value (values_of (codes "authorization") q.lines)) let_in both.1))
+    by (inl both) = absurd (apart (in_both rules.platform_tokens rules.backend_tokens (slice_get (values_of (codes "authorization") q.lines) 0) let_in both.1))
     by (inr it) = it.0

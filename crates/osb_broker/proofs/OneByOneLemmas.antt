@@ -1,9 +1,9 @@
 -- What the loops keep, and the two stages of a connection: they say the same.
-use Rattle.std.proofs.Common.{◌≡◌, ℕ, zero, suc, ◌+◌, ◌==◌, Bool, true, false, ◌||◌, List, [], ◌∷◌, ◌++◌, drop, length, map, sym, refl, ap, subst, ◌∙◌, arith}
+use Rattle.std.proofs.Common.{◌≡◌, ℕ, zero, suc, ◌+◌, ◌==◌, Bool, true, false, cond, ◌||◌, List, [], ◌∷◌, ◌++◌, drop, length, map, sym, refl, ap, subst, ◌∙◌, arith}
 use Rattle.std.proofs.lemmas.Bool.{ne_eqb}
 use Rattle.osb_frames.specs.declared.limits.Limits.{Limits}
 use Rattle.osb_frames.specs.declared.step.StopKind.{StopKind}
-use Rattle.osb_frames.specs.Cuts.{Message, closes, Front, nothing, fault, whole, IsFront, End, ended, closed, stopped, Goes, Follows, Cuts}
+use Rattle.osb_frames.specs.Cuts.{Message, closes, nothing, fault, whole, IsFront, End, ended, closed, stopped, EndsAt, Cuts}
 use Rattle.osb_replies.specs.Text.{ReplyParts, reply_text}
 use Rattle.osb_replies.specs.Parts.{refused}
 use Rattle.osb_broker.specs.Machine.{Machine, Answered, reply_of, fault_reply}
@@ -13,16 +13,16 @@ use Rattle.osb_broker.specs.Served.{FirstTexts}
 use Rattle.osb_broker.specs.Serving.{Past, replies_unmarked}
 
 -- nothing is cut behind the last that is looked for
-goes_none : (limits : Limits) (c : Bool) (bytes : List ℕ) → Goes c (Cuts limits 0 bytes) [] closed
+goes_none : (limits : Limits) (c : Bool) (bytes : List ℕ) → Cuts limits (cond c 0 0) bytes [] closed
 goes_none limits true bytes = (refl, refl)
 goes_none limits false bytes = (refl, refl)
 
-none_goes : (limits : Limits) (c : Bool) (bytes : List ℕ) (qs : List Message) (end : End) → Goes c (Cuts limits 0 bytes) qs end → (qs ≡ []) × (end ≡ closed)
+none_goes : (limits : Limits) (c : Bool) (bytes : List ℕ) (qs : List Message) (end : End) → Cuts limits (cond c 0 0) bytes qs end → (qs ≡ []) × (end ≡ closed)
 none_goes limits true bytes qs end cut = cut
 none_goes limits false bytes qs end cut = cut
 
 -- after a reply that closes nothing is cut
-goes_closed : (limits : Limits) (k : ℕ) (c : Bool) (bytes : List ℕ) → (c || (k == 0)) ≡ true → Goes c (Cuts limits (looked_for k []) bytes) [] closed
+goes_closed : (limits : Limits) (k : ℕ) (c : Bool) (bytes : List ℕ) → (c || (k == 0)) ≡ true → Cuts limits (cond c 0 (looked_for k [])) bytes [] closed
 goes_closed limits k true bytes e = (refl, refl)
 goes_closed limits zero false bytes e = (refl, refl)
 goes_closed limits (suc k) false bytes e = let f : (suc k == 0) ≡ false = ne_eqb (suc k) 0 (omega arith) in let g : true ≡ false = sym e ∙ f in cc
@@ -39,7 +39,7 @@ module _ {S : Type 0} (machine : Machine S) (limits : Limits) where
     record {
       requests = q ∷ more.requests;
       end = more.end;
-      cut = (whole q n, front, (more.requests, refl, subst (λ c. Goes c (Cuts limits (looked_for k marks) (drop n bytes)) more.requests more.end) (sym stays) more.cut));
+      cut = (n, front, subst (λ c. Cuts limits (cond c 0 (looked_for k marks)) (drop n bytes) more.requests more.end) (sym stays) more.cut);
       marked = ((λ e. cc), more.marked);
       printed = ap (λ l. reply_text (reply_of q (k == 0) (machine.step s q).0) ∷ l) more.printed;
       leaves = more.leaves;
@@ -53,7 +53,7 @@ module _ {S : Type 0} (machine : Machine S) (limits : Limits) where
     record {
       requests = q ∷ [];
       end = closed;
-      cut = (whole q n, front, ([], refl, goes_closed limits k (closes q) (drop n bytes) shut));
+      cut = (n, front, goes_closed limits k (closes q) (drop n bytes) shut);
       marked = ((λ e. cc), tt);
       printed = ap (λ r. reply_text (reply_of q (k == 0) (machine.step s q).0) ∷ map reply_text r.0) (sym (no_replies machine k (machine.step s q).1 []));
       leaves = ap (λ r. r.1) (sym (no_replies machine k (machine.step s q).1 []));
@@ -67,7 +67,7 @@ module _ {S : Type 0} (machine : Machine S) (limits : Limits) where
     record {
       requests = q ∷ [];
       end = closed;
-      cut = (whole q n, front, ([], refl, goes_none limits (closes q) (drop n bytes)));
+      cut = (n, front, goes_none limits (closes q) (drop n bytes));
       marked = ((λ e. takes), tt);
       printed = refl;
       leaves = refl;
@@ -78,13 +78,13 @@ module _ {S : Type 0} (machine : Machine S) (limits : Limits) where
   -- ---- where none is cut
 
   pub at_nothing : (k : ℕ) (s : S) (bytes : List ℕ) → IsFront limits bytes nothing → TextTo machine limits (suc k) s bytes [] [] ended s
-  at_nothing k s bytes none = (record { requests = []; end = ended; cut = (nothing, none, (refl, refl)); marked = tt; printed = refl; leaves = refl }, refl)
+  at_nothing k s bytes none = (record { requests = []; end = ended; cut = none; marked = tt; printed = refl; leaves = refl }, refl)
 
   pub text_of_nothing : (k : ℕ) (s : S) (bytes : List ℕ) → IsFront limits bytes nothing → ConnectionText machine limits (suc k) s bytes [] [] s
   text_of_nothing k s bytes none = (at_nothing k s bytes none).0
 
   pub at_stop : (k : ℕ) (s : S) (bytes : List ℕ) (f : StopKind) → IsFront limits bytes (fault f) → TextTo machine limits (suc k) s bytes [] (reply_text (fault_reply f) ∷ []) (stopped f) s
-  at_stop k s bytes f at = (record { requests = []; end = stopped f; cut = (fault f, at, (refl, refl)); marked = tt; printed = refl; leaves = refl }, refl)
+  at_stop k s bytes f at = (record { requests = []; end = stopped f; cut = at; marked = tt; printed = refl; leaves = refl }, refl)
 
   pub text_of_stop : (k : ℕ) (s : S) (bytes : List ℕ) (f : StopKind) → IsFront limits bytes (fault f) → ConnectionText machine limits (suc k) s bytes [] (reply_text (fault_reply f) ∷ []) s
   text_of_stop k s bytes f at = (at_stop k s bytes f at).0
@@ -102,18 +102,17 @@ module _ {S : Type 0} (machine : Machine S) (limits : Limits) where
   abbrev Ends : ℕ → S → List ℕ → List (List ℕ) → S → Type 0
   Ends k s bytes texts t = OneByOne machine limits (suc k) s bytes [] texts t
 
-  at_end : (k : ℕ) (s : S) (bytes : List ℕ) (front : Front) (end : End) (texts : List (List ℕ)) (t : S) → IsFront limits bytes front → Follows (Cuts limits k) bytes front [] end → texts ≡ map reply_text (end_replies end) → t ≡ s → Ends k s bytes texts t
-  at_end k s bytes nothing end texts t at (none, over) a b =
-      ends at (refl, a ∙ ap (λ e. map reply_text (end_replies e)) over, b)
-  at_end k s bytes (fault f) end texts t at (none, over) a b = faults f at refl (a ∙ ap (λ e. map reply_text (end_replies e)) over) b
-  at_end k s bytes (whole q n) end texts t at (later, e, goes) a b = cc
+  at_end : (k : ℕ) (s : S) (bytes : List ℕ) (end : End) (texts : List (List ℕ)) (t : S) → EndsAt limits bytes end → texts ≡ map reply_text (end_replies end) → t ≡ s → Ends k s bytes texts t
+  at_end k s bytes ended texts t at a b = ends at (refl, a, b)
+  at_end k s bytes (stopped f) texts t at a b = faults f at refl a b
+  at_end k s bytes closed texts t at a b = absurd at
 
   -- the replies of requests and an end that are none
   shut : (k : ℕ) (u : S) (qs : List Message) (end : End) (marks : List Bool) → qs ≡ [] → end ≡ closed → replies_of machine k u qs end marks ≡ ([], u)
   shut k u qs end marks none over = ap (λ l. replies_of machine k u l end marks) none ∙ ap (λ e. replies_of machine k u [] e marks) over ∙ no_replies machine k u marks
 
   -- after a request that isn't marked
-  goes_on : (k : ℕ) (u : S) (later : List ℕ) (marks : List Bool) (t : S) (qs : List Message) (end : End) (c : Bool) → Goes c (Cuts limits (looked_for k marks) later) qs end → AreMarks machine qs marks → t ≡ (replies_of machine k u qs end marks).1 → (Cuts limits (looked_for k marks) later qs end → OneByOne machine limits k u later marks (map reply_text (replies_of machine k u qs end marks).0) t) → GoesOn (c || (k == 0)) (OneByOne machine limits k u later) u marks (map reply_text (replies_of machine k u qs end marks).0) t
+  goes_on : (k : ℕ) (u : S) (later : List ℕ) (marks : List Bool) (t : S) (qs : List Message) (end : End) (c : Bool) → Cuts limits (cond c 0 (looked_for k marks)) later qs end → AreMarks machine qs marks → t ≡ (replies_of machine k u qs end marks).1 → (Cuts limits (looked_for k marks) later qs end → OneByOne machine limits k u later marks (map reply_text (replies_of machine k u qs end marks).0) t) → GoesOn (c || (k == 0)) (OneByOne machine limits k u later) u marks (map reply_text (replies_of machine k u qs end marks).0) t
   goes_on k u later marks t qs end true (none, over) are b more =
       let said = shut k u qs end marks none over in
       (no_marks marks (subst (λ l. AreMarks machine l marks) none are), ap (λ r. map reply_text r.0) said, b ∙ ap (λ r. r.1) said)
@@ -126,33 +125,22 @@ module _ {S : Type 0} (machine : Machine S) (limits : Limits) where
     where
       go : (k : ℕ) (s : S) (bytes : List ℕ) (marks : List Bool) (texts : List (List ℕ)) (t : S) (qs : List Message) (end : End) → Cuts limits (looked_for k marks) bytes qs end → AreMarks machine qs marks → texts ≡ map reply_text (replies_of machine k s qs end marks).0 → t ≡ (replies_of machine k s qs end marks).1 → OneByOne machine limits k s bytes marks texts t
       go zero s bytes marks texts t qs end cut are a b = (no_marks marks (subst (λ l. AreMarks machine l marks) cut.0 are), a, b)
-      go (suc k) s bytes [] texts t [] end (front, at, follows) are a b = at_end k s bytes front end texts t at follows a b
+      go (suc k) s bytes [] texts t [] end cut are a b = at_end k s bytes end texts t cut a b
       go (suc k) s bytes [] texts t (q ∷ qs) end cut are a b = absurd are
       go (suc k) s bytes (mark ∷ marks) texts t [] end cut are a b = absurd are
-      go (suc k) s bytes (true ∷ marks) texts t (q ∷ qs) end (nothing, at, follows) are a b = cc
-      go (suc k) s bytes (true ∷ marks) texts t (q ∷ qs) end (fault f, at, follows) are a b = cc
-      go (suc k) s bytes (true ∷ marks) texts t (q ∷ qs) end (whole p n, at, (later, e, goes)) are a b =
-          let same : q ≡ p = cc in
-          let tail : qs ≡ later = cc in
-          let rest : qs ≡ [] = tail ∙ (none_goes limits (closes p) (drop n bytes) later end goes).0 in
+      go (suc k) s bytes (true ∷ marks) texts t (q ∷ qs) end (n, at, goes) are a b =
+          let rest : qs ≡ [] = (none_goes limits (closes q) (drop n bytes) qs end goes).0 in
           let none : marks ≡ [] = no_marks marks (subst (λ l. AreMarks machine l marks) rest are.1) in
           answers true (reply_text refused) true s (drop n bytes) [] []
-          (record { q = p; n = n; front = at; fewer = refl; reply = refused; answered = (subst (λ x. machine.takes_memory x ≡ true) same (are.0 refl), refl, refl); says = refl; closed = refl; after = refl })
+          (record { q = q; n = n; front = at; fewer = refl; reply = refused; answered = (are.0 refl, refl, refl); says = refl; closed = refl; after = refl })
           (ap (λ l. true ∷ l) none) a (refl, refl, b)
-      go (suc k) s bytes (false ∷ marks) texts t (q ∷ qs) end (nothing, at, follows) are a b = cc
-      go (suc k) s bytes (false ∷ marks) texts t (q ∷ qs) end (fault f, at, follows) are a b = cc
-      go (suc k) s bytes (false ∷ marks) texts t (q ∷ qs) end (whole p n, at, (later, e, goes)) are a b =
-          let same : q ≡ p = cc in
-          let rest : later ≡ qs = cc in
+      go (suc k) s bytes (false ∷ marks) texts t (q ∷ qs) end (n, at, goes) are a b =
           let u : S = (machine.step s q).1 in
           let reply : ReplyParts = reply_of q (k == 0) (machine.step s q).0 in
           let ta : List (List ℕ) = map reply_text (replies_of machine k u qs end marks).0 in
-          let open_cut : Goes (closes q) (Cuts limits (looked_for k marks) (drop n bytes)) qs end =
-          subst (λ l. Goes (closes q) (Cuts limits (looked_for k marks) (drop n bytes)) l end) rest
-          (subst (λ x. Goes (closes x) (Cuts limits (looked_for k marks) (drop n bytes)) later end) (sym same) goes) in
           answers false (reply_text reply) reply.close u (drop n bytes) marks ta
-          (record { q = q; n = n; front = subst (λ x. IsFront limits bytes (whole x n)) (sym same) at; fewer = refl; reply = reply; answered = (refl, refl); says = refl; closed = refl; after = refl })
-          refl a (goes_on k u (drop n bytes) marks t qs end (closes q) open_cut are.1 b (λ cut. go k u (drop n bytes) marks ta t qs end cut are.1 refl b))
+          (record { q = q; n = n; front = at; fewer = refl; reply = reply; answered = (refl, refl); says = refl; closed = refl; after = refl })
+          refl a (goes_on k u (drop n bytes) marks t qs end (closes q) goes are.1 b (λ cut. go k u (drop n bytes) marks ta t qs end cut are.1 refl b))
 
   -- a request whose reply leaves the connection open leaves it open too
   pub stays_open : {k : ℕ} {s u : S} {bytes later text : List ℕ} {j : ℕ} → (one : OneReply machine limits k s bytes false text false j u later) → closes one.q ≡ false
@@ -173,14 +161,14 @@ module _ {S : Type 0} (machine : Machine S) (limits : Limits) where
       (here (subst (λ x. FirstText machine limits x u rest text t) e first))))
     where
       here : FirstText machine limits (suc j) u rest text t → FirstTexts machine limits (suc j) u rest (text ∷ []) t
-      here (of_fault f at says stays) = record { most = 1; fewer = omega arith; marks = []; requests = []; end = stopped f; cut = (fault f, at, (refl, refl)); marked = tt; printed = ap (λ x. x ∷ []) says; leaves = stays }
+      here (of_fault f at says stays) = record { most = 1; fewer = omega arith; marks = []; requests = []; end = stopped f; cut = at; marked = tt; printed = ap (λ x. x ∷ []) says; leaves = stays }
       here (of_request true close i later one) = record {
         most = 1;
         fewer = omega arith;
         marks = true ∷ [];
         requests = one.q ∷ [];
         end = closed;
-        cut = (whole one.q one.n, one.front, ([], refl, goes_none limits (closes one.q) (drop one.n rest)));
+        cut = (one.n, one.front, goes_none limits (closes one.q) (drop one.n rest));
         marked = ((λ e. one.answered.0), tt);
         printed = ap (λ x. x ∷ []) (one.says ∙ ap reply_text one.answered.1);
         leaves = one.answered.2;
@@ -194,7 +182,7 @@ module _ {S : Type 0} (machine : Machine S) (limits : Limits) where
             marks = false ∷ [];
             requests = one.q ∷ [];
             end = closed;
-            cut = (whole one.q one.n, one.front, ([], refl, goes_none limits (closes one.q) (drop one.n rest)));
+            cut = (one.n, one.front, goes_none limits (closes one.q) (drop one.n rest));
             marked = ((λ e. cc), tt);
             printed = ap (λ x. x ∷ []) (one.says ∙ ap reply_text (one.answered.0 ∙ ap (λ x. reply_of one.q (x == 0) (machine.step u one.q).0) (sym last)))
                 ∙ ap (λ r. reply_text (reply_of one.q (j == 0) (machine.step u one.q).0) ∷ map reply_text r.0) (sym none);
@@ -213,7 +201,7 @@ module _ {S : Type 0} (machine : Machine S) (limits : Limits) where
             marks = false ∷ more.marks;
             requests = one.q ∷ more.requests;
             end = more.end;
-            cut = (whole one.q one.n, one.front, (more.requests, refl, subst (λ c. Goes c (Cuts limits (looked_for more.most more.marks) (drop one.n bytes)) more.requests more.end) (sym stays) cut));
+            cut = (one.n, one.front, subst (λ c. Cuts limits (cond c 0 (looked_for more.most more.marks)) (drop one.n bytes) more.requests more.end) (sym stays) cut);
             marked = ((λ e. cc), more.marked);
             printed = ap (λ l. x ∷ l) more.printed ∙ ap (λ l. l ∷ map reply_text (replies_of machine i v more.requests more.end more.marks).0) (one.says ∙ ap reply_text one.answered.0)
                 ∙ ap (λ w. reply_text (reply_of one.q (i == 0) (machine.step s one.q).0) ∷ map reply_text (replies_of machine i w more.requests more.end more.marks).0) one.answered.1;

@@ -12,7 +12,7 @@ use Rattle.osb_orders.specs.declared.order.Change.{Change}
 use Rattle.osb_orders.specs.declared.order.Change.TheVariants.{Nothing}
 use Rattle.osb_orders.specs.declared.order.OrderKind.TheVariants as kind
 use Rattle.osb_orders.specs.ViewData.{view_of}
-use Rattle.osb_orders.specs.Named.{instance_in}
+use Rattle.osb_asks.specs.Subjects.{instance_id_of}
 use Rattle.osb_orders.specs.Lives.{Lives, life_of}
 use Rattle.osb_orders.specs.IsLife.{IsLives}
 use Rattle.osb_machine.specs.Machine.{answer_to, after_step}
@@ -177,7 +177,7 @@ reading_quiet rules lives (the.Unbind a) reads = cc
 reading_quiet rules lives (the.Report a) reads = cc
 
 reading_stays : (rules : Rules) (lives : Lives) (ask : Ask) → is_reading ask ≡ true → after_step rules lives ask ≡ lives
-reading_stays rules lives ask reads = quiet_step _ lives (instance_in ask) (reading_quiet rules lives ask reads)
+reading_stays rules lives ask reads = quiet_step _ lives (instance_id_of ask) (reading_quiet rules lives ask reads)
 
 module _ (rules : Rules) (limits : Limits) (id : List ℕ) (number : ℕ) (bytes : List ℕ) where
   beside_stays : (s u : Lives) (other : List ℕ) (x : List (List ℕ)) → Carried rules limits s other x u → IsAgainOrBeside rules limits id number bytes other → (other ≡ bytes) ⊎ (Reports rules limits id number other ⊎ (life_of u id ≡ life_of s id))

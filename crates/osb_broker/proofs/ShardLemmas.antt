@@ -12,7 +12,7 @@ use Rattle.osb_asks.specs.declared.ask.Ask.TheVariants as the
 use Rattle.osb_asks.specs.declared.ask_fault.AskFault.{AskFault}
 use Rattle.osb_asks.specs.Asks.{ask_of, is_catalog}
 use Rattle.osb_orders.specs.Lives.{Lives, life_of}
-use Rattle.osb_orders.specs.Named.{instance_in}
+use Rattle.osb_asks.specs.Subjects.{instance_id_of}
 use Rattle.osb_machine.specs.Machine.{after_step}
 use Rattle.osb_laws.proofs.MapLemmas.{one_life, others_stay, unnamed_stay}
 use Rattle.osb_broker.specs.Machine.{reply_of}
@@ -32,7 +32,7 @@ use Rattle.osb_broker.proofs.ApartLemmas.{same_told, stays}
 -- ---- one ask
 
 -- an ask of an instance isn't for the catalog
-not_catalog : (ask : Ask) (id : List ℕ) → instance_in ask ≡ Some id → is_catalog ask ≡ false
+not_catalog : (ask : Ask) (id : List ℕ) → instance_id_of ask ≡ Some id → is_catalog ask ≡ false
 not_catalog the.Catalog id e = cc
 not_catalog (the.Provision a) id e = refl
 not_catalog (the.Fetch a) id e = refl
@@ -47,8 +47,8 @@ not_catalog (the.Orders a) id e = refl
 not_catalog (the.Report a) id e = refl
 
 -- whether it may be answered, by the instance that it names
-answerable_by : (has : List ℕ → Bool) (ask : Ask) (id : List ℕ) → instance_in ask ≡ Some id → is_answerable has (Ok ask) ≡ has id
-answerable_by has ask id is = ap (λ b. not (not b) || names_one has (instance_in ask)) (not_catalog ask id is) ∙ ap (names_one has) is
+answerable_by : (has : List ℕ → Bool) (ask : Ask) (id : List ℕ) → instance_id_of ask ≡ Some id → is_answerable has (Ok ask) ≡ has id
+answerable_by has ask id is = ap (λ b. not (not b) || names_one has (instance_id_of ask)) (not_catalog ask id is) ∙ ap (names_one has) is
 
 module _ (rules : Rules) (limits : Limits) (has : List ℕ → Bool) where
   -- an ask is answered alike from both, and leaves these instances the same lives
@@ -56,7 +56,7 @@ module _ (rules : Rules) (limits : Limits) (has : List ℕ → Bool) where
     pub told : (step_for rules s r).0 ≡ (step_for rules v r).0
     pub same : HaveSame has (step_for rules s r).1 (step_for rules v r).1
 
-  named : (s v : Lives) → HaveSame has s v → (ask : Ask) (at : Option (List ℕ)) → instance_in ask ≡ at → names_one has at ≡ true → Alike s v (Ok ask)
+  named : (s v : Lives) → HaveSame has s v → (ask : Ask) (at : Option (List ℕ)) → instance_id_of ask ≡ at → names_one has at ≡ true → Alike s v (Ok ask)
   named s v same ask None is e = cc
   named s v same ask (Some id) is e = record {
     told = same_told rules s v ask id is (same id e);
@@ -181,7 +181,7 @@ none_named (Some id) e = cc
 
 unnamed_step : (rules : Rules) (s : Lives) (r : Result Ask AskFault) → not (asks_here (λ id. true) r) ≡ true → (step_for rules s r).1 ≡ s
 unnamed_step rules s (Err f) e = refl
-unnamed_step rules s (Ok ask) e = unnamed_stay rules s ask (none_named (instance_in ask) e)
+unnamed_step rules s (Ok ask) e = unnamed_stay rules s ask (none_named (instance_id_of ask) e)
 
 module _ (rules : Rules) (limits : Limits) (takes : Message → Bool) where
   seen_same : (bytes : List ℕ) (kind : Kind limits bytes) (s : Lives) (marks : List Bool) (texts : List (List ℕ)) (u : Lives) → Seen rules takes limits bytes kind s marks texts u → FirstIs rules limits (λ asked. not (asks_here (λ id. true) asked)) bytes → u ≡ s

@@ -13,15 +13,21 @@ use Rattle.osb_orders.specs.Changed.{after_change}
 use Rattle.osb_orders.specs.IsLife.{IsLives}
 use Rattle.osb_orders.specs.Allowed.{IsAllowed}
 use Rattle.osb_machine.specs.declared.answer_and_change.AnswerAndChange.{AnswerAndChange}
+use Rattle.osb_machine.specs.Decision.{Decision}
 use Rattle.osb_machine.specs.Machine.{answer_to}
 use Rattle.osb_machine.specs.Steps.{decision}
 use Rattle.osb_records.specs.Commit.{FinishesLast}
 use Rattle.osb_laws.proofs.MapLemmas.{steps_are_allowed, steps_keep_lives}
 use Rattle.osb_broker.specs.declared.prepared.Prepared.{Prepared}
 use Rattle.osb_broker.specs.Prepared.{answer_parts, pending_for, after_pending, IsApplicable, Prepares}
-use Rattle.osb_broker.specs.Steps.{answer_alone, step_of}
+use Rattle.osb_broker.specs.Machine.{Answer}
+use Rattle.osb_broker.specs.Steps.{step_of}
 use Rattle.osb_broker.specs.Inside.{IsOfInstance}
 use Rattle.osb_records.specs.declared.change.LifeChange.{LifeChange}
+
+-- what the table has for an ask, without what it changes
+abbrev pub answer_alone : Decision → Answer
+answer_alone decision = record { status = decision.status; body = decision.body }
 
 finishes : (life : Life) (change : Change) → IsAllowed life change → FinishesLast life change
 finishes life Nothing allowed = tt

@@ -9,11 +9,12 @@ use Rattle.osb_asks.specs.declared.ask_fault.AskFault.{AskFault}
 use Rattle.osb_asks.specs.Asks.{ask_of}
 use Rattle.osb_orders.specs.Lives.{Lives}
 use Rattle.osb_broker.specs.Machine.{Answer, Machine, reply_of}
-use Rattle.osb_broker.specs.Steps.{answer_alone, step_for}
+use Rattle.osb_broker.specs.Steps.{step_for}
 use Rattle.osb_broker.specs.Connection.{replies_of, ConnectionText, Run}
 use Rattle.osb_broker.specs.Resend.{refusing}
 use Rattle.osb_trim.specs.Trimmed.{trimmed_lives}
 use Rattle.osb_trim.proofs.MatchLemmas.{Fronts, Matches, alike, answers_match, steps_match}
+use Rattle.osb_broker.proofs.StepLemmas.{answer_alone}
 
 module _ (fronts : Fronts) (rules : Rules) where
   -- one request

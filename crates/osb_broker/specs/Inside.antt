@@ -16,7 +16,7 @@ use Rattle.osb_asks.specs.declared.ask_fault.AskFault.{AskFault}
 use Rattle.osb_asks.specs.Asks.{ask_of, is_early}
 use Rattle.osb_orders.specs.Lives.{Lives}
 use Rattle.osb_orders.specs.IsLife.{IsLives}
-use Rattle.osb_orders.specs.Named.{instance_in}
+use Rattle.osb_asks.specs.Subjects.{instance_id_of}
 use Rattle.osb_machine.specs.Machine.{answer_to}
 use Rattle.osb_records.specs.declared.change.LifeChange.{LifeChange}
 use Rattle.osb_records.specs.Commit.{Commits}
@@ -60,7 +60,7 @@ AreAnsweredAlike rules (Err fault) lives others = Unit {0}
 -- the change, if there is one, is of the instance that the ask names
 abbrev pub IsOfInstance : Result Ask AskFault → Option LifeChange → Type 0
 IsOfInstance asked None = Unit {0}
-IsOfInstance asked (Some one) = (ask : Ask) × (asked ≡ Ok ask) × (instance_in ask ≡ Some one.instance)
+IsOfInstance asked (Some one) = (ask : Ask) × (asked ≡ Ok ask) × (instance_id_of ask ≡ Some one.instance)
 
 -- The answer to what was asked is ready, up to its change. What is early takes no memory, and what needs no lives leaves
 -- only the records.

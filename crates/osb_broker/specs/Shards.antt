@@ -8,7 +8,7 @@ use Rattle.osb_asks.specs.declared.ask.Ask.{Ask}
 use Rattle.osb_asks.specs.declared.ask_fault.AskFault.{AskFault}
 use Rattle.osb_asks.specs.Asks.{ask_of}
 use Rattle.osb_orders.specs.Lives.{Lives, life_of}
-use Rattle.osb_orders.specs.Named.{instance_in}
+use Rattle.osb_asks.specs.Subjects.{instance_id_of}
 use Rattle.osb_broker.specs.Steps.{needs_lives}
 use Rattle.osb_broker.specs.Connection.{Run}
 use Rattle.osb_broker.specs.Resend.{refusing}
@@ -26,7 +26,7 @@ names_one has (Some id) = has id
 
 -- it asks something of one of these instances
 abbrev pub asks_here : (List ℕ → Bool) → Result Ask AskFault → Bool
-asks_here has (Ok ask) = names_one has (instance_in ask)
+asks_here has (Ok ask) = names_one has (instance_id_of ask)
 asks_here has (Err fault) = false
 
 -- A broker of these instances answers it as one of all does: it asks something of one of them, or needs no lives. The

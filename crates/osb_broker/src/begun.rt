@@ -22,7 +22,7 @@ use crate::refuse::refuse;
 use crate::setup::Setup;
 use crate::waiting::Waiting;
 use osb_asks::{Ask, read_ask};
-use osb_frames::{Limits, Request, Sink, Source, Step, next_at_once};
+use osb_frames::{Limits, NO_LINES, Request, Sink, Source, Step, next_at_once};
 use osb_records::Records;
 use sqlite::Alter;
 
@@ -94,9 +94,10 @@ impl Setup<'_> {
         *met_fault = false;
         let mut filled = 0;
         let mut ended = false;
+        let mut lines = NO_LINES;
         loop {
             let held = &room[..filled];
-            match next_at_once(held, ended, limits) {
+            match next_at_once(held, ended, limits, &mut lines) {
                 Step::Whole(request, _) => {
                     if self.keep(&request, held, waiting) {
                         return Begun::Waits;

@@ -19,7 +19,7 @@ use crate::answer::reply_to;
 use crate::prepared::Prepared;
 use crate::setup::Setup;
 use osb_asks::Id;
-use osb_frames::{InMemory, Limits, Request, Step, next};
+use osb_frames::{InMemory, Limits, NO_LINES, Request, Step, next};
 use osb_orders::Change;
 use osb_records::{LifeChange, Records, StoreFault};
 use osb_replies::{Reply, write_reply};
@@ -173,7 +173,8 @@ impl Setup<'_> {
             IsTrue (state S.Store records.old).is_open }
         ensures stays { LivesStay (state S.Store records.old) (state S.Store records.new) }
     {
-        let Step::Whole(request, _) = next(bytes, true, limits) else {
+        let mut lines = NO_LINES;
+        let Step::Whole(request, _) = next(bytes, true, limits, &mut lines) else {
             return false;
         };
         match self.decided_apart(records, &request, &group.changes) {

@@ -21,7 +21,7 @@ use crate::laws::never_fails;
 use crate::refuse::refuse;
 use crate::setup::Setup;
 use osb_asks::laws::valid_texts;
-use osb_frames::{InMemory, Limits, Request, Step, StopKind, next};
+use osb_frames::{InMemory, Limits, NO_LINES, Request, Step, StopKind, next};
 use osb_records::Records;
 use osb_replies::write_reply;
 use sqlite::Alter;
@@ -116,8 +116,9 @@ impl Setup<'_> {
         records.lives_are_whole();
         let mut rest = bytes;
         let mut left = self.per_connection.number;
+        let mut lines = NO_LINES;
         while left > 0 {
-            match next(rest, true, limits) {
+            match next(rest, true, limits, &mut lines) {
                 Step::Whole(request, used) => {
                     left -= 1;
                     if self.reply_into(records, &request, left == 0, output) {

@@ -21,7 +21,7 @@ use crate::filling::{fill, shift};
 use crate::laws::never_fails;
 use crate::refuse::refuse;
 use crate::setup::Setup;
-use osb_frames::{Limits, Request, Sink, Source, Step, next_at_once};
+use osb_frames::{Limits, NO_LINES, Request, Sink, Source, Step, next_at_once};
 use osb_records::Records;
 use osb_replies::{WriteFault, write_reply};
 use sqlite::Alter;
@@ -101,8 +101,9 @@ impl Setup<'_> {
         let mut filled = 0;
         let mut ended = false;
         let mut left = self.per_connection.number;
+        let mut lines = NO_LINES;
         while left > 0 {
-            match next_at_once(&room[..filled], ended, limits) {
+            match next_at_once(&room[..filled], ended, limits, &mut lines) {
                 Step::Whole(request, used) => {
                     left -= 1;
                     match self.handle_and_write(records, &request, left == 0, sink) {

@@ -16,6 +16,7 @@ pub enum Timing {
 impl Timing {
     ghost use Rattle.osb_catalog.specs.Modes.{is_asynchronous};
 
+    /// Whether an order of it waits for the backend.
     pub fn is_asynchronous(self) -> bool
         ensures { result ≡ is_asynchronous self }
     {

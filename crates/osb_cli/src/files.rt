@@ -48,6 +48,7 @@ pub struct HostFiles<'a> {
 }
 
 impl<'a> HostFiles<'a> {
+    /// The host's files, by their paths.
     pub fn new(rt: &'a HostRuntime) -> HostFiles<'a> {
         HostFiles { rt }
     }

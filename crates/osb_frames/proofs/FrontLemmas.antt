@@ -1,6 +1,7 @@
 -- What stands at the front of bytes.
 use Rattle.std.proofs.Common.{◌≡◌, ℕ, ◌+◌, ◌<◌, ◌≤◌, Bool, true, false, cond, List, [], length, take, drop, Option, Some, None, sym, refl, ap, subst, ◌∙◌, arith, ◌⊎◌, inl, inr}
 use Rattle.std.specs.Prelude.{nat_lt, codes}
+use Rattle.std.specs.Option.{option_map_or}
 use Rattle.std.proofs.lemmas.Bool.{lt-ltb, le-ltb, ltb-false}
 use Rattle.std.proofs.lemmas.List.{length-append, append-nil}
 use Rattle.httparse.specs.Grammar.{RequestHead, print_request}
@@ -13,9 +14,13 @@ use Rattle.osb_frames.specs.declared.step.StopKind.{StopKind}
 use Rattle.osb_frames.specs.declared.step.StopKind.TheVariants.{NoHead, Host, Coding, Length, TooLarge, Cut}
 use Rattle.osb_frames.specs.Fields.{Line, values_of, length_given}
 use Rattle.osb_frames.specs.Heads.{HeadAt, HasNoHead, lines_of}
-use Rattle.osb_frames.specs.Cuts.{Message, has_bad_host, length_fault, fault_of, body_length, Front, nothing, fault, whole, front_from, front_of, IsFront, empty, headless, headed}
+use Rattle.osb_frames.specs.Cuts.{Message, has_bad_host, length_fault, fault_of, body_length, Front, nothing, fault, whole, with_body, front_of, IsFront, empty, headless, headed}
 use Rattle.osb_frames.specs.Steps.{message, ReportsFault, Waits, Says, IfWhole, IsWhole, IsFinal, Shows}
 use Rattle.osb_frames.specs.Found.{HoldsHead}
+
+-- what a head and the bytes after it are, by the fault of the head
+abbrev pub front_from : RequestHead → List ℕ → Option StopKind → Front
+front_from h rest f = option_map_or fault f (with_body h rest (body_length (lines_of h)))
 
 -- a request, or a fault of a whole head
 abbrev pub IsSettled : Front → Type 0

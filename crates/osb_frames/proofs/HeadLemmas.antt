@@ -1,18 +1,33 @@
 -- What the parser says of a window at the front of a buffer, as facts on heads within the limits.
-use Rattle.std.proofs.Common.{◌≡◌, ℕ, ◌≤◌, List, ◌++◌, length, take, drop, sym, ap, subst, ◌∙◌, arith, append_assoc}
+use Rattle.std.proofs.Common.{◌≡◌, ℕ, suc, ◌≤◌, List, [], ◌∷◌, ◌++◌, length, map, take, drop, refl, sym, ap, subst, ◌∙◌, arith, append_assoc, All}
 use Rattle.std.proofs.Math.Seq.{drop-append_seam, take-append_seam}
+use Rattle.std.proofs.lemmas.Bool.{le-leb}
 use Rattle.std.proofs.lemmas.List.{take-append-drop, take-append-le, length-take, length-map, take_all}
 use Rattle.httparse.specs.declared.spans.HeaderSpan.{HeaderSpan}
+use Rattle.httparse.specs.declared.spans.Span.{Span}
 use Rattle.httparse.specs.Grammar.{RequestHead, print_request, ReadsRequest, HasNoRequest}
-use Rattle.httparse.specs.Spans.{AreFieldsAt, RequestOverflows, RequestExceeds}
+use Rattle.httparse.specs.Spans.{AreFieldsAt, IsHeaderWithin, IsWithin, RequestOverflows, RequestExceeds, header_bytes, span_bytes}
 use Rattle.httparse.proofs.GrammarLemmas.{ReadsRequest-append}
 use Rattle.osb_frames.specs.declared.limits.Limits.{Limits}
 use Rattle.osb_frames.specs.Heads.{HeadAt, HasNoHead}
+use Rattle.osb_frames.specs.Line.{line_in, part}
 
 -- the field lines of a head are as many as the spans that cover them
 pub as_many_lines : (window : List ℕ) (spans : List HeaderSpan) (count : ℕ) (h : RequestHead) → AreFieldsAt window spans count h.fields → length h.fields ≤ length spans
 as_many_lines window spans count h are =
     omega (arith, simp (length-map, length-take) at (ap length are))
+
+-- a span within the bytes covers that part of them
+part_within : (n : ℕ) (bytes : List ℕ) (span : Span) → n ≤ length bytes → IsWithin n span → part bytes span.start span.end ≡ span_bytes bytes span
+part_within n bytes span inside within = rw (le-leb span.start span.end within.0, le-leb span.end (length bytes) (omega (arith, within.1))) refl
+
+-- and so do the spans of field lines
+pub lines_within : (n : ℕ) (bytes : List ℕ) (spans : List HeaderSpan) → n ≤ length bytes → All (IsHeaderWithin n) spans → map (line_in bytes) spans ≡ map (header_bytes bytes) spans
+lines_within n bytes [] inside within = refl
+lines_within n bytes (span ∷ spans) inside within =
+    let first = within 0 span (omega arith) in
+    let later : All (IsHeaderWithin n) spans = λ k d h. within (suc k) d (omega (arith, h)) in
+    (λ i. (part_within n bytes span.name inside first.0 i, part_within n bytes span.value inside first.1 i) ∷ lines_within n bytes spans inside later i)
 
 module _ (limits : Limits) (buf : List ℕ) (m : ℕ) where
   -- a head of the window is one of the buffer

@@ -2,6 +2,6 @@ mod FieldLemmas
 mod HeadLemmas
 pub mod FrontLemmas
 mod StayLemmas
-mod CutLemmas
+pub mod CutLemmas
 mod CallsOwned
 mod SendLemmas

@@ -1,6 +1,6 @@
 -- What stands at the front of bytes stays there where more follows.
 use Rattle.std.proofs.Common.{◌≡◌, ℕ, ◌+◌, ◌<◌, ◌≤◌, Bool, true, false, cond, List, ◌++◌, length, take, Option, Some, None, sym, refl, ap, subst, ◌∙◌, arith, inl, inr}
-use Rattle.std.specs.Prelude.{nat_lt, codes}
+use Rattle.std.specs.Prelude.{nat_lt, codes, unwrap_or}
 use Rattle.std.proofs.lemmas.List.{take-append-le, length-append}
 use Rattle.std.proofs.lemmas.Bool.{le-ltb, ltb-false, ltb-true}
 use Rattle.httparse.specs.Grammar.{RequestHead, print_request}
@@ -13,9 +13,9 @@ use Rattle.osb_frames.specs.declared.step.StopKind.{StopKind}
 use Rattle.osb_frames.specs.declared.step.StopKind.TheVariants.{NoHead, Host, Coding, Length, TooLarge, Cut}
 use Rattle.osb_frames.specs.Fields.{Line, values_of, length_given}
 use Rattle.osb_frames.specs.Heads.{HeadAt, lines_of}
-use Rattle.osb_frames.specs.Cuts.{length_fault, fault_of, number_or_zero, body_length, Front, fault, whole, with_body, front_from, IsFront, empty, headless, headed}
+use Rattle.osb_frames.specs.Cuts.{length_fault, fault_of, body_length, Front, fault, whole, with_body, IsFront, empty, headless, headed}
 use Rattle.osb_frames.specs.Steps.{message, ReportsFault, Says, FaultStays, Stays, IfMore}
-use Rattle.osb_frames.proofs.FrontLemmas.{IsSettled, IsFinalIfSome, fault_is_final}
+use Rattle.osb_frames.proofs.FrontLemmas.{front_from, IsSettled, IsFinalIfSome, fault_is_final}
 
 head_stays : (limits : Limits) (bytes more : List ℕ) (h : RequestHead) (rest : List ℕ) → HeadAt limits bytes h rest → HeadAt limits (bytes ++ more) h (rest ++ more)
 head_stays limits bytes more h rest x = record { reads = ReadsRequest-append bytes h rest more x.reads; fits = x.fits; room = x.room }
@@ -66,7 +66,7 @@ step_stays limits bytes over More says = tt
 -- ---- what waits is smaller than a head and a body
 
 -- a length without a fault is within its limit
-length_fits : (limits : Limits) (n : Option ℕ) → length_fault limits n ≡ None → number_or_zero n ≤ limits.body
+length_fits : (limits : Limits) (n : Option ℕ) → length_fault limits n ≡ None → unwrap_or n 0 ≤ limits.body
 length_fits limits None e = cc
 length_fits limits (Some n) e = by_test (nat_lt limits.body n) refl e
   where

@@ -1,6 +1,7 @@
 -- How the bytes of a connection are cut into requests (RFC 9112, 6 and 9).
-use Rattle.std.specs.Prelude.{◌≡◌, ℕ, ◌+◌, zero, suc, ◌<◌, Bool, true, false, not, ◌||◌, List, [], ◌∷◌, length, take, drop, Option, Some, None, if◌then◌else◌, nat_lt, ◌==◌, codes}
+use Rattle.std.specs.Prelude.{◌≡◌, ℕ, ◌+◌, zero, suc, ◌<◌, Bool, not, ◌||◌, List, [], ◌∷◌, length, take, drop, Option, Some, None, unwrap_or, if◌then◌else◌, nat_lt, ◌==◌, codes}
 use Rattle.std.specs.List.{list_any}
+use Rattle.std.specs.Option.{option_map_or}
 use Rattle.httparse.specs.Grammar.{RequestHead, print_request}
 use Rattle.osb_frames.specs.declared.limits.Limits.{Limits}
 use Rattle.osb_frames.specs.declared.step.StopKind.{StopKind}
@@ -29,16 +30,12 @@ length_fault limits (Some n) = if nat_lt limits.body n then Some TooLarge else N
 abbrev pub fault_of : Limits → ℕ → List Line → Option StopKind
 fault_of limits minor lines =
     if has_bad_host minor (length (values_of (codes "host") lines)) then Some Host
-    else (if nat_lt 0 (length (values_of (codes "transfer-encoding") lines)) then Some Coding
-    else length_fault limits (length_given (values_of (codes "content-length") lines)))
-
-abbrev pub number_or_zero : Option ℕ → ℕ
-number_or_zero None = 0
-number_or_zero (Some n) = n
+    else if nat_lt 0 (length (values_of (codes "transfer-encoding") lines)) then Some Coding
+    else length_fault limits (length_given (values_of (codes "content-length") lines))
 
 -- the length of the body: 0 where the head gives none
 abbrev pub body_length : List Line → ℕ
-body_length lines = number_or_zero (length_given (values_of (codes "content-length") lines))
+body_length lines = unwrap_or (length_given (values_of (codes "content-length") lines)) 0
 
 -- the request closes the connection: it is HTTP/1.0, or a Connection line lists `close` (RFC 9112, 9.3 and 9.6)
 abbrev pub closes : Message → Bool
@@ -61,13 +58,10 @@ with_body h rest n =
       body = take n rest;
     } (length (print_request h) + n)
 
-abbrev pub front_from : RequestHead → List ℕ → Option StopKind → Front
-front_from h rest (Some f) = fault f
-front_from h rest None = with_body h rest (body_length (lines_of h))
-
 -- what a head and the bytes after it are
 abbrev pub front_of : Limits → RequestHead → List ℕ → Front
-front_of limits h rest = front_from h rest (fault_of limits h.minor (lines_of h))
+front_of limits h rest =
+    option_map_or fault (fault_of limits h.minor (lines_of h)) (with_body h rest (body_length (lines_of h)))
 
 -- what is at the front of bytes
 pub data IsFront (limits : Limits) (bytes : List ℕ) (front : Front) : Type 0 where
@@ -80,25 +74,17 @@ pub data End : Type 0 where
   ended closed : End
   stopped : StopKind → End
 
--- the end `closed`, with no requests
-abbrev pub Closes : List Message → End → Type 0
-Closes requests end = (requests ≡ []) × (end ≡ closed)
-
--- after a request that closes, or doesn't: more says what the bytes after it are
-abbrev pub Goes : Bool → (List Message → End → Type 0) → List Message → End → Type 0
-Goes true more later end = Closes later end
-Goes false more later end = more later end
-
--- after a front: more says what bytes that follow a request are
-abbrev pub Follows : (List ℕ → List Message → End → Type 0) → List ℕ → Front → List Message → End → Type 0
-Follows more bytes nothing requests end = (requests ≡ []) × (end ≡ ended)
-Follows more bytes (fault f) requests end = (requests ≡ []) × (end ≡ stopped f)
-Follows more bytes (whole q n) requests end =
-    (later : List Message) × (requests ≡ q ∷ later) × Goes (closes q) (more (drop n bytes)) later end
+-- the connection ends so with what is at the front of bytes
+abbrev pub EndsAt : Limits → List ℕ → End → Type 0
+EndsAt limits bytes ended = IsFront limits bytes nothing
+EndsAt limits bytes (stopped f) = IsFront limits bytes (fault f)
+EndsAt limits bytes closed = ⊥
 
 -- The bytes of a connection on which k requests may come are these requests, with that end. The first request is what
--- is at the front. Nothing after a request that closes is read as one, nor after the k-th.
+-- is at the front. None comes after the k-th, nor after one that closes.
 abbrev pub Cuts : Limits → ℕ → List ℕ → List Message → End → Type 0
-Cuts limits zero bytes requests end = Closes requests end
-Cuts limits (suc k) bytes requests end =
-    (front : Front) × IsFront limits bytes front × Follows (Cuts limits k) bytes front requests end
+Cuts limits zero bytes requests end = (requests ≡ []) × (end ≡ closed)
+Cuts limits (suc k) bytes [] end = EndsAt limits bytes end
+Cuts limits (suc k) bytes (q ∷ later) end =
+    (n : ℕ) × IsFront limits bytes (whole q n)
+    × Cuts limits (if closes q then 0 else k) (drop n bytes) later end

@@ -19,22 +19,10 @@ values_of name [] = []
 values_of name (line ∷ lines) =
     if same_ignoring_case line.0 name then line.1 ∷ values_of name lines else values_of name lines
 
--- the first of them
-abbrev pub first_value : List (List ℕ) → Option (List ℕ)
-first_value [] = None
-first_value (value ∷ values) = Some value
-
--- what is between the commas of a value (RFC 9110, 5.6.1)
-abbrev pub items_of : List ℕ → List (List ℕ)
-items_of value = slice_split (λ byte. byte == 44) value
-
--- an item is the word, in any case, without the white space around it
-abbrev pub is_item : List ℕ → List ℕ → Bool
-is_item word item = same_ignoring_case (trim_ows item) word
-
--- the value lists the word
+-- an item between its commas is the word, in any case, without white space around it (RFC 9110, 5.6.1)
 abbrev pub lists_item : List ℕ → List ℕ → Bool
-lists_item word value = list_any (is_item word) (items_of value)
+lists_item word value =
+    list_any (λ item. same_ignoring_case (trim_ows item) word) (slice_split (λ b. b == 44) value)
 
 -- 1 to 19 digits
 abbrev pub is_number : List ℕ → Bool

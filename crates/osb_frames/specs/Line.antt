@@ -1,7 +1,7 @@
 -- A field line as contracts see it.
 use Rattle.std.specs.Prelude.{ℕ, ◌&&◌, nat_le, List, [], length, if◌then◌else◌}
 use Rattle.std.specs.List.{slice_range}
-use Rattle.osb_frames.specs.declared.line_span.LineSpan.{LineSpan}
+use Rattle.httparse.specs.declared.spans.HeaderSpan.{HeaderSpan}
 use Rattle.osb_frames.specs.Fields.{Line}
 
 -- the bytes from one place to another, and none where there aren't so many
@@ -9,5 +9,5 @@ abbrev pub part : List ℕ → ℕ → ℕ → List ℕ
 part bytes start end = if nat_le start end && nat_le end (length bytes) then slice_range bytes start end else []
 
 -- the field line of a head that is there
-abbrev pub line_in : List ℕ → LineSpan → Line
-line_in head span = (part head span.name_start span.name_end, part head span.value_start span.value_end)
+abbrev pub line_in : List ℕ → HeaderSpan → Line
+line_in head span = (part head span.name.start span.name.end, part head span.value.start span.value.end)

@@ -1,5 +1,5 @@
 -- What a step says of the bytes that it was given, of which more may come.
-use Rattle.std.specs.Prelude.{◌≡◌, ℕ, ◌<◌, ◌⊎◌, Bool, List, [], ◌++◌, map, length, take, IsTrue, IsFalse, ⊤}
+use Rattle.std.specs.Prelude.{◌≡◌, ℕ, ◌<◌, ◌⊎◌, Bool, List, [], ◌++◌, map, length, IsTrue, IsFalse, ⊤}
 use Rattle.osb_frames.specs.declared.limits.Limits.{Limits}
 use Rattle.osb_frames.specs.declared.request.Request.{Request}
 use Rattle.osb_frames.specs.declared.step.Step.{Step}
@@ -16,7 +16,7 @@ message q = record {
   method = q.method.now;
   target = q.target.now;
   minor = q.minor;
-  lines = map (line_in q.head.now) (take q.count q.lines);
+  lines = map (line_in q.head.now) q.lines.now;
   body = q.body.now;
 }
 

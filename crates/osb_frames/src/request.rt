@@ -1,12 +1,12 @@
 //! A request, as slices of the buffer that it was read from.
 
-ghost use Rattle.std.specs.Prelude.{◌≡◌, ◌≤◌, length, map, option_copied};
-ghost use Rattle.osb_frames.specs.Fields.{values_of, first_value};
-ghost use Rattle.osb_frames.specs.declared.limits.TheConstants.{MOST_FIELDS};
+ghost use Rattle.std.specs.Prelude.{◌≡◌, length, option_copied};
+ghost use Rattle.std.specs.List.{slice_get};
+ghost use Rattle.osb_frames.specs.Fields.{values_of};
 
 use crate::field::{lists_item, same_ignoring_case};
-use crate::limits::MOST_FIELDS;
-use crate::line_span::{LineSpan, part};
+use crate::line_room::part;
+use httparse::spans::HeaderSpan;
 
 /// A request (RFC 9112, 2.1), as slices of the buffer that it was read from.
 #[derive(Clone, Copy, Debug)]
@@ -21,11 +21,8 @@ pub struct Request<'a> {
     pub body: &'a [u8],
     /// Bytes that begin with the head.
     pub(crate) head: &'a [u8],
-    /// Where the field lines are in them.
-    pub(crate) lines: [LineSpan; MOST_FIELDS],
-    pub(crate) count: usize,
-    ghost has_all: { length lines ≡ MOST_FIELDS },
-    ghost in_range: { count ≤ MOST_FIELDS },
+    /// Where the field lines are in them, in the order that they came in.
+    pub(crate) lines: &'a [HeaderSpan],
 }
 
 impl<'a> Request<'a> {
@@ -33,31 +30,24 @@ impl<'a> Request<'a> {
     ghost use Rattle.osb_frames.specs.Line.{line_in};
     ghost use Rattle.osb_frames.specs.Cuts.{closes};
 
-    /// Where the field lines are, in the order that they came in.
-    fn spans(&self) -> &[LineSpan]
-        ensures { map (line_in self.now.head.now) result.now ≡ (message self.now).lines }
-    {
-        &self.lines[..self.count]
-    }
-
-    fn name(&self, span: &LineSpan) -> &'a [u8]
+    fn name(&self, span: &HeaderSpan) -> &'a [u8]
         ensures { result.now ≡ (line_in self.now.head.now span.now).0 }
     {
-        part(self.head, span.name_start, span.name_end)
+        part(self.head, span.name.start, span.name.end)
     }
 
-    fn value(&self, span: &LineSpan) -> &'a [u8]
+    fn value(&self, span: &HeaderSpan) -> &'a [u8]
         ensures { result.now ≡ (line_in self.now.head.now span.now).1 }
     {
-        part(self.head, span.value_start, span.value_end)
+        part(self.head, span.value.start, span.value.end)
     }
 
     /// The value of the first field line with that name, in any case (RFC 9110, 5.1), without the
     /// spaces and tabs around it.
     pub fn field(&self, name: &[u8]) -> Option<&'a [u8]>
-        ensures { option_copied result ≡ first_value (values_of name.now (message self.now).lines) }
+        ensures { option_copied result ≡ slice_get (values_of name.now (message self.now).lines) 0 }
     {
-        for span in self.spans() {
+        for span in self.lines {
             if same_ignoring_case(self.name(span), name) {
                 return Some(self.value(span));
             }
@@ -70,7 +60,7 @@ impl<'a> Request<'a> {
         ensures { result ≡ length (values_of name.now (message self.now).lines) }
     {
         let mut count = 0;
-        for span in self.spans() {
+        for span in self.lines {
             if same_ignoring_case(self.name(span), name) {
                 count += 1;
             }
@@ -86,7 +76,7 @@ impl<'a> Request<'a> {
         if self.minor == 0 {
             return true;
         }
-        for span in self.spans() {
+        for span in self.lines {
             if same_ignoring_case(self.name(span), b"connection")
                 && lists_item(b"close", self.value(span))
             {

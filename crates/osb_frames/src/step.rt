@@ -5,6 +5,7 @@ ghost use Rattle.std.specs.Prelude.{◌≡◌, ℕ, ◌+◌, ◌<◌, ◌≤◌,
 use crate::field::digits_number;
 use crate::head::{Found, head_at};
 use crate::limits::Limits;
+use crate::line_room::LineRoom;
 use crate::request::Request;
 
 /// Why no further request is read. Of several the first of this list is reported.
@@ -75,14 +76,20 @@ fn body_length(request: &Request<'_>, limits: &Limits) -> Result<usize, StopKind
 
 /// The step at the front of a buffer. Where it is `patient`, more is asked for of a head that has too
 /// many field lines.
-fn step_at<'a>(buf: &'a [u8], ended: bool, limits: &Limits, patient: bool) -> Step<Request<'a>>
+fn step_at<'a>(
+    buf: &'a [u8],
+    ended: bool,
+    limits: &Limits,
+    room: &'a mut LineRoom,
+    patient: bool,
+) -> Step<Request<'a>>
     ensures says { Says limits.now buf.now ended result }
     ensures hope { IsFalse patient → IfMore result (IsHopeful limits.now buf.now) }
 {
     if buf.is_empty() {
         return if ended { Step::Ended } else { Step::More };
     }
-    match head_at(buf, limits) {
+    match head_at(buf, limits, room) {
         Found::Unfinished if !ended => Step::More,
         Found::TooManyFields if patient && !ended => Step::More,
         Found::Unfinished | Found::TooManyFields | Found::Never => Step::Stop(StopKind::NoHead),
@@ -103,10 +110,15 @@ fn step_at<'a>(buf: &'a [u8], ended: bool, limits: &Limits, patient: bool) -> St
 
 /// The request at the front of `buf`, where `ended` says that no more bytes come.
 ///
-/// It takes no memory. A fault of the head is reported as soon as the head is whole. Where the
+/// It takes no memory: `room` is for where the field lines are. A fault of the head is reported as soon as the head is whole. Where the
 /// parser refuses the bytes, NoHead is reported at once, except for too many field lines: there
 /// more bytes are asked for until the limit of a head is reached or the input ended.
-pub fn next<'a>(buf: &'a [u8], ended: bool, limits: &Limits) -> Step<Request<'a>>
+pub fn next<'a>(
+    buf: &'a [u8],
+    ended: bool,
+    limits: &Limits,
+    room: &'a mut LineRoom,
+) -> Step<Request<'a>>
     // What is answered is there.
     ensures says { Says limits.now buf.now ended result }
     ensures size { IfWhole result (λ request used. (0 < used) × (used ≤ length buf.now)) }
@@ -123,12 +135,17 @@ pub fn next<'a>(buf: &'a [u8], ended: bool, limits: &Limits) -> Step<Request<'a>
     ensures stands { IsTrue ended → (front : Front) × IsFront limits.now buf.now front × Shows front result }
     ensures shows { IsTrue ended → (front : Front) → IsFront limits.now buf.now front → Shows front result }
 {
-    step_at(buf, ended, limits, true)
+    step_at(buf, ended, limits, room, true)
 }
 
 /// As [`next`], but no more is asked for of a head that has too many field lines: NoHead is
 /// reported as soon as the line too many has come.
-pub fn next_at_once<'a>(buf: &'a [u8], ended: bool, limits: &Limits) -> Step<Request<'a>>
+pub fn next_at_once<'a>(
+    buf: &'a [u8],
+    ended: bool,
+    limits: &Limits,
+    room: &'a mut LineRoom,
+) -> Step<Request<'a>>
     ensures says { Says limits.now buf.now ended result }
     ensures size { IfWhole result (λ request used. (0 < used) × (used ≤ length buf.now)) }
     ensures room { IfMore result (length buf.now < limits.now.head + limits.now.body) }
@@ -139,5 +156,5 @@ pub fn next_at_once<'a>(buf: &'a [u8], ended: bool, limits: &Limits) -> Step<Req
     // More bytes are asked for only where they can make a request.
     ensures hope { IfMore result (IsHopeful limits.now buf.now) }
 {
-    step_at(buf, ended, limits, false)
+    step_at(buf, ended, limits, room, false)
 }

@@ -14,7 +14,8 @@ use Rattle.osb_orders.specs.Orders.{is_now}
 use Rattle.osb_orders.specs.Life.{Life}
 use Rattle.osb_orders.specs.Lives.{Lives, life_of, named_life}
 use Rattle.osb_orders.specs.Listing.{listing_for}
-use Rattle.osb_orders.specs.Named.{instance_in, order_numbered}
+use Rattle.osb_asks.specs.Subjects.{instance_id_of}
+use Rattle.osb_orders.specs.Named.{order_numbered}
 use Rattle.osb_orders.specs.Changed.{changed, with_last_ended, with_outcome}
 use Rattle.osb_machine.specs.Decision.{Decision}
 use Rattle.osb_machine.specs.Report.{is_outcome, kept_outcome, report}
@@ -60,10 +61,10 @@ module _ (rules : Rules) (ask : Ask) (id : List ℕ) where
     pub well : is_now Failed (with_outcome outcome order) ≡ false
     pub is : life ≡ life_of lives id ++ with_outcome outcome order ∷ []
 
-  pub spent_stays : (now : Lives) → instance_in ask ≡ Some id → Spent (life_of now id) → after_step rules now ask ≡ now
+  pub spent_stays : (now : Lives) → instance_id_of ask ≡ Some id → Spent (life_of now id) → after_step rules now ask ≡ now
   spent_stays now named p = opened_once rules p.lives now ask id p.order p.outcome named p.opened p.well p.is
 
-  pub opens_or_not : (now : Lives) → instance_in ask ≡ Some id → (length (life_of (after_step rules now ask) id) ≡ length (life_of now id)) ⊎ ((length (life_of (after_step rules now ask) id) ≡ length (life_of now id) + 1) × Spent (life_of (after_step rules now ask) id))
+  pub opens_or_not : (now : Lives) → instance_id_of ask ≡ Some id → (length (life_of (after_step rules now ask) id) ≡ length (life_of now id)) ⊎ ((length (life_of (after_step rules now ask) id) ≡ length (life_of now id) + 1) × Spent (life_of (after_step rules now ask) id))
   opens_or_not now named = by (answer_to rules now ask).change refl
     where
       after_is : (c : Change) → (answer_to rules now ask).change ≡ c → life_of (after_step rules now ask) id ≡ changed c (life_of now id)

@@ -1,4 +1,5 @@
 pub mod LifeLemmas
+mod Rows
 pub mod StepLemmas
 pub mod AgainLemmas
 pub mod WordLemmas

@@ -20,9 +20,9 @@ use Rattle.osb_orders.specs.declared.order.Change.{Change}
 use Rattle.osb_orders.specs.declared.order.Change.TheVariants.{Nothing, Append, Finish}
 use Rattle.osb_orders.specs.Life.{Life}
 use Rattle.osb_orders.specs.Lives.{Lives, life_of, named_life}
-use Rattle.osb_orders.specs.Named.{instance_in}
+use Rattle.osb_asks.specs.Subjects.{instance_id_of}
 use Rattle.osb_orders.specs.Listing.{listing_for}
-use Rattle.osb_orders.specs.ViewData.{ViewData, view_data_of, listing_in}
+use Rattle.osb_orders.specs.ViewData.{view_data_of}
 use Rattle.osb_orders.specs.Changed.{changed, with_last_ended, lives_changed, after_change}
 use Rattle.osb_orders.specs.IsLife.{IsLife, HasValidTexts, IsInstance, IsLives}
 use Rattle.osb_orders.specs.Allowed.{IsFinishable, IsAllowed}
@@ -127,7 +127,7 @@ named_at lives None h = no_orders
 named_at lives (Some id) h = life_at lives id h
 
 -- the instance that an ask names has an id text
-named_words : (a : Ask) → asks.AskHasValidTexts a → IfSome (instance_in a) (λ id. is_id id ≡ true)
+named_words : (a : Ask) → asks.AskHasValidTexts a → IfSome (instance_id_of a) (λ id. is_id id ≡ true)
 named_words the.Catalog h = tt
 named_words (the.Provision a) h = h.0
 named_words (the.Fetch a) h = h
@@ -176,13 +176,13 @@ stepped_change lives (Append o) (Some at) id a = stepped lives (Append o) at id 
 stepped_change lives (Finish number outcome) (Some at) id a = stepped lives (Finish number outcome) at id (steps_of (life_of lives at) (Finish number outcome) a)
 
 pub steps_are_allowed : StepsAreAllowed
-steps_are_allowed rules lives a sound h words = allowed_by rules (named_life lives (instance_in a)) (listing_for lives a) a sound (named_at lives (instance_in a) h) words
+steps_are_allowed rules lives a sound h words = allowed_by rules (named_life lives (instance_id_of a)) (listing_for lives a) a sound (named_at lives (instance_id_of a) h) words
 
 pub steps_keep_lives : StepsKeepLives
-steps_keep_lives rules lives a sound h words = kept_change lives (answer_to rules lives a).change (instance_in a) h (named_words a words) (steps_are_allowed rules lives a sound h words)
+steps_keep_lives rules lives a sound h words = kept_change lives (answer_to rules lives a).change (instance_id_of a) h (named_words a words) (steps_are_allowed rules lives a sound h words)
 
 pub lives_step : LivesStep
-lives_step rules lives a sound h words id = stepped_change lives (answer_to rules lives a).change (instance_in a) id (steps_are_allowed rules lives a sound h words)
+lives_step rules lives a sound h words id = stepped_change lives (answer_to rules lives a).change (instance_id_of a) id (steps_are_allowed rules lives a sound h words)
 
 -- Asked again
 
@@ -198,7 +198,7 @@ named_after lives Nothing (Some id) quiet = refl
 named_after lives (Append o) (Some id) quiet = got lives id _
 named_after lives (Finish number outcome) (Some id) quiet = got lives id _
 
-unnamed_quiet : (rules : Rules) (lives : Lives) (a : Ask) → instance_in a ≡ None → (answer_to rules lives a).change ≡ Nothing
+unnamed_quiet : (rules : Rules) (lives : Lives) (a : Ask) → instance_id_of a ≡ None → (answer_to rules lives a).change ≡ Nothing
 unnamed_quiet rules lives the.Catalog e = refl
 unnamed_quiet rules lives (the.Orders a) e = refl
 unnamed_quiet rules lives (the.Provision a) e = cc
@@ -221,7 +221,7 @@ quiet_step c lives at e = ap (λ (c : Change). after_change c lives at) e ∙ qu
 
 pub again_stays : AskedAgainStays
 again_stays rules lives a h =
-    let at = instance_in a in
+    let at = instance_id_of a in
     let c = (answer_to rules lives a).change in
     let next : Lives = after_step rules lives a in
     let settled = again_all rules (named_life lives at) (listing_for lives a) (listing_for next a) a (named_at lives at h).orders in
@@ -229,7 +229,7 @@ again_stays rules lives a h =
 
 -- Instances are apart.
 
-listing_apart : (a : Ask) (x y : List (List ℕ × Order)) (id : List ℕ) → instance_in a ≡ Some id → listing_in a x ≡ listing_in a y
+listing_apart : (a : Ask) (x y : Lives) (id : List ℕ) → instance_id_of a ≡ Some id → listing_for x a ≡ listing_for y a
 listing_apart the.Catalog x y id e = refl
 listing_apart (the.Orders a) x y id e = cc
 listing_apart (the.Provision a) x y id e = refl
@@ -243,14 +243,11 @@ listing_apart (the.Unbind a) x y id e = refl
 listing_apart (the.BindingOp a) x y id e = refl
 listing_apart (the.Report a) x y id e = refl
 
-facts_apart : (life : Life) (a : Ask) (x y : List (List ℕ × Order)) → listing_in a x ≡ listing_in a y → view_data_of life x a ≡ view_data_of life y a
-facts_apart life a x y e = λ i. record (view_data_of life x a) { listing = e i }
-
 pub answers_apart : AnsweredByOneLife
 answers_apart rules lives others a id e same =
-    let life : named_life lives (instance_in a) ≡ named_life others (instance_in a) = ap (named_life lives) e ∙ same ∙ sym (ap (named_life others) e) in
+    let life : named_life lives (instance_id_of a) ≡ named_life others (instance_id_of a) = ap (named_life lives) e ∙ same ∙ sym (ap (named_life others) e) in
     ap (λ (l : Life). answer rules (view_data_of l (listing_for lives a) a) a) life
-    ∙ ap (λ (f : ViewData). answer rules f a) (facts_apart (named_life others (instance_in a)) a (listing_for lives a) (listing_for others a) (listing_apart a _ _ id e))
+    ∙ ap (λ (listing : List (List ℕ × Order)). answer rules (view_data_of (named_life others (instance_id_of a)) listing a) a) (listing_apart a lives others id e)
 
 changed_at : (lives : Lives) (c : Change) (id : List ℕ) → life_of (lives_changed c id lives) id ≡ changed c (life_of lives id)
 changed_at lives Nothing id = refl
@@ -258,11 +255,11 @@ changed_at lives (Append o) id = got lives id _
 changed_at lives (Finish number outcome) id = got lives id _
 
 -- the life that an ask names, after its step
-pub step_at : (rules : Rules) (lives : Lives) (a : Ask) (id : List ℕ) → instance_in a ≡ Some id → life_of (after_step rules lives a) id ≡ changed (answer_to rules lives a).change (life_of lives id)
+pub step_at : (rules : Rules) (lives : Lives) (a : Ask) (id : List ℕ) → instance_id_of a ≡ Some id → life_of (after_step rules lives a) id ≡ changed (answer_to rules lives a).change (life_of lives id)
 step_at rules lives a id e = ap (λ at. life_of (after_change (answer_to rules lives a).change lives at) id) e ∙ changed_at lives (answer_to rules lives a).change id
 
 -- two maps with one life for the instance have one life for it after the step
-pub one_life : (rules : Rules) (lives others : Lives) (a : Ask) (id : List ℕ) → instance_in a ≡ Some id → life_of lives id ≡ life_of others id → life_of (after_step rules lives a) id ≡ life_of (after_step rules others a) id
+pub one_life : (rules : Rules) (lives others : Lives) (a : Ask) (id : List ℕ) → instance_id_of a ≡ Some id → life_of lives id ≡ life_of others id → life_of (after_step rules lives a) id ≡ life_of (after_step rules others a) id
 one_life rules lives others a id e same =
     step_at rules lives a id e
     ∙ ap (λ c. changed c (life_of lives id)) (ap (λ r. r.change) (answers_apart rules lives others a id e same))

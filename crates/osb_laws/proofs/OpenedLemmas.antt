@@ -20,7 +20,7 @@ use Rattle.osb_orders.specs.Life.{Life}
 use Rattle.osb_orders.specs.Bindings.{binding_of}
 use Rattle.osb_orders.specs.Lives.{Lives, life_of, named_life}
 use Rattle.osb_orders.specs.Listing.{listing_for}
-use Rattle.osb_orders.specs.Named.{instance_in}
+use Rattle.osb_asks.specs.Subjects.{instance_id_of}
 use Rattle.osb_orders.specs.Changed.{with_outcome}
 use Rattle.osb_orders.specs.IsLife.{is_absent}
 use Rattle.osb_machine.specs.Decision.{Decision}
@@ -31,15 +31,15 @@ use Rattle.osb_laws.proofs.StepLemmas.{change_of}
 use Rattle.osb_laws.proofs.AgainLemmas.{Stays, stays_all, created_once, bound_once}
 use Rattle.osb_laws.proofs.MapLemmas.{quiet_step}
 
-pub opened_once : (rules : Rules) (lives others : Lives) (a : Ask) (id : List ℕ) (order : Order) (outcome : Outcome) → instance_in a ≡ Some id → (answer_to rules lives a).change ≡ Append order → is_now Failed (with_outcome outcome order) ≡ false → life_of others id ≡ life_of lives id ++ with_outcome outcome order ∷ [] → after_step rules others a ≡ others
+pub opened_once : (rules : Rules) (lives others : Lives) (a : Ask) (id : List ℕ) (order : Order) (outcome : Outcome) → instance_id_of a ≡ Some id → (answer_to rules lives a).change ≡ Append order → is_now Failed (with_outcome outcome order) ≡ false → life_of others id ≡ life_of lives id ++ with_outcome outcome order ∷ [] → after_step rules others a ≡ others
 opened_once rules lives others a id order outcome named is well life =
     let d = outcome.description in
     let cr = outcome.credentials in
     let had = life_of lives id in
     let change : change_of rules had (listing_for lives a) a ≡ Append order = subst (λ (l : Life). change_of rules l (listing_for lives a) a ≡ Append order) (ap (named_life lives) named) is in
     let both = subst (Stays rules had (listing_for others a) d cr a) change (stays_all rules had (listing_for others a) d cr (listing_for lives a) a) in
-    let there : named_life others (instance_in a) ≡ had ++ with_outcome outcome order ∷ [] = ap (named_life others) named ∙ life in
-    quiet_step _ others (instance_in a) (ap (λ (l : Life). change_of rules l (listing_for others a) a) there ∙ by outcome.state refl both)
+    let there : named_life others (instance_id_of a) ≡ had ++ with_outcome outcome order ∷ [] = ap (named_life others) named ∙ life in
+    quiet_step _ others (instance_id_of a) (ap (λ (l : Life). change_of rules l (listing_for others a) a) there ∙ by outcome.state refl both)
   where
     by : (state : OrderState) → outcome.state ≡ state → Stays rules (life_of lives id) (listing_for others a) outcome.description outcome.credentials a (Append order) → change_of rules (life_of lives id ++ with_outcome outcome order ∷ []) (listing_for others a) a ≡ Nothing
     by Running e both = subst (λ (s : OrderState). change_of rules (life_of lives id ++ with_outcome (record outcome { state = s }) order ∷ []) (listing_for others a) a ≡ Nothing) (sym e) both.0

@@ -14,7 +14,8 @@ use Rattle.osb_orders.specs.Orders.{is_now}
 use Rattle.osb_orders.specs.Life.{Life}
 use Rattle.osb_orders.specs.Lives.{Lives, life_of, named_life}
 use Rattle.osb_orders.specs.Listing.{listing_for}
-use Rattle.osb_orders.specs.Named.{instance_in, order_numbered}
+use Rattle.osb_asks.specs.Subjects.{instance_id_of}
+use Rattle.osb_orders.specs.Named.{order_numbered}
 use Rattle.osb_orders.specs.Changed.{changed, with_last_ended, after_change}
 use Rattle.osb_orders.specs.IsLife.{IsLives, IsLifeAfter}
 use Rattle.osb_machine.specs.Report.{report}
@@ -62,7 +63,7 @@ succeeded_since once life (Append o) well is = absurd well
 succeeded_since once life (Finish number outcome) well (inl is) = inr (outcome, well, ap (with_last_ended outcome) is)
 succeeded_since once life (Finish number outcome) well (inr (other, s, is)) = inr (outcome, well, ap (with_last_ended outcome) is ∙ ended_twice outcome other once)
 
-module _ (rules : Rules) (lives : Lives) (ask : Ask) (id : List ℕ) (h : IsLives lives) (named : instance_in ask ≡ Some id) where
+module _ (rules : Rules) (lives : Lives) (ask : Ask) (id : List ℕ) (h : IsLives lives) (named : instance_id_of ask ≡ Some id) where
   abbrev pub had : Life
   had = life_of lives id
 
@@ -163,7 +164,7 @@ module _ (rules : Rules) (lives : Lives) (ask : Ask) (id : List ℕ) (h : IsLive
   all_keep [] now after same acted = subst (λ (l : Lives). Acted made (life_of l id)) (sym same) acted
   all_keep (other ∷ asks) now after more acted = all_keep asks (after_step rules now other) after more.1 (step_keeps now other more.0 acted)
 
-pub reported_once : (rules : Rules) (lives after : Lives) (ask : Ask) (id : List ℕ) (asks : List Ask) → IsLives lives → instance_in ask ≡ Some id →
+pub reported_once : (rules : Rules) (lives after : Lives) (ask : Ask) (id : List ℕ) (asks : List Ask) → IsLives lives → instance_id_of ask ≡ Some id →
     AfterAsks rules (ComesAgain rules ask id (next_number lives id)) (after_step rules lives ask) asks after → IsOnce (life_of (after_step rules lives ask) id) (life_of after id)
 reported_once rules lives after ask id asks h named more =
     at_least rules lives ask id h named (answer_to rules lives ask).change (life_of after id)

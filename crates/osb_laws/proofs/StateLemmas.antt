@@ -9,6 +9,8 @@ use Rattle.osb_orders.specs.declared.order.OrderState.{OrderState}
 use Rattle.osb_orders.specs.declared.order.OrderState.TheVariants.{Running, Succeeded, Failed}
 use Rattle.osb_orders.specs.Orders.{state_text}
 use Rattle.osb_machine.specs.Texts.{state_body}
+use Rattle.osb_machine.specs.Spliced.{state_pieces}
+use Rattle.osb_machine.proofs.BodyLemmas.{state_is}
 use Rattle.osb_orders.proofs.GrowLemmas.{choose}
 
 abbrev begin : OrderState → List ℕ
@@ -33,7 +35,7 @@ tail Running = record { front = begin Running; is = refl }
 tail Succeeded = record { front = begin Succeeded; is = refl }
 tail Failed = record { front = begin Failed; is = refl }
 
-body_ends : (o : Outcome) → Ends (state_body o) o.state
+body_ends : (o : Outcome) → Ends (state_pieces o) o.state
 body_ends o =
     choose (λ (t : List ℕ). Ends t o.state) (length o.description == 0) _ _
     (λ _. behind (codes "{\"state\":\"") _ o.state (tail o.state))
@@ -68,4 +70,4 @@ pub states_show : (one other : Outcome) → state_body one ≡ state_body other 
 states_show one other same =
     let a = body_ends one in
     let b = body_ends other in
-    state_of_ending one.state other.state (same_ending a.front b.front (ending one.state) (ending other.state) (sym a.is ∙ same ∙ b.is) (five one.state ∙ sym (five other.state)))
+    state_of_ending one.state other.state (same_ending a.front b.front (ending one.state) (ending other.state) (sym a.is ∙ state_is one ∙ same ∙ sym (state_is other) ∙ b.is) (five one.state ∙ sym (five other.state)))

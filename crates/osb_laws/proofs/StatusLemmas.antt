@@ -37,18 +37,19 @@ use Rattle.osb_orders.specs.declared.view.BindingNow.{BindingNow}
 use Rattle.osb_orders.specs.declared.order.Change.TheVariants.{Append}
 use Rattle.osb_orders.specs.Lives.{Lives, life_of, named_life}
 use Rattle.osb_orders.specs.Listing.{listing_for}
-use Rattle.osb_orders.specs.Named.{instance_in, named_by}
+use Rattle.osb_asks.specs.Subjects.{instance_id_of}
+use Rattle.osb_orders.specs.Named.{named_by}
 use Rattle.osb_orders.specs.ViewData.{ViewData, view_data_of}
 use Rattle.osb_machine.specs.Decision.{Decision}
 use Rattle.osb_machine.specs.Opened.{Opening, running, succeeded_with, numbered, opened, accepted, is_busy, is_unlike}
-use Rattle.osb_machine.specs.Provision.{creation, provision_over, provision_at, provision}
+use Rattle.osb_machine.specs.Provision.{creation, provision_over, provision}
 use Rattle.osb_machine.specs.Fetch.{fetch, fetch_over}
-use Rattle.osb_machine.specs.Update.{update_opening, is_order_to, forbids_change, update_ready, update_running, update_by, update_checked, update_over, update_at}
-use Rattle.osb_machine.specs.Deprovision.{deletion, deprovision_idle, deprovision_over, deprovision_at}
-use Rattle.osb_machine.specs.Bind.{bind_opening, is_of_plan, bind_new, bind_again, bind_over, bind_at}
+use Rattle.osb_machine.specs.Update.{target, update_opening, is_order_to, forbids_change, update_ready, update_running, update_checked, update_over}
+use Rattle.osb_machine.specs.Deprovision.{deletion, deprovision_over}
+use Rattle.osb_machine.specs.Bind.{bind_opening, bind_new, bind_again, bind_over}
 use Rattle.osb_machine.specs.FetchBinding.{fetch_binding, fetch_binding_over}
-use Rattle.osb_machine.specs.Unbind.{unbind_opening, unbind_idle, unbind_over, unbind_at}
-use Rattle.osb_machine.specs.Polls.{polled, poll_at}
+use Rattle.osb_machine.specs.Unbind.{unbind_opening, unbind_over}
+use Rattle.osb_machine.specs.Polls.{polled, poll}
 use Rattle.osb_machine.specs.Report.{is_outcome, kept_outcome, report}
 use Rattle.osb_machine.specs.Answer.{answer}
 use Rattle.osb_machine.specs.Machine.{answer_to}
@@ -58,6 +59,7 @@ use Rattle.osb_laws.proofs.LifeLemmas.{ends_running-push}
 use Rattle.osb_laws.proofs.MapLemmas.{life_at}
 use Rattle.osb_orders.specs.IsLife.{IsLives}
 use Rattle.osb_laws.specs.Statuses.{StatusSays, polled_of, PollSays}
+use Rattle.osb_laws.proofs.Rows.{provision_at, update_at, deprovision_at, bind_at, unbind_at}
 
 -- Where the last order has ended, none runs
 
@@ -216,7 +218,7 @@ module _ (rules : Rules) (life : Life) (facts : ViewData) (last : facts.last ≡
   provisioning : (a : Provision) → IfSome facts.standing (Moves life) → Good life (provision rules facts a)
   provisioning a moving = past (is_unlike a.maintenance _) life _ _ (record { good = refl }) (at facts.standing moving)
     where
-      over : (p : InstancePhase) (same : Bool) → (is_moving p ≡ true → ends_running life ≡ true) → Good life (provision_over p same a facts)
+      over : (p : InstancePhase) (same : Bool) → (is_moving p ≡ true → ends_running life ≡ true) → Good life (provision_over facts a p same)
       over phase.Creating true runs = goes_on a.accepts_incomplete (runs refl)
       over phase.Creating false runs = record { good = refl }
       over phase.Ready true runs = record { good = inl refl }
@@ -243,39 +245,35 @@ module _ (rules : Rules) (life : Life) (facts : ViewData) (last : facts.last ≡
 
   updating : (a : Update) (s : Option Standing) → IfSome s (Moves life) → Good life (update_at rules facts a s)
   updating a None moving = record { good = refl }
-  updating a (Some s) moving = over s.phase
+  updating a (Some s) moving = over s.phase moving
     where
+      aim : Attributes
+      aim = target rules s.attributes a
+
       running_on : (aim : Attributes) → ends_running life ≡ true → Good life (update_running facts a aim)
       running_on aim runs = past (is_order_to aim facts.last) life _ _ (goes_on a.accepts_incomplete runs) (record { good = refl })
 
-      ready : (aim : Attributes) → Good life (update_ready rules facts s.attributes a aim)
+      ready : (aim : Attributes) → Good life (update_ready rules facts a s.attributes aim)
       ready aim = past (are_same aim s.attributes) life _ _ (record { good = inl refl }) (past (is_busy facts) life _ _ (record { good = refl }) (past (forbids_change rules s.attributes aim) life _ _ (record { good = refl }) (at_once (update_opening rules s.attributes a aim) refl)))
 
-      by : (p : InstancePhase) (aim : Attributes) → (is_moving p ≡ true → ends_running life ≡ true) → Good life (update_by p rules facts s.attributes a aim)
-      by phase.Updating aim runs = running_on aim (runs refl)
-      by phase.Creating aim runs = ready aim
-      by phase.Ready aim runs = ready aim
-      by phase.Deleting aim runs = ready aim
-      by phase.Failed aim runs = ready aim
+      checked : (aim : Attributes) (next : Decision) → Good life next → Good life (update_checked rules facts a s.attributes aim next)
+      checked aim next good = past (not (bytes_eq a.service s.attributes.service)) life _ _ (record { good = refl }) (past (is_unlike a.maintenance _) life _ _ (record { good = refl }) good)
 
-      checked : Good life (update_checked rules facts s a)
-      checked = past (not (bytes_eq a.service s.attributes.service)) life _ _ (record { good = refl }) (past (is_unlike a.maintenance _) life _ _ (record { good = refl }) (by s.phase _ moving))
-
-      over : (p : InstancePhase) → Good life (update_over p rules facts s a)
-      over phase.Failed = record { good = refl }
-      over phase.Creating = record { good = refl }
-      over phase.Deleting = record { good = refl }
-      over phase.Ready = checked
-      over phase.Updating = checked
+      over : (p : InstancePhase) → (is_moving p ≡ true → ends_running life ≡ true) → Good life (update_over rules facts a s.attributes aim p)
+      over phase.Failed runs = record { good = refl }
+      over phase.Creating runs = record { good = refl }
+      over phase.Deleting runs = record { good = refl }
+      over phase.Ready runs = checked aim _ (ready aim)
+      over phase.Updating runs = checked aim _ (running_on aim (runs refl))
 
   deprovisioning : (a : Deprovision) (s : Option Standing) → IfSome s (Moves life) → Good life (deprovision_at rules facts a s)
   deprovisioning a None moving = record { good = refl }
   deprovisioning a (Some s) moving = over s.phase moving
     where
-      idle : Good life (deprovision_idle rules facts s.attributes a)
+      idle : Good life (deprovision_over rules facts a phase.Ready s.attributes)
       idle = past (is_busy facts) life _ _ (record { good = refl }) (past facts.bound life _ _ (record { good = refl }) (at_once (deletion rules s.attributes a) refl))
 
-      over : (p : InstancePhase) → (is_moving p ≡ true → ends_running life ≡ true) → Good life (deprovision_over p rules facts s.attributes a)
+      over : (p : InstancePhase) → (is_moving p ≡ true → ends_running life ≡ true) → Good life (deprovision_over rules facts a p s.attributes)
       over phase.Deleting runs = goes_on a.accepts_incomplete (runs refl)
       over phase.Creating runs = idle
       over phase.Ready runs = idle
@@ -285,7 +283,7 @@ module _ (rules : Rules) (life : Life) (facts : ViewData) (last : facts.last ≡
   telling : (removal : OrderKind) (o : Order) → Good life (polled removal o)
   telling removal o = past (is_a removal o && is_now Succeeded o) life _ _ (record { good = refl }) (record { good = inl refl })
 
-  polling : (removal : OrderKind) (operation : Option (List ℕ)) (named last : Option Order) → Good life (poll_at removal operation named last)
+  polling : (removal : OrderKind) (operation : Option (List ℕ)) (named last : Option Order) → Good life (poll removal operation named last)
   polling removal operation named None = record { good = refl }
   polling removal None named (Some last) = telling removal last
   polling removal (Some name) None (Some last) = record { good = refl }
@@ -295,7 +293,7 @@ module _ (rules : Rules) (life : Life) (facts : ViewData) (last : facts.last ≡
   binding a None moving = record { good = refl }
   binding a (Some s) moving = over s.phase facts.binding moving
     where
-      again : (p : BindingPhase) (same : Bool) (b : BindingNow) → (is_binding_moving p ≡ true → ends_running life ≡ true) → Good life (bind_again p same b facts a)
+      again : (p : BindingPhase) (same : Bool) (b : BindingNow) → (is_binding_moving p ≡ true → ends_running life ≡ true) → Good life (bind_again facts a p same b)
       again bindings.Bound true b runs = record { good = inl refl }
       again bindings.Bound false b runs = record { good = refl }
       again bindings.Binding true b runs = goes_on a.accepts_incomplete (runs refl)
@@ -303,10 +301,10 @@ module _ (rules : Rules) (life : Life) (facts : ViewData) (last : facts.last ≡
       again bindings.Unbinding _ b runs = record { good = refl }
       again bindings.Failed _ b runs = record { good = refl }
 
-      new : Good life (bind_new rules facts s.attributes a)
-      new = past (is_busy facts) life _ _ (record { good = refl }) (past (not (is_of_plan a s.attributes)) life _ _ (record { good = refl }) (past (not (is_bindable rules s.attributes.service s.attributes.plan)) life _ _ (record { good = refl }) (opening (bind_opening rules s.attributes a) (λ number. (numbered number (bind_opening rules s.attributes a) _, (refl, refl), refl)))))
+      new : Good life (bind_new rules facts a s.attributes)
+      new = past (is_busy facts) life _ _ (record { good = refl }) (past (not (bytes_eq a.service s.attributes.service && bytes_eq a.plan s.attributes.plan)) life _ _ (record { good = refl }) (past (not (is_bindable rules s.attributes.service s.attributes.plan)) life _ _ (record { good = refl }) (opening (bind_opening rules s.attributes a) (λ number. (numbered number (bind_opening rules s.attributes a) _, (refl, refl), refl)))))
 
-      over : (p : InstancePhase) (b : Option BindingNow) → IfSome b (BindingMoves life) → Good life (bind_over p b rules facts s.attributes a)
+      over : (p : InstancePhase) (b : Option BindingNow) → IfSome b (BindingMoves life) → Good life (bind_over rules facts a p s.attributes b)
       over phase.Failed b moving = record { good = refl }
       over phase.Creating b moving = record { good = refl }
       over _ (Some b) moving = again b.phase _ b moving
@@ -326,10 +324,10 @@ module _ (rules : Rules) (life : Life) (facts : ViewData) (last : facts.last ≡
   unbinding a None moving = record { good = refl }
   unbinding a (Some b) moving = over b.phase moving
     where
-      idle : Good life (unbind_idle rules facts b a)
+      idle : Good life (unbind_over rules facts a bindings.Bound b)
       idle = past (is_busy facts) life _ _ (record { good = refl }) (at_once (unbind_opening rules facts.standing b a) refl)
 
-      over : (p : BindingPhase) → (is_binding_moving p ≡ true → ends_running life ≡ true) → Good life (unbind_over p rules facts b a)
+      over : (p : BindingPhase) → (is_binding_moving p ≡ true → ends_running life ≡ true) → Good life (unbind_over rules facts a p b)
       over bindings.Unbinding runs = goes_on a.accepts_incomplete (runs refl)
       over bindings.Bound runs = idle
       over bindings.Binding runs = idle
@@ -362,8 +360,8 @@ life_named lives None h = tt
 life_named lives (Some id) h = (life_at lives id h).orders
 
 pub statuses_say : (rules : Rules) (lives : Lives) (ask : Ask) → IsLives lives →
-    let decision = answer_to rules lives ask in StatusSays (named_life lives (instance_in ask)) decision.status decision.body decision.change
-statuses_say rules lives ask h = (answer_good rules (named_life lives (instance_in ask)) (listing_for lives ask) (life_named lives (instance_in ask) h) ask).good
+    let decision = answer_to rules lives ask in StatusSays (named_life lives (instance_id_of ask)) decision.status decision.body decision.change
+statuses_say rules lives ask h = (answer_good rules (named_life lives (instance_id_of ask)) (listing_for lives ask) (life_named lives (instance_id_of ask) h) ask).good
 
 -- Polls
 
@@ -377,7 +375,7 @@ Says removal operation orders r = PollSays removal operation orders r.status r.b
 told_of : (removal : OrderKind) (operation : Option (List ℕ)) (orders : Life) (o : Order) → polled_of operation orders ≡ Some o → Says removal operation orders (polled removal o)
 told_of removal operation orders o is = choose (Says removal operation orders) (has_succeeded removal o) _ _ (λ yes. (o, is, yes)) (λ no. (o, is, no, refl))
 
-poll_says : (removal : OrderKind) (operation : Option (List ℕ)) (orders : Life) (named last : Option Order) → (IfSome operation (λ name. polled_of (Some name) orders ≡ named)) → last_of orders ≡ last → Says removal operation orders (poll_at removal operation named last)
+poll_says : (removal : OrderKind) (operation : Option (List ℕ)) (orders : Life) (named last : Option Order) → (IfSome operation (λ name. polled_of (Some name) orders ≡ named)) → last_of orders ≡ last → Says removal operation orders (poll removal operation named last)
 poll_says removal operation orders named None by is = none_last orders is
 poll_says removal None orders named (Some last) by is = told_of removal None orders last is
 poll_says removal (Some name) orders None (Some last) by is = by

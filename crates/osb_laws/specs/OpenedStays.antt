@@ -14,7 +14,7 @@ use Rattle.osb_orders.specs.Orders.{is_now}
 use Rattle.osb_orders.specs.Lives.{Lives, life_of}
 use Rattle.osb_orders.specs.Bindings.{binding_of}
 use Rattle.osb_orders.specs.Changed.{with_outcome}
-use Rattle.osb_orders.specs.Named.{instance_in}
+use Rattle.osb_asks.specs.Subjects.{instance_id_of}
 use Rattle.osb_orders.specs.IsLife.{is_absent}
 use Rattle.osb_machine.specs.Machine.{answer_to, after_step}
 
@@ -23,7 +23,7 @@ use Rattle.osb_machine.specs.Machine.{answer_to, after_step}
 abbrev pub OpenedStays : Type 0
 OpenedStays = (rules : Rules) (lives others : Lives) (ask : Ask) (id : List ℕ)
     (order : Order) (outcome : Outcome) →
-    instance_in ask ≡ Some id → (answer_to rules lives ask).change ≡ Append order →
+    instance_id_of ask ≡ Some id → (answer_to rules lives ask).change ≡ Append order →
     is_now Failed (with_outcome outcome order) ≡ false →
     life_of others id ≡ life_of lives id ++ with_outcome outcome order ∷ [] →
     after_step rules others ask ≡ others

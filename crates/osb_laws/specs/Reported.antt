@@ -9,7 +9,7 @@ use Rattle.osb_orders.specs.declared.order.OrderState.TheVariants.{Succeeded}
 use Rattle.osb_orders.specs.Life.{Life}
 use Rattle.osb_orders.specs.Lives.{Lives, life_of}
 use Rattle.osb_orders.specs.Changed.{with_last_ended}
-use Rattle.osb_orders.specs.Named.{instance_in}
+use Rattle.osb_asks.specs.Subjects.{instance_id_of}
 use Rattle.osb_orders.specs.IsLife.{IsLives}
 use Rattle.osb_machine.specs.Machine.{after_step}
 
@@ -46,7 +46,7 @@ AfterAsks rules Such lives (ask ∷ asks) after =
 -- life of the instance: this is the life that the ask left, made once, and at most its order has succeeded since.
 abbrev pub ReportedOnce : Type 0
 ReportedOnce = (rules : Rules) (lives after : Lives) (ask : Ask) (id : List ℕ) (asks : List Ask) →
-    IsLives lives → instance_in ask ≡ Some id →
+    IsLives lives → instance_id_of ask ≡ Some id →
     let once = after_step rules lives ask in
     AfterAsks rules (ComesAgain rules ask id (next_number lives id)) once asks after →
     IsOnce (life_of once id) (life_of after id)

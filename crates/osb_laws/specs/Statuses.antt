@@ -19,7 +19,8 @@ use Rattle.osb_orders.specs.Lists.{last_of}
 use Rattle.osb_orders.specs.Life.{Life}
 use Rattle.osb_orders.specs.Bindings.{binding_of}
 use Rattle.osb_orders.specs.Lives.{Lives, life_of, named_life}
-use Rattle.osb_orders.specs.Named.{instance_in, order_named}
+use Rattle.osb_asks.specs.Subjects.{instance_id_of}
+use Rattle.osb_orders.specs.Named.{order_named}
 use Rattle.osb_orders.specs.Changed.{changed}
 use Rattle.osb_orders.specs.IsLife.{is_absent, IsLife, IsLives}
 use Rattle.osb_machine.specs.Texts.{operation_body, state_body}
@@ -54,7 +55,7 @@ StatusSays life _ body change = change ≡ Nothing
 abbrev pub StatusesSay : Type 0
 StatusesSay = (rules : Rules) (lives : Lives) (ask : Ask) → IsLives lives →
     let decision = answer_to rules lives ask in
-    StatusSays (named_life lives (instance_in ask)) decision.status decision.body decision.change
+    StatusSays (named_life lives (instance_id_of ask)) decision.status decision.body decision.change
 
 -- a status that reports success (RFC 9110, section 15.3)
 abbrev pub is_success : Status → Bool

@@ -3,6 +3,7 @@
 use crate::peer::Peer;
 use crate::received::{Readiness, Received};
 use crate::reply::Reply;
+use osb_frames::LineRoom;
 use std::alloc::Global;
 
 /// A client whose request isn't whole yet: its connection, and what has come there. Nothing else comes to be
@@ -31,8 +32,8 @@ impl Asking {
     }
 
     /// Takes in what has come. Whether the client can be served then.
-    pub(crate) fn hear(&mut self, piece: &mut [u8]) -> Readiness {
-        self.received.take_in(&self.peer, piece)
+    pub(crate) fn hear(&mut self, piece: &mut [u8], lines: &mut LineRoom) -> Readiness {
+        self.received.take_in(&self.peer, piece, lines)
     }
 
     /// What has come of the client, and where its reply goes.

@@ -10,6 +10,7 @@ use crate::received::{Readiness, Received};
 use crate::reply::{Reply, Sent};
 use mio::net::TcpStream;
 use mio::{Registry, Token};
+use osb_frames::{LineRoom, NO_LINES};
 use std::collections::VecDeque;
 use std::io;
 use std::net::SocketAddr;
@@ -34,6 +35,8 @@ pub(crate) struct Clients<'a> {
     ready: VecDeque<Asking>,
     /// Where a client's bytes are read to first.
     piece: Vec<u8>,
+    /// Where the field lines of a head are.
+    lines: LineRoom,
 }
 
 impl<'a> Clients<'a> {
@@ -54,6 +57,7 @@ impl<'a> Clients<'a> {
             places: Places::new(rt.alloc(), count)?,
             ready: VecDeque::with_capacity(rt.alloc(), count)?,
             piece: Vec::from_elem(rt.alloc(), 0, PIECE)?,
+            lines: NO_LINES,
         })
     }
 
@@ -100,13 +104,17 @@ impl<'a> Clients<'a> {
         }
     }
 
-    /// Lets in who wants to come, as far as there are places.
-    pub(crate) fn let_in(&mut self, now: Instant) {
+    /// Lets in who wants to come, as far as there are places. Where the first of them was waited for,
+    /// hardly anybody is behind it: that is left to the system, which costs less than to look.
+    pub(crate) fn let_in(&mut self, now: Instant, waited: bool) {
         for _ in 0..=self.places.count() {
             match self.door.next(now) {
                 Arrival::Client(stream) => {
                     if !self.greet(stream, now) {
                         return;
+                    }
+                    if waited {
+                        self.door.listen(&self.registry);
                     }
                 }
                 Arrival::NoDescriptor => {
@@ -202,7 +210,7 @@ impl<'a> Clients<'a> {
 
     /// Reads what one has sent.
     fn read(&mut self, mut asking: Asking) {
-        match asking.hear(&mut self.piece) {
+        match asking.hear(&mut self.piece, &mut self.lines) {
             Readiness::Ready => self.make_ready(asking),
             Readiness::NotYet => self.wait_for(Client::Asks(asking)),
         }
@@ -217,7 +225,7 @@ impl<'a> Clients<'a> {
             Sent::Never => self.forget(reply.into_peer()),
             Sent::All => {
                 let peer = reply.into_peer();
-                if peer.shut() && (met_fault || peer.has_unread()) {
+                if (met_fault || peer.has_unread()) && peer.shut() {
                     self.begin_to_linger(peer);
                 } else {
                     self.forget(peer);

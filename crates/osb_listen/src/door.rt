@@ -56,6 +56,13 @@ impl Door {
         self.may_come = true;
     }
 
+    /// Has the system report who comes next, also who is in its queue already. Until then nobody is
+    /// looked for.
+    pub(crate) fn listen(&mut self, registry: &Registry) {
+        let watched = registry.reregister(&mut self.listener, DOOR, Interest::READABLE);
+        self.may_come = watched.is_err();
+    }
+
     /// Keeps who came in until there is a place.
     pub(crate) fn keep(&mut self, stream: TcpStream) {
         self.waits = Some(stream);

@@ -39,13 +39,22 @@ impl<'a> ManyClients<'a> {
         })
     }
 
-    /// Waits for news until a moment, and goes on with all of it. The moment after that.
-    fn attend(&mut self, now: Instant, until: Option<Instant>) -> io::Result<Instant> {
+    /// Waits for news until a moment, where none is there. Whether it waited.
+    fn wait(&mut self, now: Instant, until: Option<Instant>) -> io::Result<bool> {
+        self.poll.poll(&mut self.events, Some(Duration::ZERO))?;
         let patience = match until {
             Some(until) => Some(until.saturating_duration_since(now)),
             None => None,
         };
+        if !self.events.is_empty() || patience == Some(Duration::ZERO) {
+            return Ok(false);
+        }
         self.poll.poll(&mut self.events, patience)?;
+        Ok(true)
+    }
+
+    /// Goes on with all the news. The moment after that.
+    fn attend(&mut self) -> io::Result<Instant> {
         for event in &self.events {
             self.clients.hear(event.token());
         }
@@ -58,8 +67,9 @@ impl<'a> ManyClients<'a> {
     fn turn(&mut self) -> io::Result<()> {
         let now = Instant::now(self.rt)?;
         let until = self.clients.alarm(now);
-        let later = self.attend(now, until)?;
-        self.clients.let_in(later);
+        let waited = self.wait(now, until)?;
+        let later = self.attend()?;
+        self.clients.let_in(later, waited);
         Ok(())
     }
 
@@ -99,7 +109,8 @@ impl<'a> ManyClients<'a> {
     fn wait_for_served(&mut self) -> io::Result<()> {
         let now = Instant::now(self.rt)?;
         let until = self.clients.next_end();
-        let _ = self.attend(now, until)?;
+        self.wait(now, until)?;
+        self.attend()?;
         Ok(())
     }
 }

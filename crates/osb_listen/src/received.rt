@@ -1,7 +1,7 @@
 //! What has come of a client.
 
 use crate::peer::Peer;
-use osb_frames::{Limits, MOST_BODY, MOST_HEAD, Step, next_at_once};
+use osb_frames::{Limits, LineRoom, MOST_BODY, MOST_HEAD, Step, next_at_once};
 use std::alloc::{AllocError, Global};
 use std::io::{self, ErrorKind, Read};
 
@@ -63,13 +63,18 @@ impl Received {
 
     /// Takes in what lies there. Whether the client can be served then. One whose connection is broken,
     /// or for whose bytes memory is refused, can: it is served as one whose read failed.
-    pub(crate) fn take_in(&mut self, peer: &Peer, piece: &mut [u8]) -> Readiness {
+    pub(crate) fn take_in(
+        &mut self,
+        peer: &Peer,
+        piece: &mut [u8],
+        lines: &mut LineRoom,
+    ) -> Readiness {
         let Ok(came) = self.take_piece(peer, piece) else {
             return Readiness::Ready;
         };
         if !came
             || matches!(
-                next_at_once(&self.bytes, self.ended, &Limits::STANDARD),
+                next_at_once(&self.bytes, self.ended, &Limits::STANDARD, lines),
                 Step::More
             )
         {

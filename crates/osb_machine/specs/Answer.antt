@@ -15,23 +15,20 @@ use Rattle.osb_machine.specs.Polls.{poll}
 use Rattle.osb_machine.specs.Bind.{bind}
 use Rattle.osb_machine.specs.FetchBinding.{fetch_binding}
 use Rattle.osb_machine.specs.Unbind.{unbind}
-use Rattle.osb_machine.specs.Listed.{orders}
+use Rattle.osb_machine.specs.Listed.{orders_body}
 use Rattle.osb_machine.specs.Report.{report}
 
--- the catalog as it is in the settings (OSB API 2.17, "Catalog Management")
-abbrev pub catalog : Rules → Decision
-catalog rules = says status.Ok rules.catalog
-
+-- the catalog is that of the settings (OSB API 2.17, "Catalog Management")
 abbrev pub answer : Rules → ViewData → Ask → Decision
-answer rules facts the.Catalog = catalog rules
+answer rules facts the.Catalog = says status.Ok rules.catalog
 answer rules facts (the.Provision ask) = provision rules facts ask
 answer rules facts (the.Fetch ask) = fetch facts.standing
 answer rules facts (the.Update ask) = update rules facts ask
 answer rules facts (the.Deprovision ask) = deprovision rules facts ask
-answer rules facts (the.InstanceOp ask) = poll Delete ask.operation facts
+answer rules facts (the.InstanceOp ask) = poll Delete ask.operation facts.named facts.subject_last
 answer rules facts (the.Bind ask) = bind rules facts ask
 answer rules facts (the.FetchBinding ask) = fetch_binding facts.binding
 answer rules facts (the.Unbind ask) = unbind rules facts ask
-answer rules facts (the.BindingOp ask) = poll Unbind ask.operation facts
-answer rules facts (the.Orders ask) = orders facts.listing
+answer rules facts (the.BindingOp ask) = poll Unbind ask.operation facts.named facts.subject_last
+answer rules facts (the.Orders ask) = says status.Ok (orders_body facts.listing)
 answer rules facts (the.Report ask) = report ask facts.named

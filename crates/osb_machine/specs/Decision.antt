@@ -1,23 +1,20 @@
 -- What an ask is answered, and what it does to the life of the instance that it names.
-use Rattle.std.specs.Prelude.{ℕ, List, codes}
+use Rattle.osb_text.specs.Names.{Json}
 use Rattle.osb_replies.specs.declared.status.Status.{Status}
 use Rattle.osb_replies.specs.declared.status.Status.TheVariants as status
 use Rattle.osb_replies.specs.declared.fixed_error.FixedError.{FixedError}
 use Rattle.osb_replies.specs.FixedError.{fixed_status, fixed_body}
 use Rattle.osb_orders.specs.declared.order.Change.{Change}
 use Rattle.osb_orders.specs.declared.order.Change.TheVariants.{Nothing}
+use Rattle.osb_orders.specs.Orders.{empty_object}
 
 pub record Decision : Type 0 where
   pub status : Status
-  pub body : List ℕ
+  pub body : Json
   pub change : Change
 
--- the body of an answer that has nothing to say (OSB API 2.17 asks for a JSON object)
-abbrev pub empty_object : List ℕ
-empty_object = codes "{}"
-
 -- an answer that changes nothing
-abbrev pub says : Status → List ℕ → Decision
+abbrev pub says : Status → Json → Decision
 says status body = record { status = status; body = body; change = Nothing }
 
 -- an error with its description, and its code where the standard has one (OSB API 2.17, "Service Broker Errors")

@@ -1,6 +1,7 @@
 -- What an instance is (OSB API 2.17, "Fetching a Service Instance"; that one that failed isn't found, and one that is being
 -- deleted can't be fetched, is this project's own).
-use Rattle.std.specs.Prelude.{Option, None, Some}
+use Rattle.std.specs.Prelude.{Option}
+use Rattle.std.specs.Option.{option_map_or}
 use Rattle.osb_replies.specs.declared.status.Status.TheVariants as status
 use Rattle.osb_replies.specs.declared.fixed_error.FixedError.TheVariants.{ConcurrencyError}
 use Rattle.osb_orders.specs.declared.order.Attributes.{Attributes}
@@ -18,5 +19,4 @@ fetch_over phase.Deleting instance = refuses ConcurrencyError
 fetch_over phase.Ready instance = says status.Ok (instance_body instance)
 
 abbrev pub fetch : Option Standing → Decision
-fetch None = not_found
-fetch (Some instance) = fetch_over instance.phase instance.attributes
+fetch standing = option_map_or (λ there. fetch_over there.phase there.attributes) standing not_found

@@ -22,3 +22,5 @@ pub mod Opened
 pub mod Plans
 pub mod Same
 pub mod Texts
+-- For contracts inside the crate.
+pub mod Spliced

@@ -5,7 +5,7 @@ use Rattle.std.specs.Prelude.{ℕ, Bool, false, List, []}
 use Rattle.std.specs.Option.{option_map_or}
 use Rattle.osb_catalog.specs.Modes.{is_asynchronous}
 use Rattle.osb_catalog.specs.Rules.{Rules}
-use Rattle.osb_machine.specs.Decision.{empty_object}
+use Rattle.osb_orders.specs.Orders.{empty_object}
 
 abbrev pub catalog_version : Rules → List ℕ → List ℕ → List ℕ
 catalog_version rules service plan = option_map_or (λ facts. facts.version) (rules.plan service plan) []

@@ -21,7 +21,8 @@ pub struct AnswerAndChange<'a> {
 }
 
 impl<'a> AnswerAndChange<'a> {
-    ghost use Rattle.osb_machine.specs.Decision.{says, refuses, empty_object};
+    ghost use Rattle.osb_machine.specs.Decision.{says, refuses};
+    ghost use Rattle.osb_orders.specs.Orders.{empty_object};
     ghost use Rattle.osb_machine.specs.Steps.{decision};
 
     /// Answers a text, and changes nothing.

@@ -1,10 +1,10 @@
 //! The rules of Bind, which makes a binding.
 
-ghost use Rattle.std.specs.Prelude.{◌≡◌, IfOk};
+ghost use Rattle.std.specs.Prelude.{◌≡◌, ◌&&◌, IfOk, bytes_eq};
 ghost use Rattle.osb_catalog.specs.Rules.{rules_of};
 ghost use Rattle.osb_orders.specs.ViewData.{data_in};
 ghost use Rattle.osb_machine.specs.Opened.{opened};
-ghost use Rattle.osb_machine.specs.Bind.{bound_attributes, bind_opening, is_of_plan, bind_new, bind_again, bind};
+ghost use Rattle.osb_machine.specs.Bind.{bound_attributes, bind_opening, bind_new, bind_again, bind};
 ghost use Rattle.osb_machine.specs.Steps.{decision, opening_of};
 
 use crate::answer_and_change::{Answer, AnswerAndChange};
@@ -54,7 +54,8 @@ fn bind_again<'a>(
     ask: &Bind,
     same: bool,
 ) -> Result<AnswerAndChange<'a>, AllocError>
-    ensures { IfOk result (λ step. decision step ≡ bind_again binding.now.phase same binding.now (data_in view.now) ask.now) }
+    ensures { IfOk result (λ step. decision step
+        ≡ bind_again (data_in view.now) ask.now binding.now.phase same binding.now) }
 {
     match binding.phase {
         BindingPhase::Bound if same => {
@@ -76,7 +77,8 @@ fn bind_new<'a>(
     instance: &Attributes,
     ask: &Bind,
 ) -> Result<AnswerAndChange<'a>, AllocError>
-    ensures { IfOk result (λ step. decision step ≡ bind_new (rules_of settings.now) (data_in view.now) instance.now ask.now) }
+    ensures { IfOk result (λ step. decision step
+        ≡ bind_new (rules_of settings.now) (data_in view.now) ask.now instance.now) }
 {
     if is_busy(view) {
         return Ok(AnswerAndChange::refuses(FixedError::ConcurrencyError));
@@ -92,7 +94,8 @@ fn bind_new<'a>(
 
 /// Whether the service and the plan are those of the instance.
 fn is_of_plan(ask: &Bind, instance: &Attributes) -> bool
-    ensures { result ≡ is_of_plan ask.now instance.now }
+    ensures { result ≡ (bytes_eq ask.now.service instance.now.service
+        && bytes_eq ask.now.plan instance.now.plan) }
 {
     ask.service.as_str() == instance.service.as_str() && ask.plan.as_str() == instance.plan.as_str()
 }

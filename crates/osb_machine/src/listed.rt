@@ -1,7 +1,10 @@
 //! The listing of running orders.
 
-ghost use Rattle.std.specs.Prelude.{◌≡◌, IfOk, string_bytes};
-ghost use Rattle.osb_machine.specs.Listed.{maintenance_member, context_member, first_members, last_members, listed_of_binding, listed_of_instance, listed, listed_after, orders_body, orders};
+ghost use Rattle.std.specs.Prelude.{◌≡◌, ◌++◌, false, codes, IfOk, string_bytes};
+ghost use Rattle.osb_machine.specs.Listed.{orders_body};
+ghost use Rattle.osb_machine.specs.Spliced.{maintenance_member, context_member, first_members, last_members, spliced_of_binding, spliced_of_instance, spliced, spliced_after, spliced_from};
+ghost use Rattle.osb_replies.specs.declared.status.Status.TheVariants.{Ok};
+ghost use Rattle.osb_machine.specs.Decision.{says};
 ghost use Rattle.osb_machine.specs.Steps.{decision};
 
 use crate::answer_and_change::AnswerAndChange;
@@ -16,14 +19,14 @@ pub(crate) fn orders<'a>(
     alloc: Global,
     listing: &[(Text, Order)],
 ) -> Result<AnswerAndChange<'a>, AllocError>
-    ensures { IfOk result (λ step. decision step ≡ orders listing.now) }
+    ensures { IfOk result (λ step. decision step ≡ says Ok (orders_body listing.now)) }
 {
     let text = orders_body(alloc, listing)?;
     Ok(AnswerAndChange::says(Status::Ok, text))
 }
 
 fn orders_body(alloc: Global, listing: &[(Text, Order)]) -> Result<String, AllocError>
-    ensures { IfOk result (λ s. string_bytes s ≡ orders_body listing.now) }
+    ensures { IfOk result (λ s. string_bytes s ≡ codes "{\"orders\":[" ++ spliced_from false listing.now) }
 {
     let mut text = String::from_str(alloc, "{\"orders\":[")?;
     let mut later = false;
@@ -38,7 +41,7 @@ fn orders_body(alloc: Global, listing: &[(Text, Order)]) -> Result<String, Alloc
 
 /// One order, with a comma before it where it isn't the first.
 fn listed_after(alloc: Global, later: bool, id: &Text, order: &Order) -> Result<String, AllocError>
-    ensures { IfOk result (λ s. string_bytes s ≡ listed_after later id.now order.now) }
+    ensures { IfOk result (λ s. string_bytes s ≡ spliced_after later id.now order.now) }
 {
     let order = listed(alloc, id, order)?;
     if later {
@@ -48,7 +51,7 @@ fn listed_after(alloc: Global, later: bool, id: &Text, order: &Order) -> Result<
 }
 
 fn listed(alloc: Global, id: &Text, order: &Order) -> Result<String, AllocError>
-    ensures { IfOk result (λ s. string_bytes s ≡ listed id.now order.now) }
+    ensures { IfOk result (λ s. string_bytes s ≡ spliced id.now order.now) }
 {
     match order.kind {
         OrderKind::Bind | OrderKind::Unbind => listed_of_binding(alloc, id, order),
@@ -59,7 +62,7 @@ fn listed(alloc: Global, id: &Text, order: &Order) -> Result<String, AllocError>
 }
 
 fn listed_of_binding(alloc: Global, id: &Text, order: &Order) -> Result<String, AllocError>
-    ensures { IfOk result (λ s. string_bytes s ≡ listed_of_binding id.now order.now) }
+    ensures { IfOk result (λ s. string_bytes s ≡ spliced_of_binding id.now order.now) }
 {
     let app = in_quotes(alloc, &order.attributes.place)?;
     let resource = order.attributes.spot.as_str();
@@ -72,7 +75,7 @@ fn listed_of_binding(alloc: Global, id: &Text, order: &Order) -> Result<String, 
 }
 
 fn listed_of_instance(alloc: Global, id: &Text, order: &Order) -> Result<String, AllocError>
-    ensures { IfOk result (λ s. string_bytes s ≡ listed_of_instance id.now order.now) }
+    ensures { IfOk result (λ s. string_bytes s ≡ spliced_of_instance id.now order.now) }
 {
     let first = first_members(alloc, id, order)?;
     let organization = in_quotes(alloc, &order.attributes.place)?;

@@ -3,7 +3,8 @@
 ghost use Rattle.std.specs.Prelude.{if◌then◌else◌, ◌≡◌, IfOk};
 ghost use Rattle.osb_catalog.specs.Rules.{rules_of};
 ghost use Rattle.osb_orders.specs.ViewData.{data_in};
-ghost use Rattle.osb_machine.specs.Opened.{opened, begins, carried_out, numbered, accepted, is_busy, is_unlike, running, succeeded_with};
+ghost use Rattle.osb_machine.specs.Opened.{opened, begins, appends, numbered, accepted, is_busy, is_unlike, running, succeeded_with};
+ghost use Rattle.osb_replies.specs.Body.{body_bytes};
 ghost use Rattle.osb_machine.specs.Steps.{decision, opening_of};
 
 use crate::answer_and_change::{Answer, AnswerAndChange};
@@ -57,7 +58,8 @@ fn open_numbered<'a>(
 ) -> Result<AnswerAndChange<'a>, AllocError>
     ensures { IfOk result (λ step. decision step ≡ (if opening.entry.asynchronous
         then begins (numbered number (opening_of opening.entry) running)
-        else carried_out number (opening_of opening.entry))) }
+        else appends opening.entry.answer.status (body_bytes opening.entry.answer.body)
+        (numbered number (opening_of opening.entry) (succeeded_with opening.entry.credentials)))) }
 {
     if opening.asynchronous {
         begin(alloc, number, opening)
@@ -97,6 +99,7 @@ fn numbered(number: u32, opening: Opening<'_>, outcome: Outcome) -> Order
 }
 
 /// Answers 202 of an order, and appends it.
+#[tactic(auto, using(crate::proofs::BodyLemmas::operation_is))]
 fn begun<'a>(alloc: Global, order: Order) -> Result<AnswerAndChange<'a>, AllocError>
     ensures { IfOk result (λ step. decision step ≡ begins order) }
 {
@@ -117,7 +120,9 @@ fn begun<'a>(alloc: Global, order: Order) -> Result<AnswerAndChange<'a>, AllocEr
 
 /// Answers as the opening says, and appends its order, which is carried out at once.
 fn carried_out<'a>(alloc: Global, number: u32, opening: Opening<'a>) -> AnswerAndChange<'a>
-    ensures { decision result ≡ carried_out number (opening_of opening.entry) }
+    ensures { decision result
+        ≡ appends opening.entry.answer.status (body_bytes opening.entry.answer.body)
+        (numbered number (opening_of opening.entry) (succeeded_with opening.entry.credentials)) }
 {
     let order = Order {
         number,
@@ -153,6 +158,7 @@ fn succeeded_with(alloc: Global, credentials: Text) -> Outcome
 }
 
 /// Answers 202 of the order that runs, where the request accepts that.
+#[tactic(auto, using(crate::proofs::BodyLemmas::operation_is))]
 pub(crate) fn accepted<'a>(
     alloc: Global,
     accepts_incomplete: bool,

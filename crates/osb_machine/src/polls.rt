@@ -1,7 +1,6 @@
 //! The rules of InstanceOp and BindingOp, which show the state of an operation.
 
 ghost use Rattle.std.specs.Prelude.{◌≡◌, IfOk};
-ghost use Rattle.osb_orders.specs.ViewData.{data_in};
 ghost use Rattle.osb_machine.specs.Polls.{polled, poll};
 ghost use Rattle.osb_machine.specs.Steps.{decision};
 
@@ -20,7 +19,8 @@ pub(crate) fn poll<'a>(
     operation: &Option<Text>,
     view: &View,
 ) -> Result<AnswerAndChange<'a>, AllocError>
-    ensures { IfOk result (λ step. decision step ≡ poll removal operation.now (data_in view.now)) }
+    ensures { IfOk result (λ step. decision step
+        ≡ poll removal operation.now view.now.named view.now.subject_last) }
 {
     let Some(last) = &view.subject_last else {
         return Ok(AnswerAndChange::of_status(Status::NotFound));
@@ -33,6 +33,7 @@ pub(crate) fn poll<'a>(
     polled(alloc, removal, order)
 }
 
+#[tactic(auto, using(crate::proofs::BodyLemmas::state_is))]
 fn polled<'a>(
     alloc: Global,
     removal: OrderKind,

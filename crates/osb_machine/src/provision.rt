@@ -45,7 +45,8 @@ fn provision_over<'a>(
     phase: InstancePhase,
     same: bool,
 ) -> Result<AnswerAndChange<'a>, AllocError>
-    ensures { IfOk result (λ step. decision step ≡ provision_over phase same ask.now (data_in view.now)) }
+    ensures { IfOk result (λ step. decision step
+        ≡ provision_over (data_in view.now) ask.now phase same) }
 {
     match phase {
         InstancePhase::Creating if same => accepted(alloc, ask.accepts_incomplete, &view.last),

@@ -1,7 +1,9 @@
 //! The rules of Report, by which the backend ends an order.
 
 ghost use Rattle.std.specs.Prelude.{◌≡◌, IfOk};
-ghost use Rattle.osb_machine.specs.Report.{reported_state, kept_credentials, kept_outcome, is_outcome, ends, reported_on, report};
+ghost use Rattle.osb_machine.specs.Report.{reported_state, kept_credentials, kept_outcome, is_outcome, reported_on, report};
+ghost use Rattle.osb_orders.specs.declared.order.Change.TheVariants.{Finish};
+ghost use Rattle.osb_machine.specs.Decision.{done};
 ghost use Rattle.osb_machine.specs.Steps.{decision};
 
 use crate::answer_and_change::{Answer, AnswerAndChange};
@@ -39,7 +41,7 @@ fn reported_on<'a>(order: &Order, outcome: Outcome) -> AnswerAndChange<'a>
 }
 
 fn ends<'a>(number: u32, outcome: Outcome) -> AnswerAndChange<'a>
-    ensures { decision result ≡ ends number outcome }
+    ensures { decision result ≡ record done { change = Finish number outcome } }
 {
     AnswerAndChange {
         answer: Answer {

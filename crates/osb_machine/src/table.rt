@@ -5,7 +5,9 @@ ghost use Rattle.osb_asks.specs.declared.ask.Ask.TheVariants.{Catalog};
 ghost use Rattle.osb_catalog.specs.Rules.{rules_of};
 ghost use Rattle.osb_orders.specs.ViewData.{data_in, view_of};
 ghost use Rattle.osb_orders.specs.Lives.{Lives};
-ghost use Rattle.osb_machine.specs.Answer.{catalog, answer};
+ghost use Rattle.osb_replies.specs.declared.status.Status.TheVariants.{Ok};
+ghost use Rattle.osb_machine.specs.Decision.{says};
+ghost use Rattle.osb_machine.specs.Answer.{answer};
 ghost use Rattle.osb_machine.specs.Machine.{answer_to};
 ghost use Rattle.osb_machine.specs.Steps.{decision};
 
@@ -74,7 +76,7 @@ fn by_table<'a>(
 
 /// Lends the catalog's text: it takes no memory.
 fn catalog<'a>(settings: &'a Settings) -> AnswerAndChange<'a>
-    ensures { decision result ≡ catalog (rules_of settings.now) }
+    ensures { decision result ≡ says Ok (rules_of settings.now).catalog }
 {
     AnswerAndChange {
         answer: Answer {

@@ -1,8 +1,10 @@
 //! The bodies that have values in them.
 
-ghost use Rattle.std.specs.Prelude.{◌≡◌, IfOk, string_bytes};
+ghost use Rattle.std.specs.Prelude.{◌≡◌, ◌++◌, IfOk, codes, string_bytes};
 ghost use Rattle.json.specs.Print.{quoted};
-ghost use Rattle.osb_machine.specs.Texts.{operation_body, instance_body, credentials_body, binding_body, state_body};
+ghost use Rattle.osb_orders.specs.Orders.{name_of};
+ghost use Rattle.osb_machine.specs.Spliced.{state_pieces};
+ghost use Rattle.osb_machine.specs.Texts.{instance_body, credentials_body, binding_body};
 
 use osb_orders::{Attributes, BindingNow, Order, Outcome};
 use osb_text::Text;
@@ -19,7 +21,8 @@ pub(crate) fn in_quotes(alloc: Global, text: &Text) -> Result<String, AllocError
 
 /// The operation that goes on.
 pub(crate) fn operation(alloc: Global, order: &Order) -> Result<String, AllocError>
-    ensures { IfOk result (λ s. string_bytes s ≡ operation_body order.now) }
+    ensures { IfOk result (λ s. string_bytes s
+        ≡ codes "{\"operation\":\"" ++ name_of order.now ++ codes "\"}") }
 {
     let kind = order.kind.as_str();
     let number = order.number;
@@ -54,7 +57,7 @@ pub(crate) fn binding(alloc: Global, binding: &BindingNow) -> Result<String, All
 
 /// The state of an order.
 pub(crate) fn state(alloc: Global, outcome: &Outcome) -> Result<String, AllocError>
-    ensures { IfOk result (λ s. string_bytes s ≡ state_body outcome.now) }
+    ensures { IfOk result (λ s. string_bytes s ≡ state_pieces outcome.now) }
 {
     let state = outcome.state.as_str();
     if outcome.description.len() == 0 {

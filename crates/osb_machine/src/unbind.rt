@@ -1,10 +1,12 @@
 //! The rules of Unbind, which ends a binding.
 
-ghost use Rattle.std.specs.Prelude.{◌≡◌, IfOk};
+ghost use Rattle.std.specs.Prelude.{◌≡◌, IfOk, false};
+ghost use Rattle.std.specs.Option.{option_map_or};
+ghost use Rattle.osb_machine.specs.Plans.{bindings_are_asynchronous};
 ghost use Rattle.osb_catalog.specs.Rules.{rules_of};
 ghost use Rattle.osb_orders.specs.ViewData.{data_in};
 ghost use Rattle.osb_machine.specs.Opened.{opened};
-ghost use Rattle.osb_machine.specs.Unbind.{unbindings_are_asynchronous, unbind_opening, unbind};
+ghost use Rattle.osb_machine.specs.Unbind.{unbind_opening, unbind};
 ghost use Rattle.osb_machine.specs.Steps.{decision, opening_of};
 
 use crate::answer_and_change::{Answer, AnswerAndChange};
@@ -76,7 +78,8 @@ fn unbind_opening<'a>(
 
 /// By the mode of the plan that the instance has.
 fn unbindings_are_asynchronous(settings: &Settings, standing: &Option<Standing>) -> bool
-    ensures { result ≡ unbindings_are_asynchronous (rules_of settings.now) standing.now }
+    ensures { result ≡ option_map_or
+        (λ there. bindings_are_asynchronous (rules_of settings.now) there.attributes.plan) standing.now false }
 {
     match standing {
         Some(instance) => bindings_are_asynchronous(settings, instance.attributes.plan.as_str()),

@@ -1,10 +1,10 @@
 //! The rules of Update, which changes an instance.
 
-ghost use Rattle.std.specs.Prelude.{◌≡◌, IfOk};
-ghost use Rattle.osb_catalog.specs.Rules.{rules_of};
+ghost use Rattle.std.specs.Prelude.{if◌then◌else◌, ◌≡◌, IfOk, unwrap_or};
+ghost use Rattle.osb_catalog.specs.Rules.{rules_of, allows_context_updates};
 ghost use Rattle.osb_orders.specs.ViewData.{data_in};
 ghost use Rattle.osb_machine.specs.Opened.{opened};
-ghost use Rattle.osb_machine.specs.Update.{target_plan, target_parameters, target_maintenance, target_context, target, update_opening, forbids_change, update_ready, is_order_to, update_running, update_by, update_checked, update};
+ghost use Rattle.osb_machine.specs.Update.{target_plan, target_maintenance, target, update_opening, forbids_change, update_ready, is_order_to, update_running, update_checked, update};
 ghost use Rattle.osb_machine.specs.Steps.{decision, opening_of};
 
 use crate::answer_and_change::{Answer, AnswerAndChange};
@@ -13,7 +13,7 @@ use crate::plans::{catalog_version, instances_are_asynchronous, is_plan_updateab
 use crate::same::are_same;
 use osb_asks::Update;
 use osb_catalog::Settings;
-use osb_orders::{Attributes, InstancePhase, Order, OrderKind, Standing, View};
+use osb_orders::{Attributes, InstancePhase, Order, OrderKind, View};
 use osb_replies::{Body, FixedError, Status};
 use osb_text::Text;
 use std::alloc::{AllocError, Global};
@@ -34,49 +34,63 @@ pub(crate) fn update<'a>(
         InstancePhase::Creating | InstancePhase::Deleting => {
             Ok(AnswerAndChange::refuses(FixedError::ConcurrencyError))
         }
-        InstancePhase::Ready | InstancePhase::Updating => {
-            update_checked(alloc, settings, view, instance, ask)
+        InstancePhase::Ready => {
+            update_checked(alloc, settings, view, &instance.attributes, ask, false)
+        }
+        InstancePhase::Updating => {
+            update_checked(alloc, settings, view, &instance.attributes, ask, true)
         }
     }
 }
 
+/// Checks what every update has to meet. `updating` says whether another one runs.
 fn update_checked<'a>(
     alloc: Global,
     settings: &Settings,
     view: &View,
-    instance: &Standing,
+    instance: &Attributes,
     ask: &Update,
+    updating: bool,
 ) -> Result<AnswerAndChange<'a>, AllocError>
-    ensures { IfOk result (λ step. decision step ≡ update_checked (rules_of settings.now) (data_in view.now) instance.now ask.now) }
+    ensures { let rules = rules_of settings.now in
+        let facts = data_in view.now in
+        let aim = target rules instance.now ask.now in
+        IfOk result (λ step. decision step ≡ update_checked rules facts ask.now instance.now aim
+        (if updating then update_running facts ask.now aim
+        else update_ready rules facts ask.now instance.now aim)) }
 {
-    let there = &instance.attributes;
-    if ask.service.as_str() != there.service.as_str() {
+    if ask.service.as_str() != instance.service.as_str() {
         return Ok(AnswerAndChange::refuses(FixedError::Mismatch));
     }
-    let version = catalog_version(settings, there.service.as_str(), target_plan(there, ask));
+    let plan = target_plan(instance, ask);
+    let version = catalog_version(settings, instance.service.as_str(), plan);
     if is_unlike(&ask.maintenance, version) {
         return Ok(AnswerAndChange::refuses(FixedError::MaintenanceInfoConflict));
     }
-    let target = target(alloc, settings, there, ask)?;
-    update_by(alloc, settings, view, instance, ask, target)
+    let target = target(alloc, settings, instance, ask)?;
+    update_by(alloc, settings, view, instance, ask, target, updating)
 }
 
 fn update_by<'a>(
     alloc: Global,
     settings: &Settings,
     view: &View,
-    instance: &Standing,
+    instance: &Attributes,
     ask: &Update,
     target: Attributes,
+    updating: bool,
 ) -> Result<AnswerAndChange<'a>, AllocError>
-    ensures { IfOk result (λ step. decision step ≡ update_by instance.now.phase (rules_of settings.now) (data_in view.now) instance.now.attributes ask.now target) }
+    ensures { let rules = rules_of settings.now in
+        let facts = data_in view.now in
+        IfOk result (λ step. decision step ≡ (if updating then update_running facts ask.now target
+        else update_ready rules facts ask.now instance.now target)) }
 {
-    if let InstancePhase::Updating = instance.phase {
+    if updating {
         let step = update_running(alloc, view, ask, &target);
         drop(target);
         return step;
     }
-    update_ready(alloc, settings, view, &instance.attributes, ask, target)
+    update_ready(alloc, settings, view, instance, ask, target)
 }
 
 /// While another update runs.
@@ -112,7 +126,8 @@ fn update_ready<'a>(
     ask: &Update,
     target: Attributes,
 ) -> Result<AnswerAndChange<'a>, AllocError>
-    ensures { IfOk result (λ step. decision step ≡ update_ready (rules_of settings.now) (data_in view.now) instance.now ask.now target) }
+    ensures { IfOk result (λ step. decision step
+        ≡ update_ready (rules_of settings.now) (data_in view.now) ask.now instance.now target) }
 {
     if are_same(&target, instance) {
         drop(target);
@@ -211,7 +226,7 @@ fn target_plan<'a>(instance: &'a Attributes, ask: &'a Update) -> &'a str
 }
 
 fn target_parameters<'a>(instance: &'a Attributes, ask: &'a Update) -> &'a str
-    ensures { result.now ≡ target_parameters instance.now ask.now }
+    ensures { result.now ≡ unwrap_or ask.now.parameters instance.now.parameters }
 {
     match &ask.parameters {
         Some(parameters) => parameters.as_str(),
@@ -220,7 +235,8 @@ fn target_parameters<'a>(instance: &'a Attributes, ask: &'a Update) -> &'a str
 }
 
 fn target_context<'a>(settings: &Settings, instance: &'a Attributes, ask: &'a Update) -> &'a str
-    ensures { result.now ≡ target_context (rules_of settings.now) instance.now ask.now }
+    ensures { result.now ≡ (if allows_context_updates (rules_of settings.now) instance.now.service
+        then unwrap_or ask.now.context instance.now.context else instance.now.context) }
 {
     match &ask.context {
         Some(context) if settings.context_updates(instance.service.as_str()) => context.as_str(),

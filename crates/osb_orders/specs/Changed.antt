@@ -1,6 +1,7 @@
 -- What a change makes of a life, and of the lives of all instances.
-use Rattle.std.specs.Prelude.{ℕ, List, [], ◌∷◌, ◌++◌, Option, None, Some}
+use Rattle.std.specs.Prelude.{[], ◌∷◌, ◌++◌, Option, None, Some}
 use Rattle.std.specs.FinMap.{insert}
+use Rattle.osb_text.specs.Names.{Id}
 use Rattle.osb_orders.specs.declared.order.Outcome.{Outcome}
 use Rattle.osb_orders.specs.declared.order.Order.{Order}
 use Rattle.osb_orders.specs.declared.order.Change.{Change}
@@ -23,11 +24,11 @@ changed (Append order) life = life ++ order ∷ []
 changed (Finish number outcome) life = with_last_ended outcome life
 
 -- the change made to the life of one instance
-abbrev pub lives_changed : Change → List ℕ → Lives → Lives
+abbrev pub lives_changed : Change → Id → Lives → Lives
 lives_changed Nothing id lives = lives
 lives_changed change id lives = insert lives id (changed change (life_of lives id))
 
 -- the change made to the life of the instance that an ask names
-abbrev pub after_change : Change → Lives → Option (List ℕ) → Lives
+abbrev pub after_change : Change → Lives → Option Id → Lives
 after_change change lives None = lives
 after_change change lives (Some id) = lives_changed change id lives

@@ -29,28 +29,21 @@ since_birth life =
 -- by how the birth ended, and by the last Create, Update or Delete and how far it is
 abbrev pub phase_by : OrderState → OrderKind → OrderState → InstancePhase
 phase_by birth Create Running = phase.Creating
-phase_by birth Create Succeeded = phase.Ready
 phase_by birth Create Failed = phase.Failed
 phase_by birth Update Running = phase.Updating
-phase_by birth Update _ = phase.Ready
 phase_by birth Delete Running = phase.Deleting
 phase_by Failed Delete _ = phase.Failed
-phase_by birth Delete _ = phase.Ready
 phase_by birth _ _ = phase.Ready
 
--- of the birth and the orders after it
-abbrev pub phase_since : Order → Life → InstancePhase
-phase_since birth later =
-    let last = last_where is_of_instance birth later in
-    phase_by birth.outcome.state last.kind last.outcome.state
-
--- those of the last succeeded Update, otherwise those of the birth
-abbrev pub attributes_since : Order → Life → Attributes
-attributes_since birth later = (last_where (has_succeeded Update) birth later).attributes
-
+-- the attributes are those of the last succeeded Update, otherwise those of the birth
 abbrev pub standing_since : Life → Option Standing
 standing_since [] = None
-standing_since (birth ∷ later) = Some (record { phase = phase_since birth later; attributes = attributes_since birth later })
+standing_since (birth ∷ later) =
+    let last = last_where is_of_instance birth later in
+    Some (record {
+      phase = phase_by birth.outcome.state last.kind last.outcome.state;
+      attributes = (last_where (has_succeeded Update) birth later).attributes;
+    })
 
 -- the instance, unless it is absent
 abbrev pub standing_of : Life → Option Standing

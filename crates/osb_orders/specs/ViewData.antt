@@ -1,7 +1,7 @@
 -- What an ask needs to know of the lives.
-use Rattle.std.specs.Prelude.{ℕ, Bool, List, [], length, Option, option_and_then}
+use Rattle.std.specs.Prelude.{ℕ, Bool, List, length, Option, option_and_then}
+use Rattle.osb_text.specs.Names.{Id}
 use Rattle.osb_asks.specs.declared.ask.Ask.{Ask}
-use Rattle.osb_asks.specs.declared.ask.Ask.TheVariants.{Orders}
 use Rattle.osb_orders.specs.declared.order.Order.{Order}
 use Rattle.osb_orders.specs.declared.view.Standing.{Standing}
 use Rattle.osb_orders.specs.declared.view.BindingNow.{BindingNow}
@@ -10,7 +10,8 @@ use Rattle.osb_orders.specs.Lists.{last_of}
 use Rattle.osb_orders.specs.Life.{Life, standing_of}
 use Rattle.osb_orders.specs.Bindings.{binding_of, has_bindings}
 use Rattle.osb_orders.specs.Lives.{Lives, named_life}
-use Rattle.osb_orders.specs.Named.{instance_in, binding_in, subject, named_in}
+use Rattle.osb_asks.specs.Subjects.{instance_id_of, binding_id_of}
+use Rattle.osb_orders.specs.Named.{subject, named_in}
 use Rattle.osb_orders.specs.Listing.{listing_for}
 
 -- the parts of a view
@@ -22,30 +23,25 @@ pub record ViewData : Type 0 where
   pub subject_last : Option Order
   pub count : ℕ
   pub bound : Bool
-  pub listing : List (List ℕ × Order)
+  pub listing : List (Id × Order)
 
 -- the facts that a view has
 abbrev pub data_in : View → ViewData
 data_in view = record { standing = view.standing; last = view.last; binding = view.binding; named = view.named; subject_last = view.subject_last; count = view.count; bound = view.bound; listing = view.listing.items }
 
--- running orders matter only to the ask that lists them
-abbrev pub listing_in : Ask → List (List ℕ × Order) → List (List ℕ × Order)
-listing_in (Orders ask) listing = listing
-listing_in _ listing = []
-
 -- the facts for an ask, from the life that it names and the running orders
-abbrev pub view_data_of : Life → List (List ℕ × Order) → Ask → ViewData
+abbrev pub view_data_of : Life → List (Id × Order) → Ask → ViewData
 view_data_of life listing ask = record {
   standing = standing_of life;
   last = last_of life;
-  binding = option_and_then (λ id. binding_of id life) (binding_in ask);
+  binding = option_and_then (λ id. binding_of id life) (binding_id_of ask);
   named = named_in ask life;
   subject_last = last_of (subject ask life);
   count = length life;
   bound = has_bindings life;
-  listing = listing_in ask listing;
+  listing = listing;
 }
 
 -- the view of the lives for an ask
 abbrev pub view_of : Lives → Ask → ViewData
-view_of lives ask = view_data_of (named_life lives (instance_in ask)) (listing_for lives ask) ask
+view_of lives ask = view_data_of (named_life lives (instance_id_of ask)) (listing_for lives ask) ask

@@ -135,18 +135,21 @@ impl OrderState {
 impl Order {
     ghost use Rattle.osb_orders.specs.Orders.{is_a, is_now, has_succeeded, is_of_instance, is_of_binding, name_of};
 
+    /// Whether the order is of that kind.
     pub fn is_a(&self, kind: OrderKind) -> bool
         ensures { result ≡ is_a kind self.now }
     {
         self.kind.number() == kind.number()
     }
 
+    /// Whether the order is in that state.
     pub fn is_now(&self, state: OrderState) -> bool
         ensures { result ≡ is_now state self.now }
     {
         self.outcome.state.number() == state.number()
     }
 
+    /// Whether the order is of that kind and has succeeded.
     pub fn has_succeeded(&self, kind: OrderKind) -> bool
         ensures { result ≡ has_succeeded kind self.now }
     {

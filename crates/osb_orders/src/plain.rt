@@ -46,7 +46,7 @@ impl Model for PlainLives {
 
 impl PlainLives {
     ghost use Rattle.osb_orders.specs.Lives.{life_of, named_life};
-    ghost use Rattle.osb_orders.specs.Named.{instance_in};
+    ghost use Rattle.osb_asks.specs.Subjects.{instance_id_of};
     ghost use Rattle.osb_orders.specs.Listing.{listing, listing_for};
     ghost use Rattle.osb_orders.specs.declared.order.Change.TheVariants.{Nothing};
     ghost use Rattle.osb_orders.specs.Changed.{lives_changed};
@@ -92,7 +92,7 @@ impl PlainLives {
     }
 
     fn named_life(&self, alloc: Global, ask: &Ask) -> Result<Vec<Order>, AllocError>
-        ensures { IfOk result (λ life. life.items ≡ named_life self.now (instance_in ask.now)) }
+        ensures { IfOk result (λ life. life.items ≡ named_life self.now (instance_id_of ask.now)) }
     {
         match ask.instance() {
             Some(id) => self.life(alloc, id.as_str()),

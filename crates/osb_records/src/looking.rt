@@ -7,7 +7,7 @@ ghost use Rattle.osb_asks.specs.Asks.{is_catalog};
 ghost use Rattle.osb_asks.specs.declared.ask.Ask.TheVariants as asks;
 ghost use Rattle.osb_orders.specs.Lives.{life_of};
 ghost use Rattle.osb_orders.specs.Listing.{listing};
-ghost use Rattle.osb_orders.specs.Named.{instance_in};
+ghost use Rattle.osb_asks.specs.Subjects.{instance_id_of};
 ghost use Rattle.osb_orders.specs.ViewData.{data_in, view_of};
 ghost use Rattle.osb_audit.specs.Counts.{AreCounts};
 ghost use Rattle.osb_audit.specs.Plans as spec;
@@ -123,7 +123,8 @@ pub(crate) fn view_of_instance<S: Alter>(
     ask: &Ask,
 ) -> Result<View, StoreFault>
     requires { IsReady (state S.Store conn.old) }
-    ensures ok { HasCleanDisk (state S.Store conn.new) → instance_in ask.now ≡ Some instance.now →
+    ensures ok { HasCleanDisk (state S.Store conn.new) →
+        instance_id_of ask.now ≡ Some instance.now →
         IfOk result (λ view. data_in view ≡ view_of (stored (state S.Store conn.old)) ask.now) }
     ensures looks { Looks (state S.Store conn.old) (state S.Store conn.new) result }
 {
@@ -180,9 +181,9 @@ pub(crate) fn view_without_instance<S: Alter>(
     ask: &Ask,
 ) -> Result<View, StoreFault>
     requires { IsReady (state S.Store conn.old) }
-    ensures ok { HasCleanDisk (state S.Store conn.new) → instance_in ask.now ≡ None →
+    ensures ok { HasCleanDisk (state S.Store conn.new) → instance_id_of ask.now ≡ None →
         IfOk result (λ view. data_in view ≡ view_of (stored (state S.Store conn.old)) ask.now) }
-    ensures open { HasCleanDisk (state S.Store conn.new) → instance_in ask.now ≡ None →
+    ensures open { HasCleanDisk (state S.Store conn.new) → instance_id_of ask.now ≡ None →
         is_catalog ask.now ≡ false → OnOk result (IsTrue (state S.Store conn.old).is_open) }
     ensures looks { MayLook (state S.Store conn.old) (state S.Store conn.new) }
 {

@@ -1,5 +1,6 @@
 -- The pieces of a reply are its text.
 use Rattle.std.proofs.Common.{◌≡◌, List, [], ◌∷◌, ◌++◌, ◌+◌, ◌<◌, ℕ, Option, None, Some, codes, unwrap_or, length, take, get_or, add-one, Bool, sym, ap, ◌∙◌}
+use Rattle.std.specs.Prelude.{if◌then◌else◌}
 use Rattle.std.specs.Borrow.{Bor}
 use Rattle.std.specs.Fmt.{decimal}
 use Rattle.std.proofs.lemmas.List.{append_assoc, append-nil}
@@ -7,7 +8,7 @@ use Rattle.std.proofs.Math.Seq.{take-suc}
 use Rattle.osb_replies.specs.declared.status.Status.{Status}
 use Rattle.osb_replies.specs.Status.{code_of, phrase_of}
 use Rattle.osb_replies.specs.Pieces.{text_of, before_identity, after_identity}
-use Rattle.osb_replies.specs.Text.{type_line, challenge_line, close_line, reply_text}
+use Rattle.osb_replies.specs.Text.{line, challenge_line, reply_text}
 
 -- with the line that repeats an identity, and without it
 with_echo : (version code space phrase end type_line name size challenge before identity close body : List ℕ)
@@ -19,6 +20,12 @@ without_echo : (version code space phrase end type_line name size challenge clos
     → version ++ (code ++ (space ++ (phrase ++ (end ++ (type_line ++ (name ++ (size ++ (end ++ (challenge ++ (close ++ (end ++ (body ++ []))))))))))))
     ≡ ((version ++ code ++ space ++ phrase) ++ end) ++ type_line ++ ((name ++ size) ++ end) ++ challenge ++ [] ++ close ++ ([] ++ end) ++ body
 without_echo version code space phrase end type_line name size challenge close body = simp (append_assoc, append-nil)
+
+abbrev pub type_line : List ℕ
+type_line = line (codes "Content-Type: application/json")
+
+abbrev pub close_line : Bool → List ℕ
+close_line close = if close then line (codes "Connection: close") else []
 
 -- the pieces, one after another
 abbrev pub in_pieces : Status → List ℕ → Option (List ℕ) → Bool → List ℕ

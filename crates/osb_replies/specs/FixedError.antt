@@ -1,56 +1,49 @@
 -- The errors that are always answered by the same status and body: a JSON object with a description, and with a code
 -- where the standard defines one (OSB API 2.17, "Service Broker Errors").
-use Rattle.std.specs.Prelude.{ℕ, Bool, List, [], ◌++◌, Option, Some, None, codes}
+use Prim.Native.String.{String}
+use Rattle.std.specs.Prelude.{ℕ, Bool, List, ◌++◌, Option, codes}
 use Rattle.osb_replies.specs.declared.status.Status.{Status}
 use Rattle.osb_replies.specs.declared.status.Status.TheVariants.{BadRequest, LengthRequired, PreconditionFailed, PayloadTooLarge, UnprocessableEntity}
 use Rattle.osb_replies.specs.declared.fixed_error.FixedError.{FixedError}
 use Rattle.osb_replies.specs.declared.fixed_error.FixedError.TheVariants.{NoHead, Host, Coding, Length, TooLarge, Cut, Version, Id, Query, Body, NotInCatalog, Mismatch, NotBindable, Operation, AsyncRequired, ConcurrencyError, MaintenanceInfoConflict, NoPlanChange, BindingsRemain, Full}
 use Rattle.osb_replies.specs.Text.{ReplyParts}
 
--- what an error says
-pub record ErrorParts : Type 0 where
-  pub status : Status
-  pub description : List ℕ
-  pub code : Option (List ℕ)
+-- a body with the description
+abbrev pub described : String → List ℕ
+described text = codes "{\"description\":\"" ++ codes text ++ codes "\"}"
 
-abbrev without_code : Status → List ℕ → ErrorParts
-without_code status description = record { status = status; description = description; code = None }
+-- with the code too
+abbrev pub coded : String → String → List ℕ
+coded code text = codes "{\"description\":\"" ++ codes text ++ codes "\",\"error\":\"" ++ codes code ++ codes "\"}"
 
-abbrev coded : List ℕ → List ℕ → ErrorParts
-coded code description = record { status = UnprocessableEntity; description = description; code = Some code }
-
-abbrev pub error_parts : FixedError → ErrorParts
-error_parts NoHead = without_code BadRequest (codes "No request head was found.")
-error_parts Host = without_code BadRequest (codes "A request needs one Host line.")
-error_parts Coding = without_code LengthRequired (codes "Transfer codings are not supported.")
-error_parts Length = without_code BadRequest (codes "The Content-Length is not usable.")
-error_parts TooLarge = without_code PayloadTooLarge (codes "The body is too large.")
-error_parts Cut = without_code BadRequest (codes "The input ended inside the body.")
-error_parts Version = without_code PreconditionFailed (codes "This broker speaks version 2 of the API.")
-error_parts Id = without_code BadRequest (codes "An identifier is not usable.")
-error_parts Query = without_code BadRequest (codes "The query is not usable.")
-error_parts Body = without_code BadRequest (codes "The body is not usable.")
-error_parts NotInCatalog = without_code BadRequest (codes "The catalog has no such service or plan.")
-error_parts Mismatch = without_code BadRequest (codes "The service or plan is not the instance's.")
-error_parts NotBindable = without_code BadRequest (codes "The plan is not bindable.")
-error_parts Operation = without_code BadRequest (codes "The operation is not known for this resource.")
-error_parts AsyncRequired = coded (codes "AsyncRequired") (codes "The plan needs asynchronous operations.")
-error_parts ConcurrencyError = coded (codes "ConcurrencyError") (codes "Another operation is in progress.")
-error_parts MaintenanceInfoConflict = coded (codes "MaintenanceInfoConflict") (codes "The maintenance version is not the catalog's.")
-error_parts NoPlanChange = without_code UnprocessableEntity (codes "The plan does not allow a change of plan.")
-error_parts BindingsRemain = without_code UnprocessableEntity (codes "The instance still has bindings.")
-error_parts Full = without_code UnprocessableEntity (codes "The instance has no order numbers left.")
-
--- the member with the code, where there is one
-abbrev pub code_member : Option (List ℕ) → List ℕ
-code_member None = []
-code_member (Some code) = codes ",\"error\":\"" ++ code ++ codes "\""
+-- the status and the body of an error
+abbrev pub said : FixedError → Status × List ℕ
+said NoHead = (BadRequest, described "No request head was found.")
+said Host = (BadRequest, described "A request needs one Host line.")
+said Coding = (LengthRequired, described "Transfer codings are not supported.")
+said Length = (BadRequest, described "The Content-Length is not usable.")
+said TooLarge = (PayloadTooLarge, described "The body is too large.")
+said Cut = (BadRequest, described "The input ended inside the body.")
+said Version = (PreconditionFailed, described "This broker speaks version 2 of the API.")
+said Id = (BadRequest, described "An identifier is not usable.")
+said Query = (BadRequest, described "The query is not usable.")
+said Body = (BadRequest, described "The body is not usable.")
+said NotInCatalog = (BadRequest, described "The catalog has no such service or plan.")
+said Mismatch = (BadRequest, described "The service or plan is not the instance's.")
+said NotBindable = (BadRequest, described "The plan is not bindable.")
+said Operation = (BadRequest, described "The operation is not known for this resource.")
+said AsyncRequired = (UnprocessableEntity, coded "AsyncRequired" "The plan needs asynchronous operations.")
+said ConcurrencyError = (UnprocessableEntity, coded "ConcurrencyError" "Another operation is in progress.")
+said MaintenanceInfoConflict = (UnprocessableEntity, coded "MaintenanceInfoConflict" "The maintenance version is not the catalog's.")
+said NoPlanChange = (UnprocessableEntity, described "The plan does not allow a change of plan.")
+said BindingsRemain = (UnprocessableEntity, described "The instance still has bindings.")
+said Full = (UnprocessableEntity, described "The instance has no order numbers left.")
 
 abbrev pub fixed_status : FixedError → Status
-fixed_status error = (error_parts error).status
+fixed_status error = (said error).0
 
 abbrev pub fixed_body : FixedError → List ℕ
-fixed_body error = codes "{\"description\":\"" ++ (error_parts error).description ++ codes "\"" ++ code_member (error_parts error).code ++ codes "}"
+fixed_body error = (said error).1
 
 abbrev pub fixed_reply : FixedError → Option (List ℕ) → Bool → ReplyParts
 fixed_reply error echo close = record { status = fixed_status error; body = fixed_body error; echo = echo; close = close }

@@ -15,9 +15,4 @@ parts reply = record {
 
 -- the reply to a request for which memory or the store was refused
 abbrev pub refused : ReplyParts
-refused = record {
-  status = InternalServerError;
-  body = codes "{}";
-  echo = None;
-  close = true;
-}
+refused = record { status = InternalServerError; body = codes "{}"; echo = None; close = true }

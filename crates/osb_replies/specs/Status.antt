@@ -4,32 +4,24 @@ use Rattle.std.specs.Prelude.{ℕ, List, codes}
 use Rattle.osb_replies.specs.declared.status.Status.{Status}
 use Rattle.osb_replies.specs.declared.status.Status.TheVariants.{Ok, Created, Accepted, BadRequest, Unauthorized, NotFound, Conflict, Gone, LengthRequired, PreconditionFailed, PayloadTooLarge, UnprocessableEntity, InternalServerError}
 
+-- the code and the reason phrase
+abbrev pub row_of : Status → ℕ × List ℕ
+row_of Ok = (200, codes "OK")
+row_of Created = (201, codes "Created")
+row_of Accepted = (202, codes "Accepted")
+row_of BadRequest = (400, codes "Bad Request")
+row_of Unauthorized = (401, codes "Unauthorized")
+row_of NotFound = (404, codes "Not Found")
+row_of Conflict = (409, codes "Conflict")
+row_of Gone = (410, codes "Gone")
+row_of LengthRequired = (411, codes "Length Required")
+row_of PreconditionFailed = (412, codes "Precondition Failed")
+row_of PayloadTooLarge = (413, codes "Payload Too Large")
+row_of UnprocessableEntity = (422, codes "Unprocessable Entity")
+row_of InternalServerError = (500, codes "Internal Server Error")
+
 abbrev pub code_of : Status → ℕ
-code_of Ok = 200
-code_of Created = 201
-code_of Accepted = 202
-code_of BadRequest = 400
-code_of Unauthorized = 401
-code_of NotFound = 404
-code_of Conflict = 409
-code_of Gone = 410
-code_of LengthRequired = 411
-code_of PreconditionFailed = 412
-code_of PayloadTooLarge = 413
-code_of UnprocessableEntity = 422
-code_of InternalServerError = 500
+code_of status = (row_of status).0
 
 abbrev pub phrase_of : Status → List ℕ
-phrase_of Ok = codes "OK"
-phrase_of Created = codes "Created"
-phrase_of Accepted = codes "Accepted"
-phrase_of BadRequest = codes "Bad Request"
-phrase_of Unauthorized = codes "Unauthorized"
-phrase_of NotFound = codes "Not Found"
-phrase_of Conflict = codes "Conflict"
-phrase_of Gone = codes "Gone"
-phrase_of LengthRequired = codes "Length Required"
-phrase_of PreconditionFailed = codes "Precondition Failed"
-phrase_of PayloadTooLarge = codes "Payload Too Large"
-phrase_of UnprocessableEntity = codes "Unprocessable Entity"
-phrase_of InternalServerError = codes "Internal Server Error"
+phrase_of status = (row_of status).1

@@ -15,15 +15,6 @@ pub record ReplyParts : Type 0 where
 abbrev pub line : List ℕ → List ℕ
 line text = text ++ codes "\r\n"
 
-abbrev pub status_line : Status → List ℕ
-status_line status = line (codes "HTTP/1.1 " ++ decimal (code_of status) ++ codes " " ++ phrase_of status)
-
-abbrev pub type_line : List ℕ
-type_line = line (codes "Content-Type: application/json")
-
-abbrev pub length_line : ℕ → List ℕ
-length_line size = line (codes "Content-Length: " ++ decimal size)
-
 -- a 401 asks for Basic credentials (RFC 7617, section 2)
 abbrev pub challenge_line : Status → List ℕ
 challenge_line status = if code_of status == 401 then line (codes "WWW-Authenticate: Basic realm=\"broker\"") else []
@@ -33,16 +24,13 @@ abbrev pub echo_line : Option (List ℕ) → List ℕ
 echo_line None = []
 echo_line (Some identity) = line (codes "X-Broker-API-Request-Identity: " ++ identity)
 
-abbrev pub close_line : Bool → List ℕ
-close_line close = if close then line (codes "Connection: close") else []
-
 unfoldable pub reply_text : ReplyParts → List ℕ
 reply_text reply =
-    status_line reply.status
-    ++ type_line
-    ++ length_line (length reply.body)
+    line (codes "HTTP/1.1 " ++ decimal (code_of reply.status) ++ codes " " ++ phrase_of reply.status)
+    ++ line (codes "Content-Type: application/json")
+    ++ line (codes "Content-Length: " ++ decimal (length reply.body))
     ++ challenge_line reply.status
     ++ echo_line reply.echo
-    ++ close_line reply.close
+    ++ (if reply.close then line (codes "Connection: close") else [])
     ++ line []
     ++ reply.body

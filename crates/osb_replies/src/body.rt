@@ -15,6 +15,7 @@ impl<'a> Body<'a> {
     /// The empty JSON object.
     pub const EMPTY_OBJECT: Body<'static> = Body::Lent(b"{}");
 
+    /// The bytes of the body.
     pub fn bytes(&self) -> &[u8]
         ensures { result.now ≡ body_bytes self.now }
     {

@@ -72,6 +72,7 @@ impl FixedError {
         }
     }
 
+    /// The status that the error is answered with.
     pub fn status(self) -> Status
         ensures { result ≡ fixed_status self }
     {

@@ -1,8 +1,8 @@
 //! The pieces of a reply's text, in the order in which they are sent.
 
-ghost use Rattle.std.specs.Prelude.{◌≡◌, ◌-◌, ◌^◌, [], length, min, option_copied, unwrap_or};
+ghost use Rattle.std.specs.Prelude.{if◌then◌else◌, codes, ◌≡◌, ◌-◌, ◌^◌, [], length, min, option_copied, unwrap_or};
 ghost use Rattle.osb_replies.specs.Status.{phrase_of};
-ghost use Rattle.osb_replies.specs.Text.{challenge_line, close_line, reply_text};
+ghost use Rattle.osb_replies.specs.Text.{line, challenge_line, reply_text};
 ghost use Rattle.osb_replies.specs.Parts.{parts};
 ghost use Rattle.osb_replies.specs.Pieces.{text_of, before_identity, after_identity};
 
@@ -23,7 +23,7 @@ fn challenge<'p>(status: Status) -> &'p [u8]
 
 /// The line of a reply that closes its connection.
 fn closing<'p>(close: bool) -> &'p [u8]
-    ensures { result.now ≡ close_line close }
+    ensures { result.now ≡ (if close then line (codes "Connection: close") else []) }
 {
     if close { b"Connection: close\r\n" } else { b"" }
 }

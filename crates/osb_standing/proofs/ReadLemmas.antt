@@ -17,9 +17,9 @@ use Rattle.osb_orders.specs.Lists.{last_of}
 use Rattle.osb_orders.specs.Life.{Life, standing_of}
 use Rattle.osb_orders.specs.Bindings.{binding_of}
 use Rattle.osb_orders.specs.Lives.{Lives, named_life}
-use Rattle.osb_orders.specs.Named.{instance_in, binding_in}
+use Rattle.osb_asks.specs.Subjects.{instance_id_of, binding_id_of}
 use Rattle.osb_orders.specs.Listing.{listing_for}
-use Rattle.osb_orders.specs.ViewData.{ViewData, listing_in, view_of}
+use Rattle.osb_orders.specs.ViewData.{ViewData, view_of}
 use Rattle.osb_orders.specs.IsLife.{is_empty, IsLife, IsInstance, IsLives}
 use Rattle.osb_standing.specs.declared.read.Read.{Read}
 use Rattle.osb_standing.specs.Rows.{row_of, standing_in, Bindings, with_binding, bindings_named, bindings_of}
@@ -84,20 +84,6 @@ binding_is : (life : Life) (id : Option (List ℕ)) → option_and_then (λ id. 
 binding_is life None = refl
 binding_is life (Some id) = bindings_are life id
 
-listed_again : (lives : Lives) (ask : Ask) → listing_for lives ask ≡ listing_in ask (listing_for lives ask)
-listed_again lives the.Catalog = refl
-listed_again lives (the.Provision ask) = refl
-listed_again lives (the.Fetch ask) = refl
-listed_again lives (the.Update ask) = refl
-listed_again lives (the.Deprovision ask) = refl
-listed_again lives (the.InstanceOp ask) = refl
-listed_again lives (the.Bind ask) = refl
-listed_again lives (the.FetchBinding ask) = refl
-listed_again lives (the.Unbind ask) = refl
-listed_again lives (the.BindingOp ask) = refl
-listed_again lives (the.Orders ask) = refl
-listed_again lives (the.Report ask) = refl
-
 no_life : IsLife []
 no_life = record { count = omega arith; orders = tt; texts = tt }
 
@@ -113,10 +99,9 @@ pub view_is : (lives : Lives) (ask : Ask) (read : Read) (standing : Option Stand
     found ≡ record { standing = standing; last = read.last; binding = read.binding; named = read.named; subject_last = read.subject_last; count = count; bound = read.bound; listing = read.listing.items } →
     standing ≡ standing_in read.row → count ≡ count_in read.row → IsLives lives → IsReadFor lives ask read → found ≡ view_of lives ask
 view_is lives ask read standing count found is stands counts h r =
-    let life : Life = named_life lives (instance_in ask) in
+    let life : Life = named_life lives (instance_id_of ask) in
     let standing_now : standing ≡ standing_of life = stands ∙ ap standing_in r.row ∙ standing_is life in
-    let count_now : count ≡ length life = counts ∙ ap count_in r.row ∙ count_is life (named_is_life lives (instance_in ask) h) in
+    let count_now : count ≡ length life = counts ∙ ap count_in r.row ∙ count_is life (named_is_life lives (instance_id_of ask) h) in
     let bound_now = r.bound ∙ bound_is life in
-    let binding_now : read.binding ≡ option_and_then (λ id. binding_of id life) (binding_in ask) = r.binding ∙ binding_is life (binding_in ask) in
-    let listed : read.listing.items ≡ listing_in ask (listing_for lives ask) = r.listed ∙ listed_again lives ask in
-    is ∙ (λ i. record { standing = standing_now i; last = r.last i; binding = binding_now i; named = r.named i; subject_last = r.subject_last i; count = count_now i; bound = bound_now i; listing = listed i })
+    let binding_now : read.binding ≡ option_and_then (λ id. binding_of id life) (binding_id_of ask) = r.binding ∙ binding_is life (binding_id_of ask) in
+    is ∙ (λ i. record { standing = standing_now i; last = r.last i; binding = binding_now i; named = r.named i; subject_last = r.subject_last i; count = count_now i; bound = bound_now i; listing = r.listed i })

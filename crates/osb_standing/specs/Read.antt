@@ -6,7 +6,8 @@ use Rattle.osb_orders.specs.declared.order.Order.{Order}
 use Rattle.osb_orders.specs.Lists.{last_of}
 use Rattle.osb_orders.specs.Life.{Life}
 use Rattle.osb_orders.specs.Lives.{Lives, named_life}
-use Rattle.osb_orders.specs.Named.{instance_in, binding_in, subject, named_in}
+use Rattle.osb_asks.specs.Subjects.{instance_id_of, binding_id_of}
+use Rattle.osb_orders.specs.Named.{subject, named_in}
 use Rattle.osb_orders.specs.Listing.{listing_for}
 use Rattle.osb_standing.specs.declared.read.Read.{Read}
 use Rattle.osb_standing.specs.Rows.{row_of, bindings_of}
@@ -16,7 +17,7 @@ use Rattle.osb_standing.specs.Laws.{has_rows}
 pub record IsReadOf (life : Life) (listing : List (List ℕ × Order)) (ask : Ask) (read : Read) : Type 0 where
   pub row : read.row ≡ row_of life
   pub last : read.last ≡ last_of life
-  pub binding : read.binding ≡ option_and_then (λ id. get (bindings_of life) id) (binding_in ask)
+  pub binding : read.binding ≡ option_and_then (λ id. get (bindings_of life) id) (binding_id_of ask)
   pub named : read.named ≡ named_in ask life
   pub subject_last : read.subject_last ≡ last_of (subject ask life)
   pub bound : read.bound ≡ has_rows (bindings_of life)
@@ -24,4 +25,4 @@ pub record IsReadOf (life : Life) (listing : List (List ℕ × Order)) (ask : As
 
 -- read for the ask of these lives
 abbrev pub IsReadFor : Lives → Ask → Read → Type 0
-IsReadFor lives ask read = IsReadOf (named_life lives (instance_in ask)) (listing_for lives ask) ask read
+IsReadFor lives ask read = IsReadOf (named_life lives (instance_id_of ask)) (listing_for lives ask) ask read

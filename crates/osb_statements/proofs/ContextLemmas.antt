@@ -22,7 +22,8 @@ use Rattle.osb_orders.specs.Lists.{last_of, last_from}
 use Rattle.osb_orders.specs.Orders.{is_a, kind_number}
 use Rattle.osb_orders.specs.Life.{Life}
 use Rattle.osb_orders.specs.Lives.{Lives, life_of}
-use Rattle.osb_orders.specs.Named.{subject, named_in, binding_in}
+use Rattle.osb_asks.specs.Subjects.{binding_id_of}
+use Rattle.osb_orders.specs.Named.{subject, named_in}
 use Rattle.osb_orders.specs.Listing.{listing}
 use Rattle.osb_orders.specs.Changed.{with_outcome, lives_changed}
 use Rattle.osb_orders.specs.IsLife.{IsLives}
@@ -303,7 +304,7 @@ module _ (db : Database) (has : HasLives db) where
       record {
         row = joins.row ∙ ap (option_map (joined_row entries id)) (is.row ∙ ap row_of same) ∙ ap (λ es. option_map (joined_row es id) (row_of (bare_life life))) known ∙ row_joined found id has.lives;
         last = joins.last ∙ ap (option_map (joined_order entries id)) (is.last ∙ ap last_of same) ∙ ap (λ es. option_map (joined_order es id) (last_of (bare_life life))) known ∙ last_joined found has.lives id;
-        binding = joins.binding ∙ is.binding ∙ ap (λ l. option_and_then (λ binding. get (bindings_of l) binding) (binding_in ask)) same ∙ ap (λ bindings. option_and_then (λ binding. get bindings binding) (binding_in ask)) (bindings_of-bare life);
+        binding = joins.binding ∙ is.binding ∙ ap (λ l. option_and_then (λ binding. get (bindings_of l) binding) (binding_id_of ask)) same ∙ ap (λ bindings. option_and_then (λ binding. get bindings binding) (binding_id_of ask)) (bindings_of-bare life);
         named = joins.named ∙ ap (option_map (joined_order entries id)) (is.named ∙ ap (named_in ask) same) ∙ ap (λ es. option_map (joined_order es id) (named_in ask (bare_life life))) known ∙ named_joined found has.lives ask id;
         subject_last = joins.subject_last ∙ ap (option_map (joined_order entries id)) (is.subject_last ∙ ap (λ l. last_of (subject ask l)) same) ∙ ap (λ es. option_map (joined_order es id) (last_of (subject ask (bare_life life)))) known ∙ subject_joined found has.lives ask id;
         bound = joins.bound ∙ is.bound ∙ ap (λ l. has_rows (bindings_of l)) same ∙ ap has_rows (bindings_of-bare life);

@@ -12,7 +12,8 @@ use Rattle.osb_orders.specs.declared.order.Change.TheVariants.{Append}
 use Rattle.osb_orders.specs.Lists.{last_of}
 use Rattle.osb_orders.specs.Life.{Life}
 use Rattle.osb_orders.specs.Lives.{Lives, life_of}
-use Rattle.osb_orders.specs.Named.{binding_in, subject, named_by, named_in}
+use Rattle.osb_asks.specs.Subjects.{binding_id_of}
+use Rattle.osb_orders.specs.Named.{subject, named_by, named_in}
 use Rattle.osb_standing.specs.Rows.{row_of, bindings_of}
 use Rattle.osb_standing.specs.Laws.{has_rows}
 use Rattle.osb_standing.specs.Written.{IsWritten}
@@ -54,8 +55,8 @@ binding_none : (o : Option (List ℕ)) → option_and_then (λ id. get (bindings
 binding_none None = refl
 binding_none (Some id) = get-empty (slice_cmp nat_cmp) id
 
-pub no_binding : (life : Life) (ask : Ask) → row_of life ≡ None → option_and_then (λ id. get (bindings_of life) id) (binding_in ask) ≡ None
-no_binding life ask h = ap (λ l. option_and_then (λ id. get (bindings_of l) id) (binding_in ask)) (never_had life h) ∙ binding_none (binding_in ask)
+pub no_binding : (life : Life) (ask : Ask) → row_of life ≡ None → option_and_then (λ id. get (bindings_of life) id) (binding_id_of ask) ≡ None
+no_binding life ask h = ap (λ l. option_and_then (λ id. get (bindings_of l) id) (binding_id_of ask)) (never_had life h) ∙ binding_none (binding_id_of ask)
 
 -- before its first order an instance has no row
 pub no_row_before : (lives : Lives) (id : List ℕ) (order : Order) (instances : List InstanceEntry) → IsWritten (life_of lives id) (Append order) order → order.number ≡ 1 → InstancesStand lives instances → IsRowOf id None instances

@@ -4,7 +4,7 @@ use Rattle.sqlite.specs.declared.types.Value.{Value}
 use Rattle.sqlite.specs.declared.types.Value.TheVariants.{Int}
 use Rattle.sqlite.specs.Order.{Row, column, bytes}
 use Rattle.osb_orders.specs.declared.order.Attributes.{Attributes}
-use Rattle.osb_orders.specs.Orders.{no_context}
+use Rattle.osb_orders.specs.Orders.{empty_object}
 
 abbrev pub number_in : Value → ℕ
 number_in (Int (pos n)) = n
@@ -19,5 +19,5 @@ attributes_decoded cells = record {
   spot = bytes (column cells 7);
   parameters = bytes (column cells 8);
   maintenance = bytes (column cells 9);
-  context = no_context;
+  context = empty_object;
 }

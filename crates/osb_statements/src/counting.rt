@@ -179,6 +179,7 @@ fn count_instances<S: Alter>(
     Err(StoreFault::Refused(Cause::Other))
 }
 
+/// How many instances and bindings there are that aren't absent, and how many orders run.
 pub fn count_all<S: Alter>(tx: &mut Transaction<'_, S>, alloc: Global) -> Result<Counts, StoreFault>
     requires { ShowsLives (behind S.Store tx.old) }
     ensures ok { Finds S.Store tx.old tx.new result (λ s counts. AreCounts (stored s) counts) }

@@ -151,6 +151,7 @@ fn all_running<S: Alter>(
     }
 }
 
+/// The services and plans that instances have, each pair once.
 pub fn list_plans<S: Alter>(
     tx: &mut Transaction<'_, S>,
     alloc: Global,

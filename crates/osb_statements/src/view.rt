@@ -5,7 +5,8 @@ ghost use Rattle.std.specs.FinMap.{get};
 ghost use Rattle.osb_orders.specs.Lists.{last_of};
 ghost use Rattle.osb_orders.specs.Orders.{is_of_instance, is_of_binding};
 ghost use Rattle.osb_orders.specs.Lives.{life_of};
-ghost use Rattle.osb_orders.specs.Named.{binding_in, subject, named_by, named_in};
+ghost use Rattle.osb_asks.specs.Subjects.{binding_id_of};
+ghost use Rattle.osb_orders.specs.Named.{subject, named_by, named_in};
 ghost use Rattle.osb_standing.specs.Rows.{row_of, bindings_of};
 ghost use Rattle.osb_standing.specs.Laws.{has_rows};
 ghost use Rattle.osb_standing.specs.Read.{IsReadOf};
@@ -102,7 +103,7 @@ fn read_binding_for<S: Alter>(
     requires { ShowsRecords (behind S.Store tx.old) }
     ensures ok { MayFind S.Store tx.old tx.new result (λ s row.
         row ≡ option_and_then (λ id.
-        get (bindings_of (life_of (bare_in s) instance.now)) id) (binding_in ask.now)) }
+        get (bindings_of (life_of (bare_in s) instance.now)) id) (binding_id_of ask.now)) }
     ensures reads { MayRead S.Store tx.old tx.new result }
 {
     match ask.binding() {
@@ -242,7 +243,7 @@ fn read_bindings<S: Alter>(
     requires { ShowsRecords (behind S.Store tx.old) }
     ensures ok { Finds S.Store tx.old tx.new result (λ s found.
         (found.0 ≡ option_and_then (λ id.
-        get (bindings_of (life_of (bare_in s) instance.now)) id) (binding_in ask.now))
+        get (bindings_of (life_of (bare_in s) instance.now)) id) (binding_id_of ask.now))
         × (found.1 ≡ has_rows (bindings_of (life_of (bare_in s) instance.now)))) }
     ensures reads { Reads S.Store tx.old tx.new result }
 {
@@ -293,7 +294,7 @@ fn read_asked<S: Alter>(
     requires { ShowsRecords (behind S.Store tx.old) }
     ensures ok { Finds S.Store tx.old tx.new result (λ s asked.
         ((asked.binding ≡ option_and_then (λ id.
-        get (bindings_of (life_of (bare_in s) instance.now)) id) (binding_in ask.now))
+        get (bindings_of (life_of (bare_in s) instance.now)) id) (binding_id_of ask.now))
         × (asked.bound ≡ has_rows (bindings_of (life_of (bare_in s) instance.now))))
         × ((asked.named ≡ named_in ask.now (life_of (bare_in s) instance.now))
         × (asked.subject_last ≡ last_of (subject ask.now (life_of (bare_in s) instance.now))))) }
@@ -321,7 +322,7 @@ fn read_asked_of<S: Alter>(
     ensures ok { Finds S.Store tx.old tx.new result (λ s asked.
         option_copied row.entry ≡ row_of (life_of (bare_in s) instance.now) →
         ((asked.binding ≡ option_and_then (λ id.
-        get (bindings_of (life_of (bare_in s) instance.now)) id) (binding_in ask.now))
+        get (bindings_of (life_of (bare_in s) instance.now)) id) (binding_id_of ask.now))
         × (asked.bound ≡ has_rows (bindings_of (life_of (bare_in s) instance.now))))
         × ((asked.named ≡ named_in ask.now (life_of (bare_in s) instance.now))
         × (asked.subject_last ≡ last_of (subject ask.now (life_of (bare_in s) instance.now))))) }

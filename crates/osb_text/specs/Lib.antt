@@ -1,5 +1,7 @@
 -- What public contracts cite, in the order in which to read it.
 
+-- The names of lists of bytes.
+pub mod Names
 -- The object that a text has, or its first fault; and which numbers it may have.
 pub mod Reading
 pub mod Whole

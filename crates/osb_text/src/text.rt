@@ -31,6 +31,7 @@ impl Text {
         }
     }
 
+    /// A copy of a text. It fails only where memory is refused.
     pub fn from_str(alloc: Global, text: &str) -> Result<Text, AllocError>
         ensures { IfOk result (λ t. t ≡ text.now) }
     {
@@ -38,6 +39,7 @@ impl Text {
         Ok(Text { string })
     }
 
+    /// The text as a slice.
     pub fn as_str(&self) -> &str
         ensures { result.now ≡ self.now }
     {
@@ -51,6 +53,7 @@ impl Text {
         self.string.len()
     }
 
+    /// Whether it has no byte.
     pub fn is_empty(&self) -> bool
         ensures { IsTrue result ↔ (self.now ≡ []) }
     {

@@ -13,12 +13,13 @@ use Rattle.osb_orders.specs.Lists.{last_of}
 use Rattle.osb_orders.specs.Orders.{is_of_instance, is_of_binding, name_of}
 use Rattle.osb_orders.specs.Life.{Life, since_birth}
 use Rattle.osb_orders.specs.Lives.{Lives, named_life}
-use Rattle.osb_orders.specs.Named.{instance_in, binding_in, order_numbered, named_by}
+use Rattle.osb_asks.specs.Subjects.{instance_id_of, binding_id_of}
+use Rattle.osb_orders.specs.Named.{order_numbered, named_by}
 use Rattle.osb_orders.specs.Listing.{listing_for}
 use Rattle.osb_orders.specs.ViewData.{ViewData, view_data_of}
 use Rattle.osb_bare.proofs.ListLemmas.{last_of-map, filter-map, find-map}
 use Rattle.osb_machine.specs.Decision.{Decision}
-use Rattle.osb_machine.specs.Polls.{poll_at}
+use Rattle.osb_machine.specs.Polls.{poll}
 use Rattle.osb_machine.specs.Report.{report, reported_on, reported_state, kept_credentials}
 use Rattle.osb_machine.specs.Answer.{answer}
 use Rattle.osb_machine.specs.Machine.{answer_to}
@@ -30,20 +31,20 @@ use Rattle.osb_trim.proofs.ViewLemmas.{LastOrGone, last_or_gone, listing-trimmed
 -- ---- polls and reports look at no attributes
 
 abbrev poll_by : OrderKind → Option (List ℕ) → Life → Decision
-poll_by removal operation orders = poll_at removal operation (named_by operation orders) (last_of orders)
+poll_by removal operation orders = poll removal operation (named_by operation orders) (last_of orders)
 
-poll_at-erased : (removal : OrderKind) (operation : Option (List ℕ)) (named last : Option Order) → poll_at removal operation (option_map erased named) (option_map erased last) ≡ poll_at removal operation named last
-poll_at-erased removal operation named None = refl
-poll_at-erased removal None named (Some last) = refl
-poll_at-erased removal (Some operation) None (Some last) = refl
-poll_at-erased removal (Some operation) (Some order) (Some last) = refl
+poll-erased : (removal : OrderKind) (operation : Option (List ℕ)) (named last : Option Order) → poll removal operation (option_map erased named) (option_map erased last) ≡ poll removal operation named last
+poll-erased removal operation named None = refl
+poll-erased removal None named (Some last) = refl
+poll-erased removal (Some operation) None (Some last) = refl
+poll-erased removal (Some operation) (Some order) (Some last) = refl
 
 named_by-erased : (operation : Option (List ℕ)) (orders : Life) → named_by operation (map erased orders) ≡ option_map erased (named_by operation orders)
 named_by-erased None orders = refl
 named_by-erased (Some name) orders = find-map erased (λ order. bytes_eq (name_of order) name) orders
 
 poll_by-erased : (removal : OrderKind) (operation : Option (List ℕ)) (orders : Life) → poll_by removal operation (map erased orders) ≡ poll_by removal operation orders
-poll_by-erased removal operation orders = ap₂ (poll_at removal operation) (named_by-erased operation orders) (last_of-map erased orders) ∙ poll_at-erased removal operation (named_by operation orders) (last_of orders)
+poll_by-erased removal operation orders = ap₂ (poll removal operation) (named_by-erased operation orders) (last_of-map erased orders) ∙ poll-erased removal operation (named_by operation orders) (last_of orders)
 
 of_instance : (life : Life) → map erased (filter is_of_instance (trimmed life)) ≡ map erased (filter is_of_instance life)
 of_instance life = sym (filter-map erased is_of_instance (trimmed life)) ∙ ap (filter is_of_instance) (erased-trimmed life) ∙ filter-map erased is_of_instance life
@@ -67,10 +68,10 @@ reported ask life = ap (report ask) (find-map erased (λ order. order.number == 
 module _ (rules : Rules) (life : Life) (ask : Ask) where
   -- the answer, with the orders since the birth and the last order given
   abbrev answer_by : Life → Option Order → Decision
-  answer_by since last = answer rules (facts_of since life last (binding_in ask)) ask
+  answer_by since last = answer rules (facts_of since life last (binding_id_of ask)) ask
 
-  by_facts : ((last other : Option Order) → answer_by [] last ≡ answer_by [] other) → answer rules (facts_of (since_birth (trimmed life)) (trimmed life) (last_of (trimmed life)) (binding_in ask)) ask ≡ answer_by (since_birth life) (last_of life)
-  by_facts blind = ap (λ (facts : ViewData). answer rules facts ask) (facts-trimmed life (last_of (trimmed life)) (binding_in ask)) ∙ by (last_or_gone life)
+  by_facts : ((last other : Option Order) → answer_by [] last ≡ answer_by [] other) → answer rules (facts_of (since_birth (trimmed life)) (trimmed life) (last_of (trimmed life)) (binding_id_of ask)) ask ≡ answer_by (since_birth life) (last_of life)
+  by_facts blind = ap (λ (facts : ViewData). answer rules facts ask) (facts-trimmed life (last_of (trimmed life)) (binding_id_of ask)) ∙ by (last_or_gone life)
     where
       by : LastOrGone life → answer_by (since_birth life) (last_of (trimmed life)) ≡ answer_by (since_birth life) (last_of life)
       by (inl same) = ap (answer_by (since_birth life)) same
@@ -102,6 +103,6 @@ listing_for-trimmed lives _ = refl
 
 pub answer_stays : (rules : Rules) (lives : Lives) (ask : Ask) → answer_to rules (trimmed_lives lives) ask ≡ answer_to rules lives ask
 answer_stays rules lives ask =
-    ap (λ (life : Life). answer rules (view_data_of life (listing_for (trimmed_lives lives) ask) ask) ask) (named_life-trimmed lives (instance_in ask))
-    ∙ ap (λ (listing : List (List ℕ × Order)). answer rules (view_data_of (trimmed (named_life lives (instance_in ask))) listing ask) ask) (listing_for-trimmed lives ask)
-    ∙ life_stays rules (named_life lives (instance_in ask)) (listing_for lives ask) ask
+    ap (λ (life : Life). answer rules (view_data_of life (listing_for (trimmed_lives lives) ask) ask) ask) (named_life-trimmed lives (instance_id_of ask))
+    ∙ ap (λ (listing : List (List ℕ × Order)). answer rules (view_data_of (trimmed (named_life lives (instance_id_of ask))) listing ask) ask) (listing_for-trimmed lives ask)
+    ∙ life_stays rules (named_life lives (instance_id_of ask)) (listing_for lives ask) ask

@@ -15,7 +15,7 @@ use Rattle.osb_orders.specs.declared.order.Change.{Change}
 use Rattle.osb_orders.specs.declared.order.Change.TheVariants.{Nothing, Append, Finish}
 use Rattle.osb_orders.specs.Life.{Life}
 use Rattle.osb_orders.specs.Lives.{Lives, life_of, named_life}
-use Rattle.osb_orders.specs.Named.{instance_in}
+use Rattle.osb_asks.specs.Subjects.{instance_id_of}
 use Rattle.osb_orders.specs.Changed.{with_last_ended, after_change}
 use Rattle.osb_orders.specs.IsLife.{ends_running, IsLives}
 use Rattle.osb_machine.specs.Machine.{answer_to, after_step}
@@ -169,9 +169,9 @@ module _ (fronts : Fronts) where
     steps_match lives others ask h = record {
       one = step_in_order rules lives ask h.one;
       other = step_in_order rules others ask h.other;
-      found = λ id. subst (λ (change : Change). AreFound (fronts.one id) (fronts.other id) (get (after_step rules lives ask) id) (get (after_change change others (instance_in ask)) id))
+      found = λ id. subst (λ (change : Change). AreFound (fronts.one id) (fronts.other id) (get (after_step rules lives ask) id) (get (after_change change others (instance_id_of ask)) id))
           (ap (λ decision. decision.change) (answers_match lives others ask h))
-          (change_found rules lives others (answer_to rules lives ask).change (instance_in ask) h (allowed rules lives ask h.one) id);
+          (change_found rules lives others (answer_to rules lives ask).change (instance_id_of ask) h (allowed rules lives ask h.one) id);
     }
 
 -- ---- lives and the same trimmed

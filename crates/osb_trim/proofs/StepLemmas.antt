@@ -10,7 +10,7 @@ use Rattle.osb_orders.specs.declared.order.Change.{Change}
 use Rattle.osb_orders.specs.declared.order.Change.TheVariants.{Nothing, Append, Finish}
 use Rattle.osb_orders.specs.Life.{Life}
 use Rattle.osb_orders.specs.Lives.{Lives, life_of, named_life}
-use Rattle.osb_orders.specs.Named.{instance_in}
+use Rattle.osb_asks.specs.Subjects.{instance_id_of}
 use Rattle.osb_orders.specs.Listing.{listing_for}
 use Rattle.osb_orders.specs.Changed.{with_last_ended, changed, after_change}
 use Rattle.osb_orders.specs.IsLife.{IsLifeAfter, IsLives}
@@ -37,8 +37,8 @@ named_in_order : (lives : Lives) (at : Option (List ℕ)) → AreInOrder lives �
 named_in_order lives None h = tt
 named_in_order lives (Some id) h = h id
 
-pub allowed : (rules : Rules) (lives : Lives) (ask : Ask) → AreInOrder lives → IsStep rules (named_life lives (instance_in ask)) (answer_to rules lives ask).change
-allowed rules lives ask h = steps_allowed rules (named_life lives (instance_in ask)) (listing_for lives ask) ask (named_in_order lives (instance_in ask) h)
+pub allowed : (rules : Rules) (lives : Lives) (ask : Ask) → AreInOrder lives → IsStep rules (named_life lives (instance_id_of ask)) (answer_to rules lives ask).change
+allowed rules lives ask h = steps_allowed rules (named_life lives (instance_id_of ask)) (listing_for lives ask) ask (named_in_order lives (instance_id_of ask) h)
 
 module _ (rules : Rules) (lives : Lives) where
   life_in_order : (life : Life) (change : Change) → IsLifeAfter [] life → IsStep rules life change → IsLifeAfter [] (changed change life)
@@ -59,4 +59,4 @@ module _ (rules : Rules) (lives : Lives) where
   change_in_order (Finish number outcome) (Some id) h step = insert_in_order id (with_last_ended outcome (life_of lives id)) h (life_in_order (life_of lives id) (Finish number outcome) (h id) step)
 
   pub step_in_order : (ask : Ask) → AreInOrder lives → AreInOrder (after_step rules lives ask)
-  step_in_order ask h = change_in_order (answer_to rules lives ask).change (instance_in ask) h (allowed rules lives ask h)
+  step_in_order ask h = change_in_order (answer_to rules lives ask).change (instance_id_of ask) h (allowed rules lives ask h)

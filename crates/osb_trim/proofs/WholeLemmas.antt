@@ -6,11 +6,11 @@ use Rattle.std.proofs.lemmas.List.{map-append}
 use Rattle.std.specs.Str.{is_utf8, chars}
 use lib.Utf8.{encode}
 use Rattle.osb_text.specs.Id.{is_id}
-use Rattle.osb_text.proofs.ReadableLemmas.{empty_object}
+use Rattle.osb_text.proofs.ReadableLemmas.{empty_object as empty_is_object}
 use Rattle.osb_orders.specs.declared.order.OrderKind.TheVariants.{Create}
 use Rattle.osb_orders.specs.declared.order.Attributes.{Attributes}
 use Rattle.osb_orders.specs.declared.order.Order.{Order}
-use Rattle.osb_orders.specs.Orders.{is_a, is_about_binding, no_context}
+use Rattle.osb_orders.specs.Orders.{is_a, is_about_binding, empty_object}
 use Rattle.osb_orders.specs.Life.{Life}
 use Rattle.osb_orders.specs.IsLife.{is_absent, ends_running, IsNext, IsLifeAfter, AreValidTexts, HasValidTexts, IsLife, IsInstance}
 use Rattle.osb_orders.proofs.GrowLemmas.{choose}
@@ -53,12 +53,12 @@ placeholders about = record {
   spot = cond about (codes "{}") (codes "-");
   parameters = codes "{}";
   maintenance = [];
-  context = no_context;
+  context = empty_object;
 }
 
 placeholders_valid : (about : Bool) (binding : List ℕ) (attributes : Attributes) → AreValidTexts about binding attributes → AreValidTexts about binding (placeholders about)
-placeholders_valid false binding attributes h = (h.0, record { service = dash; plan = dash; organization = dash; space = dash; parameters = empty_object; context = empty_object })
-placeholders_valid true binding attributes h = (h.0, record { service = dash; plan = dash; app_guid = refl; bind_resource = empty_object; parameters = empty_object; context = empty_object })
+placeholders_valid false binding attributes h = (h.0, record { service = dash; plan = dash; organization = dash; space = dash; parameters = empty_is_object; context = empty_is_object })
+placeholders_valid true binding attributes h = (h.0, record { service = dash; plan = dash; app_guid = refl; bind_resource = empty_is_object; parameters = empty_is_object; context = empty_is_object })
 
 erased_valid : (order : Order) → HasValidTexts order → HasValidTexts (erased order)
 erased_valid order h = record {

@@ -7,7 +7,7 @@ use Rattle.osb_orders.specs.declared.order.OrderKind.{OrderKind}
 use Rattle.osb_orders.specs.declared.order.OrderKind.TheVariants.{Delete}
 use Rattle.osb_orders.specs.declared.order.Attributes.{Attributes}
 use Rattle.osb_orders.specs.declared.order.Order.{Order}
-use Rattle.osb_orders.specs.Orders.{is_about_binding, has_succeeded, no_context}
+use Rattle.osb_orders.specs.Orders.{is_about_binding, has_succeeded, empty_object}
 use Rattle.osb_orders.specs.Life.{Life}
 use Rattle.osb_orders.specs.Lives.{Lives}
 use Rattle.osb_machine.specs.Same.{are_same}
@@ -21,7 +21,7 @@ erased_attributes kind = record {
   spot = if is_about_binding kind then codes "{}" else codes "-";
   parameters = codes "{}";
   maintenance = [];
-  context = no_context;
+  context = empty_object;
 }
 
 abbrev pub erased : Order → Order

@@ -1,26 +1,30 @@
 //! Heads, bodies and faults at their limits. Each input is looked at whole, byte by byte and in
 //! pieces of 7 bytes, and has to be answered alike.
 
-use osb_frames::{InMemory, Limits, Request, Sink, Step, StopKind, next, next_at_once};
+use osb_frames::{
+    InMemory, Limits, LineRoom, NO_LINES, Request, Sink, Step, StopKind, next, next_at_once,
+};
 use std::alloc::{AllocError, Global};
 use std::process::Abort;
 use std::test::Fail;
 
 /// What the first request of the bytes is, where they come in pieces of that size.
-fn first_step(bytes: &[u8], piece: usize) -> Step<Request<'_>> {
+fn first_step<'a>(bytes: &'a [u8], piece: usize, lines: &'a mut LineRoom) -> Step<Request<'a>> {
     for turn in 0..bytes.len() {
         let came = turn.saturating_mul(piece).min(bytes.len());
-        match next(&bytes[..came], false, &Limits::STANDARD) {
-            Step::More => {}
-            step => return step,
+        if !matches!(
+            next(&bytes[..came], false, &Limits::STANDARD, lines),
+            Step::More
+        ) {
+            return next(&bytes[..came], false, &Limits::STANDARD, lines);
         }
     }
-    next(bytes, true, &Limits::STANDARD)
+    next(bytes, true, &Limits::STANDARD, lines)
 }
 
 /// The fault that the bytes end with, where it is the same in all pieces.
 fn stops_with(bytes: &[u8], kind: StopKind) -> bool {
-    [1, 7, bytes.len()].iter().all(|piece| match first_step(bytes, *piece) {
+    [1, 7, bytes.len()].iter().all(|piece| match first_step(bytes, *piece, &mut NO_LINES) {
         Step::Stop(found) => found == kind,
         _ => false,
     })
@@ -28,7 +32,7 @@ fn stops_with(bytes: &[u8], kind: StopKind) -> bool {
 
 /// Whether the bytes begin with a request of so many bytes, in all pieces.
 fn reads(bytes: &[u8], size: usize) -> bool {
-    [1, 7, bytes.len()].iter().all(|piece| match first_step(bytes, *piece) {
+    [1, 7, bytes.len()].iter().all(|piece| match first_step(bytes, *piece, &mut NO_LINES) {
         Step::Whole(_, used) => used == size,
         _ => false,
     })
@@ -36,7 +40,7 @@ fn reads(bytes: &[u8], size: usize) -> bool {
 
 /// Whether the request at the front of the bytes closes its connection.
 fn closes(bytes: &[u8]) -> Option<bool> {
-    match next(bytes, true, &Limits::STANDARD) {
+    match next(bytes, true, &Limits::STANDARD, &mut NO_LINES) {
         Step::Whole(request, _) => Some(request.closes()),
         _ => None,
     }
@@ -76,7 +80,8 @@ fn has_its_fields(request: &Request<'_>) -> bool {
 #[test]
 fn a_request_has_its_parts(rt: HostRuntime) {
     let buf = b"POST /a?b HTTP/1.1\r\nHost: x\r\ncontent-LENGTH: \t3 \r\nHost-Not: \r\n\r\nabcGET";
-    let Step::Whole(request, used) = next(buf, false, &Limits::STANDARD) else {
+    let mut lines = NO_LINES;
+    let Step::Whole(request, used) = next(buf, false, &Limits::STANDARD, &mut lines) else {
         panic!(rt; "no request");
     };
     assert!(rt; used == 67 && has_its_parts(&request) && has_its_fields(&request));
@@ -85,7 +90,8 @@ fn a_request_has_its_parts(rt: HostRuntime) {
 #[test]
 fn the_first_of_repeated_fields_counts(rt: HostRuntime) {
     let buf = b"GET / HTTP/1.1\r\nX-A: 1\r\nHost: x\r\nx-a: 2\r\n\r\n";
-    let Step::Whole(request, _) = next(buf, true, &Limits::STANDARD) else {
+    let mut lines = NO_LINES;
+    let Step::Whole(request, _) = next(buf, true, &Limits::STANDARD, &mut lines) else {
         panic!(rt; "no request");
     };
     assert!(rt; request.field(b"X-a") == Some(b"1".as_slice()));
@@ -93,20 +99,28 @@ fn the_first_of_repeated_fields_counts(rt: HostRuntime) {
 
 /// Whether these bytes may become a request.
 fn wants_more(bytes: &[u8]) -> bool {
-    matches!(next(bytes, false, &Limits::STANDARD), Step::More)
+    matches!(
+        next(bytes, false, &Limits::STANDARD, &mut NO_LINES),
+        Step::More
+    )
 }
 
 /// Whether no bytes can mend that there is no head.
 fn has_no_head_at_once(bytes: &[u8]) -> bool {
     matches!(
-        next(bytes, false, &Limits::STANDARD),
+        next(bytes, false, &Limits::STANDARD, &mut NO_LINES),
         Step::Stop(StopKind::NoHead)
     )
 }
 
 #[test]
 fn nothing_and_too_little(rt: HostRuntime) {
-    assert!(rt; matches!(next(b"", true, &Limits::STANDARD), Step::Ended));
+    assert!(rt;
+        matches!(
+            next(b"", true, &Limits::STANDARD, &mut NO_LINES),
+            Step::Ended
+        )
+    );
     assert!(rt; wants_more(b""));
     assert!(rt; wants_more(b"GET / HT"));
     assert!(rt; wants_more(b"\r\n"));
@@ -198,7 +212,10 @@ fn field_lines_at_their_limit(rt: HostRuntime) -> Result<(), Fail> {
 
 /// Whether these bytes may become a request for one that doesn't wait for a whole head.
 fn wants_more_at_once(bytes: &[u8]) -> bool {
-    matches!(next_at_once(bytes, false, &Limits::STANDARD), Step::More)
+    matches!(
+        next_at_once(bytes, false, &Limits::STANDARD, &mut NO_LINES),
+        Step::More
+    )
 }
 
 fn wants_more_either_way(bytes: &[u8]) -> bool {
@@ -275,10 +292,12 @@ fn codings(rt: HostRuntime) {
 /// Whether a head with these lines, whose input goes on, is reported as faulty.
 fn stops_at_once(alloc: Global, lines: &str, kind: StopKind) -> Result<bool, AllocError> {
     let head = repeated(alloc, "PUT / HTTP/1.1\r\n", lines, 1, "\r\n")?;
-    Ok(match next(head.as_bytes(), false, &Limits::STANDARD) {
-        Step::Stop(found) => found == kind,
-        _ => false,
-    })
+    Ok(
+        match next(head.as_bytes(), false, &Limits::STANDARD, &mut NO_LINES) {
+            Step::Stop(found) => found == kind,
+            _ => false,
+        },
+    )
 }
 
 const FAULTS_OF_A_HEAD: [(&str, StopKind); 4] = [
@@ -347,7 +366,7 @@ fn lengths(rt: HostRuntime) -> Result<(), Fail> {
 
 /// The bytes of the first request and of its body.
 fn sizes(bytes: &[u8]) -> Option<(usize, usize)> {
-    match next(bytes, false, &Limits::STANDARD) {
+    match next(bytes, false, &Limits::STANDARD, &mut NO_LINES) {
         Step::Whole(request, used) => Some((used, request.body.len())),
         _ => None,
     }
@@ -357,7 +376,7 @@ fn sizes(bytes: &[u8]) -> Option<(usize, usize)> {
 fn is_cut(bytes: &[u8]) -> bool {
     wants_more(bytes)
         && matches!(
-            next(bytes, true, &Limits::STANDARD),
+            next(bytes, true, &Limits::STANDARD, &mut NO_LINES),
             Step::Stop(StopKind::Cut)
         )
 }
@@ -381,11 +400,21 @@ fn smaller_limits_hold(rt: HostRuntime) {
         body: 2,
     };
     let fits = b"GET / HTTP/1.1\r\nHost: b\r\n\r\n";
-    assert!(rt; matches!(next(fits, true, limits), Step::Whole(_, 27)));
+    assert!(rt; matches!(next(fits, true, limits, &mut NO_LINES), Step::Whole(_, 27)));
     let long = b"GET /abc HTTP/1.1\r\nHost: bc\r\n\r\n";
-    assert!(rt; matches!(next(long, true, limits), Step::Stop(StopKind::NoHead)));
+    assert!(rt;
+        matches!(
+            next(long, true, limits, &mut NO_LINES),
+            Step::Stop(StopKind::NoHead)
+        )
+    );
     let lines = b"GET / HTTP/1.0\r\nA: 1\r\nB: 2\r\n\r\n";
-    assert!(rt; matches!(next(lines, true, limits), Step::Stop(StopKind::NoHead)));
+    assert!(rt;
+        matches!(
+            next(lines, true, limits, &mut NO_LINES),
+            Step::Stop(StopKind::NoHead)
+        )
+    );
 }
 
 #[test]

@@ -4,7 +4,7 @@
 use crate::standing::standing_by;
 use osb_asks::{Ask, AskFault, read_ask};
 use osb_catalog::Settings;
-use osb_frames::{Limits, Step as Front, next};
+use osb_frames::{Limits, NO_LINES, Step as Front, next};
 use osb_machine::{AnswerAndChange, decide};
 use osb_orders::{Change, PlainLives, View};
 use osb_records::{Records, memory};
@@ -82,7 +82,7 @@ fn make_plainly(
 
 /// The ask of the request that is there.
 fn ask_of(alloc: Global, settings: &Settings, bytes: &[u8]) -> Result<Ask, AskFault> {
-    match next(bytes, true, &Limits::STANDARD) {
+    match next(bytes, true, &Limits::STANDARD, &mut NO_LINES) {
         Front::Whole(request, _) => read_ask(alloc, &request, settings),
         Front::Stop(_) | Front::Ended | Front::More => Err(AskFault::NoRoute),
     }

@@ -2,7 +2,7 @@
 
 use osb_broker::{Broker, Room};
 use osb_catalog::Settings;
-use osb_frames::{InMemory, Limits, Sink, Step, next};
+use osb_frames::{InMemory, Limits, NO_LINES, Sink, Step, next};
 use osb_replies::Status;
 use sqlite::MemStore;
 use std::alloc::{AllocError, Global};
@@ -119,7 +119,7 @@ fn answered<W: Room>(
     broker: &mut Broker<'_, MemStore>,
     room: &mut W,
 ) -> Result<(Status, bool, bool), Fail> {
-    match next(NAMED_PUT, true, &Limits::STANDARD) {
+    match next(NAMED_PUT, true, &Limits::STANDARD, &mut NO_LINES) {
         Step::Whole(request, _) => {
             let reply = broker.answer(&request, false, room);
             let is_named = reply.echo == Some(b"r1".as_slice());

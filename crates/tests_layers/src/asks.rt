@@ -13,7 +13,7 @@ use osb_asks::{
     Provision, Report, ReportState, Unbind, Update, read_ask,
 };
 use osb_catalog::Settings;
-use osb_frames::{Limits, Request, Step, next};
+use osb_frames::{Limits, NO_LINES, Request, Step, next};
 use osb_text::Text;
 use std::alloc::{AllocError, Global};
 use std::process::Abort;
@@ -281,7 +281,7 @@ fn told_of_request(alloc: Global, request: &Request<'_>) -> Result<Reading, Fail
 /// What is reported of the request with those field lines.
 fn told(alloc: Global, line: &str, lines: &str, body: &[u8]) -> Result<Reading, Fail> {
     let bytes = request(alloc, line, lines, body)?;
-    match next(bytes.as_slice(), true, &Limits::STANDARD) {
+    match next(bytes.as_slice(), true, &Limits::STANDARD, &mut NO_LINES) {
         Step::Whole(request, _) => told_of_request(alloc, &request),
         _ => Err(Fail::from("no request")),
     }

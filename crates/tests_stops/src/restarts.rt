@@ -3,7 +3,7 @@
 use crate::orders::{CREATING, are_orders};
 use crate::stops::{OPTIONS, empty_files, opened};
 use osb_catalog::Settings;
-use osb_frames::{Limits, Step, next};
+use osb_frames::{Limits, NO_LINES, Step, next};
 use osb_orders::Change;
 use osb_records::Records;
 use osb_replies::Status;
@@ -31,7 +31,8 @@ fn created_over<D: Crash + Drop>(
     records: Records<FileStore<D>>,
 ) -> Result<(Status, Records<FileStore<D>>), Fail> {
     let broker = broker_over(alloc, settings, records, 1)?;
-    let Step::Whole(request, _) = next(PUT_I, true, &Limits::STANDARD) else {
+    let mut lines = NO_LINES;
+    let Step::Whole(request, _) = next(PUT_I, true, &Limits::STANDARD, &mut lines) else {
         return Err("no request")?;
     };
     Ok(handled_and_restarted(alloc, broker, &request, true, OPTIONS).ok_or("not restarted")?)

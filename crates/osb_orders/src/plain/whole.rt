@@ -4,7 +4,8 @@ ghost use Rattle.std.specs.Prelude.{◌≡◌, ◌≤◌, ◌^◌, [], length, I
 ghost use Rattle.osb_orders.specs.Bindings.{binding_of};
 ghost use Rattle.osb_orders.specs.Lists.{last_of};
 ghost use Rattle.osb_orders.specs.Life.{standing_of};
-ghost use Rattle.osb_orders.specs.Named.{binding_in, named_in, subject};
+ghost use Rattle.osb_asks.specs.Subjects.{binding_id_of};
+ghost use Rattle.osb_orders.specs.Named.{named_in, subject};
 ghost use Rattle.osb_orders.specs.ViewData.{data_in, view_data_of};
 
 use super::bindings::{binding_of, has_bindings};
@@ -70,7 +71,7 @@ fn standings(
     life: &[Order],
 ) -> Result<(Option<Standing>, Option<BindingNow>), AllocError>
     ensures standing { IfOk result (λ parts. parts.0 ≡ standing_of life.now) }
-    ensures binding { IfOk result (λ parts. parts.1 ≡ option_and_then (λ id. binding_of id life.now) (binding_in ask.now)) }
+    ensures binding { IfOk result (λ parts. parts.1 ≡ option_and_then (λ id. binding_of id life.now) (binding_id_of ask.now)) }
 {
     let standing = standing_of(alloc, life)?;
     let binding = named_binding(alloc, ask, life)?;
@@ -108,7 +109,7 @@ fn count_of(life: &[Order]) -> Result<u32, AllocError>
 }
 
 fn named_binding(alloc: Global, ask: &Ask, life: &[Order]) -> Result<Option<BindingNow>, AllocError>
-    ensures { IfOk result (λ binding. binding ≡ option_and_then (λ id. binding_of id life.now) (binding_in ask.now)) }
+    ensures { IfOk result (λ binding. binding ≡ option_and_then (λ id. binding_of id life.now) (binding_id_of ask.now)) }
 {
     match ask.binding() {
         Some(id) => binding_of(alloc, id.as_str(), life),

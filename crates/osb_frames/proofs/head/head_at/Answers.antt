@@ -1,9 +1,8 @@
-use Rattle.std.proofs.Common.{◌≡◌, length, map, take, Err, sym, ap, ◌∙◌, arith}
-use Rattle.httparse.specs.Spans.{header_bytes}
+use Rattle.std.proofs.Common.{◌≡◌, length, map, take, Err, ap, ◌∙◌, arith}
 use Rattle.osb_frames.specs.Line.{line_in}
-use Rattle.std.proofs.lemmas.List.{take-append-le, length-take, length-take-le}
+use Rattle.std.proofs.lemmas.List.{take-append-le, length-take}
 use Rattle.std.proofs.lemmas.Grind.{common_steps}
-use Rattle.osb_frames.proofs.HeadLemmas.{as_many_lines, head_of_window, never_from_room, never_from_full, exceeds_whole}
+use Rattle.osb_frames.proofs.HeadLemmas.{as_many_lines, lines_within, head_of_window, never_from_room, never_from_full, exceeds_whole}
 use Rattle.osb_frames.proofs.head.head_at.Goals as goal
 
 pub returns-in-Ok-Complete : goal.returns-in-Ok-Complete
@@ -19,8 +18,7 @@ returns-in-Ok-Complete c =
     let window : length (take m buf) ≡ m = omega (arith, c.min.ensures, length-take m buf) in
     let room : length spans ≡ limits.fields = grind (arith, common_steps) in
     let lines = as_many_lines (take m buf) spans count read.0 read.1.fields in
-    let front = take-append-le count spans _ within.count_fits in
-    let used = sym (ap length front ∙ length-take-le count spans within.count_fits) in (
+    let front = take-append-le count spans _ within.count_fits in (
       read.0,
       record {
         head = head_of_window limits buf m c.in-Ok-Complete.head.len read.0 read.1.reads read.1.len (omega (arith, c.min.ensures)) (omega arith);
@@ -28,7 +26,7 @@ returns-in-Ok-Complete c =
         method = c.of.ensures ∙ read.1.method;
         target = c.of-in-Ok-Complete.ensures ∙ read.1.path;
         minor = read.1.version;
-        lines = ap (λ n. map (line_in (take m buf)) (take n c.lines_at.result)) used ∙ c.lines_at.ensures.filled ∙ ap (map (header_bytes (take m buf))) front ∙ read.1.fields;
+        lines = ap (map (line_in (take m buf))) front ∙ lines_within _ (take m buf) (take count spans) len within.headers_fit ∙ read.1.fields;
         inside = omega (arith, c.min.ensures);
       },
     )

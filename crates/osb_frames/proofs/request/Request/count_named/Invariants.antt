@@ -1,4 +1,4 @@
-use Rattle.std.proofs.Common.{◌≡◌, ◌+◌, ◌≤◌, length, map, drop, take}
+use Rattle.std.proofs.Common.{◌≡◌, ◌+◌, ◌≤◌, length, map, drop}
 use Rattle.osb_frames.specs.Line.{line_in}
 use Rattle.osb_frames.specs.Fields.{values_of}
 use Rattle.osb_frames.proofs.request.Request.count_named.Given as goal
@@ -8,5 +8,5 @@ invariant-loop-span l = record {
   small : l.count ≤ l.span-index;
   counted :
       l.count + length (values_of l.name (map (line_in l.self.head.now) (drop l.span-index l.span-items)))
-      ≡ length (values_of l.name (map (line_in l.self.head.now) (take l.self.count l.self.lines)));
+      ≡ length (values_of l.name (map (line_in l.self.head.now) l.self.lines.now));
 }

@@ -1,0 +1,49 @@
+#!/usr/bin/env python3
+"""Tries what `check --explain` says to frequent mistakes in a settings file. Each is examples/queues.json with one
+mistake, tests/trials/mistakes/NAME.json, and NAME.said beside it has the lines that are said: on standard output where the
+file is accepted, else on standard error.
+
+usage: tests/trials/mistakes.py PROGRAM
+"""
+
+import os
+import pathlib
+import subprocess
+import sys
+
+sys.path.append(os.path.join(os.path.dirname(os.path.abspath(__file__)), "..", "lib"))
+
+from serving import ROOT, tell
+
+FOLDER = pathlib.Path(ROOT) / "tests" / "trials" / "mistakes"
+GOOD = pathlib.Path(ROOT) / "examples" / "queues.json"
+ACCEPTED = "services 1, plans 2\n"
+
+
+def checked(program, *words):
+    """How `check` ends: the status, standard output and standard error."""
+    ended = subprocess.run([program, "check", *words], capture_output=True, text=True, timeout=60)
+    return ended.returncode, ended.stdout, ended.stderr
+
+
+def ends(said):
+    """How `check` ends that says this."""
+    return (0, said, "") if said.startswith(ACCEPTED) else (3, "", said)
+
+
+def tries(program):
+    files = sorted(FOLDER.glob("*.json"))
+    yield "there are so many", len(files) >= 25, True
+    for file in files:
+        said = file.with_suffix(".said").read_text()
+        first = said.partition("\n")[0] + "\n"
+        yield file.stem, checked(program, "--explain", file), ends(said)
+        yield f"{file.stem}, without a word more", checked(program, file), ends(first)
+    yield "no mistake", checked(program, GOOD), (0, ACCEPTED, "")
+    modes = "plan queues-shared: instances synchronous, bindings synchronous\n"
+    modes += "plan queues-own: instances asynchronous, bindings asynchronous\n"
+    yield "no mistake, explained", checked(program, "--explain", GOOD), (0, ACCEPTED + modes, "")
+
+
+if __name__ == "__main__":
+    sys.exit(tell("mistakes", tries(sys.argv[1])))

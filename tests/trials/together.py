@@ -1,0 +1,211 @@
+#!/usr/bin/env python3
+"""Tries the program with many clients at the same time and no proxy: of all kinds, silent ones, ones that are deaf to
+their replies, and a kill while many wait for theirs.
+
+usage: tests/trials/together.py PROGRAM
+
+What goes wrong while the machine stands still is tried again (`calm.py`).
+"""
+
+import contextlib
+import os
+import random
+import resource
+import socket
+import subprocess
+import sys
+import tempfile
+import threading
+import time
+from concurrent.futures import ThreadPoolExecutor
+from functools import partial
+
+sys.path.append(os.path.join(os.path.dirname(os.path.abspath(__file__)), "..", "lib"))
+
+from calm import Watch
+from clients import BESIDE, KINDS, LIMITED, MANY, READ_LINE, SERVED, SOON, heard, heard_by, heard_next, new_lines
+from conversations import CATALOG_REPLY, GET_CATALOG, I, LARGE_SYNC, SYNC, at, reply, request
+from serving import Serving, new_database, read_to_end, tell
+
+# How often each kind comes, and from how many sides at the same time.
+TRIES, SIDES = 40, 4
+FAST = 8
+SILENT = 1000
+# How long the fast ones ask while nobody else does.
+ALONE = 2
+# What a client's system takes in for it, where it reads nothing.
+SMALL = 2304
+KILLS = 5
+IN_FLIGHT = 64
+CREATED, THERE = reply(201, "{}"), reply(200, "{}")
+
+
+def wait_of(serving):
+    """How long a client waits for the catalog, from when it connects; without end where it gets another reply."""
+    begun = time.monotonic()
+    found = heard_next(serving)
+    return time.monotonic() - begun if found == SERVED else float("inf")
+
+
+def longest_wait(port, seconds):
+    """The longest wait of a client that asks again and again, in a process of its own."""
+    words = [sys.executable, os.path.abspath(__file__), "--fast", str(port), str(seconds)]
+    return float(subprocess.run(words, stdout=subprocess.PIPE, check=True).stdout)
+
+
+def ask_for(port, seconds):
+    """Asks for the catalog so long, and prints the longest wait."""
+    longest, end = 0.0, time.monotonic() + seconds
+    while (begun := time.monotonic()) < end:
+        with socket.create_connection(("127.0.0.1", port)) as client:
+            client.sendall(GET_CATALOG)
+            if read_to_end(client) != CATALOG_REPLY:
+                longest = float("inf")
+        longest = max(longest, time.monotonic() - begun)
+    print(longest)
+
+
+def waits_of_fast(serving, seconds):
+    """The longest wait of eight that ask at the same time."""
+    with ThreadPoolExecutor(FAST) as pool:
+        return max(pool.map(lambda _: longest_wait(serving.port, seconds), range(FAST)))
+
+
+def some_of_kind(serving, name):
+    """What clients of a kind get, one after the other."""
+    found = []
+    for _ in range(TRIES // SIDES):
+        with serving.connection() as client:
+            answer = heard_by(client, KINDS[name].acts)
+            # One that is owed nothing waits until it is ended.
+            found.append(answer or heard(client)[1])
+    return name, found
+
+
+def all_kinds(serving):
+    """Clients of all kinds at the same time, beside fast ones."""
+    alone = waits_of_fast(serving, ALONE)
+    sides = [name for name in KINDS for _ in range(SIDES)]
+    with ThreadPoolExecutor(len(sides)) as pool:
+        slow = [pool.submit(some_of_kind, serving, name) for name in sides]
+        beside = waits_of_fast(serving, 4 * ALONE)
+        for name, found in (it.result() for it in slow):
+            kind = KINDS[name]
+            right = [(kind.owed, "closed") if kind.owed else "closed"] * len(found)
+            yield f"those that {name}, beside all others", found, right
+    quiet = sum(TRIES // SIDES * SIDES for kind in KINDS.values() if not kind.owed)
+    yield "the wait of fast ones beside them", max(beside, alone + BESIDE), alone + BESIDE
+    yield "their lines", new_lines(serving), READ_LINE * quiet
+
+
+def silent(serving):
+    """A client beside many that say nothing."""
+    with contextlib.ExitStack() as clients:
+        for _ in range(SILENT):
+            clients.enter_context(serving.connection())
+        waits = [wait_of(serving) for _ in range(3)]
+    yield "beside silent ones", max(*waits, SOON), SOON
+
+
+def silent_within(serving):
+    """The same where there is a place for each of them."""
+    with contextlib.ExitStack() as clients:
+        for _ in range(SILENT):
+            clients.enter_context(serving.connection())
+        waits = [wait_of(serving) for _ in range(10)]
+    yield "beside silent ones that have a place", max(*waits, BESIDE), BESIDE
+
+
+def deaf_client(serving):
+    """A client that has asked for a large reply, and for which the system takes in little of it."""
+    client = socket.socket()
+    client.setsockopt(socket.SOL_SOCKET, socket.SO_RCVBUF, SMALL)
+    client.settimeout(30)
+    client.connect(("127.0.0.1", serving.port))
+    client.sendall(request("GET", I))
+    return client
+
+
+def byte_by_byte(client):
+    read = b""
+    while piece := client.recv(1):
+        read += piece
+    return read
+
+
+def large_replies(serving):
+    """A reply that is taken a byte at a time, and many that aren't taken at all."""
+    yield "made", heard_next(serving, partial(asks, sent=request("PUT", I, LARGE_SYNC))), (CREATED, "closed")
+    whole = serving.sends(request("GET", I))
+    with ThreadPoolExecutor(1) as pool, deaf_client(serving) as client:
+        slow = pool.submit(byte_by_byte, client)
+        waits = []
+        while not slow.done():
+            waits.append(wait_of(serving))
+            time.sleep(0.01)
+        yield "a reply byte by byte", slow.result() == whole, True
+        yield "beside it", max(*waits, BESIDE), BESIDE
+    with contextlib.ExitStack() as clients:
+        for _ in range(2 * IN_FLIGHT):
+            clients.enter_context(deaf_client(serving))
+        waits = [wait_of(serving) for _ in range(10)]
+        yield "beside deaf ones", max(*waits, SOON), SOON
+    yield "it goes on", serving.sends(request("GET", I)) == whole, True
+
+
+def asks(client, sent):
+    client.sendall(sent)
+    return heard(client)
+
+
+def makes(serving, instance):
+    """What one gets that makes an instance; nothing where the program is gone."""
+    try:
+        return serving.sends(request("PUT", at(instance), SYNC))
+    except OSError:
+        return b""
+
+
+def killed(program, folder):
+    """The program is killed while many wait for replies; what was answered is there, and what wasn't is made."""
+    path = new_database(folder)
+    chance = random.Random(55)
+    for number in range(KILLS):
+        names = [f"i{number}-{one}" for one in range(4 * IN_FLIGHT)]
+        with Serving(program, path, *MANY) as serving, ThreadPoolExecutor(IN_FLIGHT) as pool:
+            threading.Timer(chance.uniform(0.01, 0.1), serving.process.kill).start()
+            answers = list(pool.map(partial(makes, serving), names))
+        with Serving(program, path, *MANY) as serving:
+            again = [makes(serving, name) for name in names]
+        wrong = [it for it in zip(answers, again) if it[1] not in (CREATED, THERE) or it == (CREATED, CREATED)]
+        yield "behind a kill", wrong, []
+        yield "other answers before it", [it for it in answers if it not in (b"", CREATED)], []
+
+
+def over(program, folder, words, trial):
+    with Serving(program, new_database(folder), *words) as serving:
+        new_lines(serving)
+        return list(trial(serving))
+
+
+def tries(program):
+    _, hard = resource.getrlimit(resource.RLIMIT_NOFILE)
+    resource.setrlimit(resource.RLIMIT_NOFILE, (min(hard, 8192), hard))
+    watch = Watch()
+    with tempfile.TemporaryDirectory() as folder:
+        for words, trial in [
+            ([*MANY, *LIMITED], all_kinds),
+            (MANY, silent),
+            (["--together", "1024"], silent_within),
+            (MANY, large_replies),
+        ]:
+            yield from watch.calmly(partial(over, program, folder, words, trial))
+        yield from killed(program, folder)
+    print(f"together: {watch.again} trials again, since the machine stood still")
+
+
+if __name__ == "__main__":
+    if sys.argv[1] == "--fast":
+        ask_for(int(sys.argv[2]), float(sys.argv[3]))
+    else:
+        sys.exit(tell("together", tries(os.path.abspath(sys.argv[1]))))
