@@ -9,13 +9,16 @@ use Rattle.osb_catalog.specs.Items.{each}
 use Rattle.osb_advice.specs.Past.{lines_of}
 
 abbrev pub name_line : ℕ → ℕ → List ℕ
-name_line number at = concat (codes "two plans of one name: catalog.services[" ∷ decimal number ∷ codes "].plans[" ∷ decimal at ∷ codes "]\n" ∷ [])
+name_line number at =
+    concat (codes "two plans of one name: catalog.services[" ∷ decimal number ∷ codes "].plans["
+        ∷ decimal at ∷ codes "]\n" ∷ [])
 
 -- of the plans from `at` on, by their names, and those of the plans before
 abbrev pub name_lines : ℕ → List (List ℕ) → ℕ → List (List ℕ) → List ℕ
 name_lines number before at [] = []
 name_lines number before at (name ∷ names) =
-    (if is_among name before then name_line number at else []) ++ name_lines number (name ∷ before) (at + 1) names
+    (if is_among name before then name_line number at else [])
+    ++ name_lines number (name ∷ before) (at + 1) names
 
 abbrev pub service_names : ℕ → Data → List ℕ
 service_names number service = name_lines number [] 0 (each (text_at the.Name) (plans_of service))

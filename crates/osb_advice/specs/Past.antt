@@ -37,7 +37,9 @@ lists an.Mode name = is_in_rules name mode_rules
 -- ---- of one object: its path ends in a dot, and that of the file is empty
 
 unfoldable pub past_line : ObjectKind → List ℕ → List ℕ → List ℕ
-past_line kind path name = if lists kind name then [] else concat (codes "read past: " ∷ path ∷ shown name ∷ codes "\n" ∷ [])
+past_line kind path name =
+    if lists kind name then []
+    else concat (codes "read past: " ∷ path ∷ shown name ∷ codes "\n" ∷ [])
 
 abbrev pub past_members : ObjectKind → List ℕ → Members → List ℕ
 past_members kind path no_members = []
@@ -58,21 +60,27 @@ lines_of f at no_items = []
 lines_of f at (item d ds) = f at d ++ lines_of f (at + 1) ds
 
 abbrev pub past_in_login : List ℕ → List ℕ → Data → List ℕ
-past_in_login path also login = past_in an.Login path login ++ past_at an.SecondLogin also the.Also login
+past_in_login path also login =
+    past_in an.Login path login ++ past_at an.SecondLogin also the.Also login
 
 abbrev pub past_in_logins : Data → List ℕ
 past_in_logins file =
-    option_map_or (past_in_login (codes "platform.") (codes "platform.also.")) (value_at the.Platform file) []
-    ++ option_map_or (past_in_login (codes "backend.") (codes "backend.also.")) (value_at the.Backend file) []
+    option_map_or (past_in_login (codes "platform.") (codes "platform.also."))
+        (value_at the.Platform file) []
+    ++ option_map_or (past_in_login (codes "backend.") (codes "backend.also."))
+        (value_at the.Backend file) []
 
 abbrev pub service_path : ℕ → List ℕ
 service_path at = concat (codes "catalog.services[" ∷ decimal at ∷ codes "]." ∷ [])
 
 abbrev pub plan_path : ℕ → ℕ → List ℕ
-plan_path number at = concat (codes "catalog.services[" ∷ decimal number ∷ codes "].plans[" ∷ decimal at ∷ codes "]." ∷ [])
+plan_path number at =
+    concat (codes "catalog.services[" ∷ decimal number ∷ codes "].plans[" ∷ decimal at ∷ codes "]."
+        ∷ [])
 
 abbrev pub past_in_info : List ℕ → Data → List ℕ
-past_in_info path plan = past_at an.MaintenanceInfo (path ++ codes "maintenance_info.") the.MaintenanceInfo plan
+past_in_info path plan =
+    past_at an.MaintenanceInfo (path ++ codes "maintenance_info.") the.MaintenanceInfo plan
 
 -- of the plan with that path, and of its `maintenance_info`
 abbrev pub past_in_plan_at : List ℕ → Data → List ℕ
@@ -83,10 +91,12 @@ past_in_plan number at plan = past_in_plan_at (plan_path number at) plan
 
 -- of the service, and of its plans
 abbrev pub past_in_service : ℕ → Data → List ℕ
-past_in_service at service = past_in an.Service (service_path at) service ++ lines_of (past_in_plan at) 0 (plans_of service)
+past_in_service at service =
+    past_in an.Service (service_path at) service ++ lines_of (past_in_plan at) 0 (plans_of service)
 
 abbrev pub past_in_mode : List ℕ → Data → List ℕ
-past_in_mode name mode = past_in an.Mode (concat (codes "modes." ∷ shown name ∷ codes "." ∷ [])) mode
+past_in_mode name mode =
+    past_in an.Mode (concat (codes "modes." ∷ shown name ∷ codes "." ∷ [])) mode
 
 abbrev pub past_in_modes : Members → List ℕ
 past_in_modes no_members = []

@@ -25,11 +25,13 @@ abbrev mutual
   -- the items are counted from a number
   pub path_in_items : ℕ → Items → Option (List ℕ)
   path_in_items at no_items = None
-  path_in_items at (item d ds) = option_or (option_map (item_path at) (path_in d)) (path_in_items (at + 1) ds)
+  path_in_items at (item d ds) =
+      option_or (option_map (item_path at) (path_in d)) (path_in_items (at + 1) ds)
 
   pub path_in_members : List ℕ → Members → Option (List ℕ)
   path_in_members dot no_members = None
-  path_in_members dot (member name d ms) = option_or (option_map (member_path dot name) (path_in d)) (path_in_members dot ms)
+  path_in_members dot (member name d ms) =
+      option_or (option_map (member_path dot name) (path_in d)) (path_in_members dot ms)
 
 abbrev pub number_path : Data → Option (List ℕ)
 number_path file = option_and_then (path_in_members []) (as_object file)

@@ -11,17 +11,22 @@ abbrev pub name_has_space : Data → Bool
 name_has_space named = list_any (λ byte. byte == 32) (text_at the.Name named)
 
 abbrev pub service_line : ℕ → List ℕ
-service_line at = concat (codes "a space in a name: catalog.services[" ∷ decimal at ∷ codes "]\n" ∷ [])
+service_line at =
+    concat (codes "a space in a name: catalog.services[" ∷ decimal at ∷ codes "]\n" ∷ [])
 
 abbrev pub plan_line : ℕ → ℕ → List ℕ
-plan_line number at = concat (codes "a space in a name: catalog.services[" ∷ decimal number ∷ codes "].plans[" ∷ decimal at ∷ codes "]\n" ∷ [])
+plan_line number at =
+    concat (codes "a space in a name: catalog.services[" ∷ decimal number ∷ codes "].plans["
+        ∷ decimal at ∷ codes "]\n" ∷ [])
 
 abbrev pub plan_spaces : ℕ → ℕ → Data → List ℕ
 plan_spaces number at plan = if name_has_space plan then plan_line number at else []
 
 -- of the service, and of its plans
 abbrev pub service_spaces : ℕ → Data → List ℕ
-service_spaces at service = (if name_has_space service then service_line at else []) ++ lines_of (plan_spaces at) 0 (plans_of service)
+service_spaces at service =
+    (if name_has_space service then service_line at else [])
+    ++ lines_of (plan_spaces at) 0 (plans_of service)
 
 -- a line for each service and each plan whose name has a space
 abbrev pub spaces : Data → List ℕ

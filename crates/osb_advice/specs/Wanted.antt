@@ -15,7 +15,9 @@ use Rattle.osb_catalog.specs.Items.{first_of}
 use Rattle.osb_catalog.specs.Tables.{file_rules, catalog_rules, service_rules, plan_rules, mode_rules}
 
 abbrev pub kind_in : List FieldRule → Field → Option Kind
-kind_in rules field = option_map (λ rule. rule.kind) (find (λ rule. bytes_eq (field_name rule.field) (field_name field)) rules)
+kind_in rules field =
+    option_map (λ rule. rule.kind)
+        (find (λ rule. bytes_eq (field_name rule.field) (field_name field)) rules)
 
 -- the kind of the field's values, by the first table that has the field
 abbrev pub kind_of : Field → Option Kind
@@ -32,14 +34,16 @@ wanted_kind of.Object = codes "wanted: an object"
 wanted_kind of.ObjectOfObjects = codes "wanted: an object of objects"
 wanted_kind of.ObjectList = codes "wanted: a list of objects"
 wanted_kind of.NonEmptyObjectList = codes "wanted: a list of objects that isn't empty"
-wanted_kind of.Login = codes "wanted: an object with the texts user and password, and with such an object if it has also"
+wanted_kind of.Login =
+    codes "wanted: an object with the texts user and password, and with such an object if it has also"
 wanted_kind of.IdText = codes "wanted: a text of 1 to 256 bytes without control characters"
 wanted_kind of.NonEmptyText = codes "wanted: a text that isn't empty"
 wanted_kind of.TextList = codes "wanted: a list of texts"
 wanted_kind of.Flag = codes "wanted: true or false"
 wanted_kind of.OrderLimit = codes "wanted: a whole number from 1 to 1000000"
 wanted_kind of.WholeNumber = codes "wanted: a whole number of seconds from 0"
-wanted_kind of.MaintenanceInfo = codes "wanted: an object with the text version, and with a text if it has a description"
+wanted_kind of.MaintenanceInfo =
+    codes "wanted: an object with the text version, and with a text if it has a description"
 wanted_kind of.Timing = codes "wanted: synchronous or asynchronous"
 wanted_kind of.False = codes "wanted: false"
 wanted_kind of.EmptyList = codes "wanted: a list that is empty"
@@ -64,5 +68,6 @@ wanted (a.LeftOut field) place = codes "wanted: nothing, this broker leaves it o
 wanted a.Version place = codes "wanted: a semantic version, as 1.0.0"
 wanted a.Mode (Some (at.Mode name)) = codes "wanted: the id of a plan, and no plan has this one"
 wanted a.Mode _ = codes "wanted: bindings_retrievable in its service, for asynchronous bindings"
-wanted a.Credential place = codes "wanted: a user without a colon, and both texts of 1 to 256 bytes without control characters"
+wanted a.Credential place =
+    codes "wanted: a user without a colon, and both texts of 1 to 256 bytes without control characters"
 wanted a.Memory place = []

@@ -31,8 +31,7 @@ ask_at rules query body (route.BindingOp i b) = binding_op_of i b query
 ask_at rules query body route.Orders = orders_of query
 ask_at rules query body (route.Report i n) = report_of i n body
 
--- The ask of a request, or its first fault: NoDoor, Auth, Version and NoRoute of its admission, then Id,
--- Query, Body and NotInCatalog.
+-- the ask of a request, or its first fault: of its admission, then Id, Query, Body and NotInCatalog
 abbrev pub ask_of : Rules → Message → Result Ask AskFault
 ask_of rules q = admit_of rules q >>= ask_at rules (query_of q.target) q.body
 
@@ -42,6 +41,7 @@ abbrev pub is_catalog : Ask → Bool
 is_catalog ask.Catalog = true
 is_catalog _ = false
 
+-- it asks for the catalog, or its admission finds a fault
 abbrev pub is_early : Result Ask AskFault → Bool
 is_early (Ok ask) = is_catalog ask
 is_early (Err fault.NoDoor) = true

@@ -86,7 +86,6 @@ object_at name v = or_body (field object_value name v) >>= λ o. Ok (option_map 
 abbrev pub object_or_empty : Bytes → Data → Result Json AskFault
 object_or_empty name v = object_at name v >>= λ o. Ok (unwrap_or o (codes "{}"))
 
--- the context and the parameters
 unfoldable pub details_at : Data → Result Details AskFault
 details_at v = do
   context ← object_or_empty (codes "context") v

@@ -15,6 +15,7 @@ ReadsAs view (Ok x) found = found ≡ Ok (view x)
 ReadsAs view (Err fault) found = fault ≢ Memory → found ≡ Err fault
 
 -- a look-up, which takes no memory, gives what is found
-abbrev pub Gives : {X Y : Type 0} → (X → Y) → Result (Option X) AskFault → Result (Option Y) AskFault → Type 0
+abbrev pub Gives : {X Y : Type 0} → (X → Y) → Result (Option X) AskFault →
+    Result (Option Y) AskFault → Type 0
 Gives view (Ok o) found = found ≡ Ok (option_map view o)
 Gives view (Err fault) found = found ≡ Err fault

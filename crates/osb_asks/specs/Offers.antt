@@ -10,7 +10,6 @@ use Rattle.osb_asks.specs.declared.ask_fault.AskFault.TheVariants.{NotInCatalog}
 abbrev pub has_plan : Rules → Id → Id → Bool
 has_plan rules service plan = is_some (rules.service service) && is_some (rules.plan service plan)
 
--- the same where a plan is given
 abbrev pub has_given_plan : Rules → Id → Option Id → Bool
 has_given_plan rules service None = is_some (rules.service service)
 has_given_plan rules service (Some plan) = has_plan rules service plan

@@ -16,8 +16,7 @@ query_value name query =
     let first = find (λ pair. bytes_eq (utf8_lossy (decode pair.0)) name) (raw_pairs query) in
     option_map (λ pair. utf8_lossy (decode pair.1)) first
 
--- whether the platform takes an answer before the operation is done; absent is false (OSB API 2.17, "Asynchronous
--- Operations")
+-- whether an answer may come before the operation is done; absent is false (OSB API 2.17, "Asynchronous Operations")
 abbrev pub accepts_incomplete_in : Bytes → Result Bool AskFault
 accepts_incomplete_in query =
     let text = unwrap_or (query_value (codes "accepts_incomplete") query) (codes "false") in

@@ -7,7 +7,9 @@ use Rattle.std.specs.Char.{is_ascii_digit}
 -- one to three digits, and no leading zero unless it is the only one
 abbrev pub is_minor : List ℕ → Bool
 is_minor digits =
-    nat_lt 0 (length digits) && (nat_le (length digits) 3 && (list_all is_ascii_digit digits && ((length digits == 1) || not (slice_index digits 0 == 48))))
+    nat_lt 0 (length digits) && (nat_le (length digits) 3
+    && (list_all is_ascii_digit digits
+    && ((length digits == 1) || not (slice_index digits 0 == 48))))
 
 -- `2.` and a minor
 abbrev pub is_api_version : List ℕ → Bool

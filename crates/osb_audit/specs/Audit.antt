@@ -8,16 +8,19 @@ use Rattle.osb_audit.specs.Instances.{InstanceEntry, instance_cmp, InstancesStan
 use Rattle.osb_audit.specs.Bindings.{binding_cmp, AllBindingsStand}
 
 -- each list rises strictly by its keys
-pub record AreSorted (orders : List Entry) (instances : List InstanceEntry) (bindings : List BindingEntry) : Type 0 where
+pub record AreSorted (orders : List Entry) (instances : List InstanceEntry)
+    (bindings : List BindingEntry) : Type 0 where
   pub orders_rise : IsStrictlySortedBy entry_cmp orders
   pub instances_rise : IsStrictlySortedBy instance_cmp instances
   pub bindings_rise : IsStrictlySortedBy binding_cmp bindings
 
 -- the orders make up well-formed lives, and the rows are theirs
-pub record AreConsistent (orders : List Entry) (instances : List InstanceEntry) (bindings : List BindingEntry) : Type 0 where
+pub record AreConsistent (orders : List Entry) (instances : List InstanceEntry)
+    (bindings : List BindingEntry) : Type 0 where
   pub lives : IsLives (lives_in orders)
   pub instances_stand : InstancesStand (lives_in orders) instances
   pub bindings_stand : AllBindingsStand (lives_in orders) bindings
 
 abbrev pub AreRowsOfLives : List Entry → List InstanceEntry → List BindingEntry → Type 0
-AreRowsOfLives orders instances bindings = AreSorted orders instances bindings × AreConsistent orders instances bindings
+AreRowsOfLives orders instances bindings =
+    AreSorted orders instances bindings × AreConsistent orders instances bindings

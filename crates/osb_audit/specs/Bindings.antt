@@ -43,7 +43,8 @@ binding_now entry = record {
 
 -- by the instances' ids, and for one instance by the bindings' ids
 abbrev pub binding_cmp : BindingEntry → BindingEntry → Ordering
-binding_cmp a b = ordering_then (slice_cmp nat_cmp a.instance b.instance) (slice_cmp nat_cmp a.binding b.binding)
+binding_cmp a b =
+    ordering_then (slice_cmp nat_cmp a.instance b.instance) (slice_cmp nat_cmp a.binding b.binding)
 
 -- the entry is of a binding of the instance
 abbrev pub is_bound : List ℕ → BindingEntry → Bool
@@ -55,7 +56,8 @@ is_binding id binding entry = bytes_eq entry.instance id && bytes_eq entry.bindi
 
 -- the bindings of the instance have the rows of this life
 abbrev pub BindingsStand : List ℕ → Life → List BindingEntry → Type 0
-BindingsStand id life bindings = filter (is_bound id) bindings ≡ map (binding_entry id) (entries (bindings_of life))
+BindingsStand id life bindings =
+    filter (is_bound id) bindings ≡ map (binding_entry id) (entries (bindings_of life))
 
 abbrev pub AllBindingsStand : Lives → List BindingEntry → Type 0
 AllBindingsStand lives bindings = (id : List ℕ) → BindingsStand id (life_of lives id) bindings

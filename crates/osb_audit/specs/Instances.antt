@@ -23,7 +23,8 @@ is_instance id entry = bytes_eq entry.0 id
 
 -- the instance has this row, or none
 abbrev pub IsRowOf : List ℕ → Option InstanceRow → List InstanceEntry → Type 0
-IsRowOf id row instances = filter (is_instance id) instances ≡ map (λ (row : InstanceRow). (id, row)) (option_to_list row)
+IsRowOf id row instances =
+    filter (is_instance id) instances ≡ map (λ (row : InstanceRow). (id, row)) (option_to_list row)
 
 -- it is that of this life, and none where the life has no orders
 abbrev pub InstanceStands : List ℕ → Life → List InstanceEntry → Type 0

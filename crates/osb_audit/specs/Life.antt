@@ -31,7 +31,8 @@ pub record IsLifeSoFar (life : Life) (found : LifeSoFar) : Type 0 where
   pub bindings : LooksUpAs (bindings_of life) found.bindings
 
 -- an instance of this id that has had these orders has this row, and its bindings have these
-pub record IsConsistentAlone (id : List ℕ) (row : InstanceRow) (life : Life) (bound : List BindingEntry) : Type 0 where
+pub record IsConsistentAlone (id : List ℕ) (row : InstanceRow) (life : Life)
+    (bound : List BindingEntry) : Type 0 where
   pub named : is_id id ≡ true
   pub is_life : IsLife life
   pub row_stands : row_of life ≡ Some row

@@ -35,7 +35,8 @@ is_running_update order = is_a Update order && is_now Running order
 abbrev pub pairs_of : Life → List Pair
 pairs_of life =
     map (λ (standing : Standing). pair_in standing.attributes) (option_to_list (standing_of life))
-    ++ map (λ (order : Order). pair_in order.attributes) (filter is_running_update (option_to_list (last_of life)))
+    ++ map (λ (order : Order). pair_in order.attributes)
+        (filter is_running_update (option_to_list (last_of life)))
 
 -- each once, in order
 abbrev pub in_order : List Pair → List Pair
@@ -44,6 +45,7 @@ in_order (pair ∷ pairs) = insert_key pair_cmp (in_order pairs) pair
 
 -- those of all instances
 abbrev pub plans_in_use : Lives → List Pair
-plans_in_use lives = in_order (flat_map (λ (entry : List ℕ × Life). pairs_of entry.1) (entries lives))
+plans_in_use lives =
+    in_order (flat_map (λ (entry : List ℕ × Life). pairs_of entry.1) (entries lives))
 
 -- ---- as they are gathered

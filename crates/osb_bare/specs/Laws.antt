@@ -30,21 +30,26 @@ use Rattle.osb_bare.specs.Context.{standing_context, context_edit}
 -- ---- the lives
 
 abbrev pub BareLivesHaveNoContext : Type 0
-BareLivesHaveNoContext = (life : Life) → AllByRecursion (λ order. order.attributes.context ≡ empty_object) (bare_life life)
+BareLivesHaveNoContext =
+    (life : Life) →
+    AllByRecursion (λ order. order.attributes.context ≡ empty_object) (bare_life life)
 
 abbrev pub BareLivesAreWellFormed : Type 0
 BareLivesAreWellFormed = (lives : Lives) → IsLives lives → IsLives (bare_lives lives)
 
 abbrev pub LifeOfBare : Type 0
-LifeOfBare = (lives : Lives) (id : List ℕ) → life_of (bare_lives lives) id ≡ bare_life (life_of lives id)
+LifeOfBare =
+    (lives : Lives) (id : List ℕ) → life_of (bare_lives lives) id ≡ bare_life (life_of lives id)
 
 abbrev pub LivesInBare : Type 0
-LivesInBare = (entries : List Entry) → lives_in (map bare_entry entries) ≡ bare_lives (lives_in entries)
+LivesInBare =
+    (entries : List Entry) → lives_in (map bare_entry entries) ≡ bare_lives (lives_in entries)
 
 -- ---- what the rows say
 
 abbrev pub StandingOfBare : Type 0
-StandingOfBare = (life : Life) → standing_of (bare_life life) ≡ option_map bare_standing (standing_of life)
+StandingOfBare =
+    (life : Life) → standing_of (bare_life life) ≡ option_map bare_standing (standing_of life)
 
 abbrev pub RowOfBare : Type 0
 RowOfBare = (life : Life) → row_of (bare_life life) ≡ option_map bare_row (row_of life)
@@ -64,46 +69,69 @@ abbrev pub LastOfBare : Type 0
 LastOfBare = (life : Life) → last_of (bare_life life) ≡ option_map bare_order (last_of life)
 
 abbrev pub NamedInBare : Type 0
-NamedInBare = (ask : Ask) (life : Life) → named_in ask (bare_life life) ≡ option_map bare_order (named_in ask life)
+NamedInBare =
+    (ask : Ask) (life : Life) → named_in ask (bare_life life)
+    ≡ option_map bare_order (named_in ask life)
 
 abbrev pub SubjectOfBare : Type 0
-SubjectOfBare = (ask : Ask) (life : Life) → subject ask (bare_life life) ≡ bare_life (subject ask life)
+SubjectOfBare =
+    (ask : Ask) (life : Life) → subject ask (bare_life life) ≡ bare_life (subject ask life)
 
 abbrev pub ListingOfBare : Type 0
-ListingOfBare = (lives : Lives) (after : List ℕ) (limit : ℕ) → listing (bare_lives lives) after limit ≡ map bare_entry (listing lives after limit)
+ListingOfBare =
+    (lives : Lives) (after : List ℕ) (limit : ℕ) →
+    listing (bare_lives lives) after limit ≡ map bare_entry (listing lives after limit)
 
 abbrev pub PlansOfBare : Type 0
 PlansOfBare = (lives : Lives) → plans_in_use (bare_lives lives) ≡ plans_in_use lives
 
 -- nothing that is counted looks at a context
 abbrev pub CountsOfBare : Type 0
-CountsOfBare = (lives : Lives) (counts : Counts) → AreCounts (bare_lives lives) counts → AreCounts lives counts
+CountsOfBare =
+    (lives : Lives) (counts : Counts) → AreCounts (bare_lives lives) counts → AreCounts lives counts
 
 -- ---- changes
 
 abbrev pub BareLifeChanged : Type 0
-BareLifeChanged = (change : Change) (life : Life) → changed (bare_change change) (bare_life life) ≡ bare_life (changed change life)
+BareLifeChanged =
+    (change : Change) (life : Life) →
+    changed (bare_change change) (bare_life life) ≡ bare_life (changed change life)
 
 abbrev pub BareLivesChanged : Type 0
-BareLivesChanged = (change : Change) (id : List ℕ) (lives : Lives) → lives_changed (bare_change change) id (bare_lives lives) ≡ bare_lives (lives_changed change id lives)
+BareLivesChanged =
+    (change : Change) (id : List ℕ) (lives : Lives) →
+    lives_changed (bare_change change) id (bare_lives lives)
+    ≡ bare_lives (lives_changed change id lives)
 
 abbrev pub BareOrderWritten : Type 0
-BareOrderWritten = (last : Option Order) (change : Change) → order_written (option_map bare_order last) (bare_change change) ≡ option_map bare_order (order_written last change)
+BareOrderWritten =
+    (last : Option Order) (change : Change) →
+    order_written (option_map bare_order last) (bare_change change)
+    ≡ option_map bare_order (order_written last change)
 
 abbrev pub BareLifeIsWellFormed : Type 0
 BareLifeIsWellFormed = (life : Life) → IsLife life → IsLife (bare_life life)
 
 abbrev pub BareChangeIsAllowed : Type 0
-BareChangeIsAllowed = (life : Life) (change : Change) → IsAllowed life change → IsAllowed (bare_life life) (bare_change change)
+BareChangeIsAllowed =
+    (life : Life) (change : Change) → IsAllowed life change →
+    IsAllowed (bare_life life) (bare_change change)
 
 -- ---- what an order that is written does
 
 abbrev pub RowAfterBare : Type 0
-RowAfterBare = (birth_failed : Bool) (order : Order) (old : Option InstanceRow) → row_after birth_failed (bare_order order) (option_map bare_row old) ≡ bare_row (row_after birth_failed order old)
+RowAfterBare =
+    (birth_failed : Bool) (order : Order) (old : Option InstanceRow) →
+    row_after birth_failed (bare_order order) (option_map bare_row old)
+    ≡ bare_row (row_after birth_failed order old)
 
 abbrev pub EditOfBare : Type 0
-EditOfBare = (order : Order) (old : Option BindingNow) → edit_of (bare_order order) old ≡ edit_of order old
+EditOfBare =
+    (order : Order) (old : Option BindingNow) → edit_of (bare_order order) old ≡ edit_of order old
 
 -- the current context needs no look at the one before it
 abbrev pub ContextStands : Type 0
-ContextStands = (life : Life) (change : Change) (order : Order) → IsWritten life change order → standing_context (standing_of (changed change life)) ≡ unwrap_or (context_edit order) (standing_context (standing_of life))
+ContextStands =
+    (life : Life) (change : Change) (order : Order) → IsWritten life change order →
+    standing_context (standing_of (changed change life))
+    ≡ unwrap_or (context_edit order) (standing_context (standing_of life))

@@ -16,7 +16,8 @@ use Rattle.osb_broker.specs.Serving.{EachWasNeeded, ReadsOf, WritesText}
 use Rattle.osb_broker.specs.Steps.{capped}
 
 -- A client's request waits: its bytes, which are all that was read, begin with it.
-pub record IsWaiting (rules : Rules) (limits : Limits) (calls : List Call) (bytes : List ℕ) : Type 0 where
+pub record IsWaiting (rules : Rules) (limits : Limits) (calls : List Call)
+    (bytes : List ℕ) : Type 0 where
   pub reads : ReadsOf (Ok tt) calls
   pub are : bytes ≡ all_bytes calls
   pub q : Message
@@ -32,16 +33,22 @@ pub record SentText (text : List ℕ) (conversation : Conversation) : Type 0 whe
   pub no_fault : conversation.met_fault ≡ false
 
 -- the requests of these clients waited, and each was sent its text
-abbrev pub WereAnswered : Rules → Limits → List (List ℕ) → List (List ℕ) → List Conversation → Type 0
+abbrev pub WereAnswered : Rules → Limits → List (List ℕ) → List (List ℕ) → List Conversation →
+    Type 0
 WereAnswered rules limits [] [] [] = Unit {0}
 WereAnswered rules limits (bytes ∷ connections) (text ∷ texts) (conversation ∷ conversations) =
-    EachWasNeeded limits 1 (limits.head + limits.body) conversation.calls × IsWaiting rules limits conversation.calls bytes × SentText text conversation × WereAnswered rules limits connections texts conversations
+    EachWasNeeded limits 1 (limits.head + limits.body) conversation.calls
+    × IsWaiting rules limits conversation.calls bytes × SentText text conversation
+    × WereAnswered rules limits connections texts conversations
 WereAnswered rules limits _ _ _ = ⊥
 
 -- Clients whose requests waited, and that were sent the outputs of `answer_waiting`, were served one after the other.
 abbrev pub GroupsAreConversations : Type 0
-GroupsAreConversations = (rules : Rules) (limits : Limits) (old new : Lives) (connections texts : List (List ℕ)) (conversations : List Conversation) →
-    WereAnswered rules limits connections texts conversations → RunOrLost (capped rules) limits 1 old connections texts new →
+GroupsAreConversations =
+    (rules : Rules) (limits : Limits) (old new : Lives) (connections texts : List (List ℕ))
+    (conversations : List Conversation) →
+    WereAnswered rules limits connections texts conversations →
+        RunOrLost (capped rules) limits 1 old connections texts new →
     AreConversations rules limits 1 old conversations new
 
 -- P of how a connection ended that was begun, or Q where its request waits

@@ -29,7 +29,8 @@ IsShut s = s.is_open ≡ false
 -- any lives that stay, where a fault had shut it.
 abbrev pub LivesGo : State → State → Lives → Lives → Type 0
 LivesGo old new before after =
-    (Works new × (before ≡ stored old) × (after ≡ stored new)) ⊎ (HasCleanDisk new × IsShut old × (after ≡ before))
+    (Works new × (before ≡ stored old) × (after ≡ stored new))
+    ⊎ (HasCleanDisk new × IsShut old × (after ≡ before))
 
 -- the lives of all instances, as its records store them
 unfoldable pub lives_of : {S : Type 0} → Ghosts S → Broker S → Lives

@@ -25,25 +25,29 @@ pub record Conversation : Type 0 where
 
 -- A client on whose connection k requests may come was served so: each read was needed, what it was sent is what answers
 -- the bytes that were read of it, from the lives old, and the lives new are those that this leaves.
-pub record IsConversation (rules : Rules) (limits : Limits) (k : ℕ) (old : Lives) (conversation : Conversation) (new : Lives) : Type 0 where
+pub record IsConversation (rules : Rules) (limits : Limits) (k : ℕ) (old : Lives)
+    (conversation : Conversation) (new : Lives) : Type 0 where
   pub ended : Result (Unit {0}) ServeFault
   pub reads : ReadsOf ended conversation.calls
   pub needed : EachWasNeeded limits k (limits.head + limits.body) conversation.calls
   pub wrote : WritesOf ended 0 conversation.failed
-  pub outcome : EndsAsOrLost ended (machine rules) limits k old conversation.calls conversation.met_fault [] conversation.sent new
+  pub outcome : EndsAsOrLost ended (machine rules) limits k old conversation.calls
+      conversation.met_fault [] conversation.sent new
 
 -- one client after the other, each from the lives that the one before left
 abbrev pub AreConversations : Rules → Limits → ℕ → Lives → List Conversation → Lives → Type 0
 AreConversations rules limits k old [] new = new ≡ old
 AreConversations rules limits k old (conversation ∷ later) new =
-    (lives : Lives) × IsConversation rules limits k old conversation lives × AreConversations rules limits k lives later new
+    (lives : Lives) × IsConversation rules limits k old conversation lives
+        × AreConversations rules limits k lives later new
 
 -- An episode is the conversations between a start of the program and its stop; the next one begins with the lives that it
 -- left.
 abbrev pub AreEpisodes : Rules → Limits → ℕ → Lives → List (List Conversation) → Lives → Type 0
 AreEpisodes rules limits k old [] new = new ≡ old
 AreEpisodes rules limits k old (conversations ∷ later) new =
-    (lives : Lives) × AreConversations rules limits k old conversations lives × AreEpisodes rules limits k lives later new
+    (lives : Lives) × AreConversations rules limits k old conversations lives
+        × AreEpisodes rules limits k lives later new
 
 -- the conversations of all episodes
 abbrev pub all_conversations : List (List Conversation) → List Conversation
@@ -52,8 +56,11 @@ all_conversations (conversations ∷ later) = conversations ++ all_conversations
 
 -- stops and starts leave no trace: episodes are conversations, one after the other
 abbrev pub EpisodesGoOn : Type 0
-EpisodesGoOn = (rules : Rules) (limits : Limits) (k : ℕ) (old : Lives) (episodes : List (List Conversation)) (new : Lives) →
-    AreEpisodes rules limits k old episodes new → AreConversations rules limits k old (all_conversations episodes) new
+EpisodesGoOn =
+    (rules : Rules) (limits : Limits) (k : ℕ) (old : Lives) (episodes : List (List Conversation))
+    (new : Lives) →
+    AreEpisodes rules limits k old episodes new →
+        AreConversations rules limits k old (all_conversations episodes) new
 
 -- ---- with one request a client
 
@@ -81,6 +88,9 @@ AreAttemptsOf _ _ = ⊥
 
 -- the conversations of any episodes are one history
 abbrev pub EpisodesAreHistories : Type 0
-EpisodesAreHistories = (rules : Rules) (limits : Limits) (old : Lives) (episodes : List (List Conversation)) (new : Lives) →
+EpisodesAreHistories =
+    (rules : Rules) (limits : Limits) (old : Lives) (episodes : List (List Conversation))
+    (new : Lives) →
     AreEpisodes rules limits 1 old episodes new →
-    (attempts : List Attempt) × AreAttemptsOf (all_conversations episodes) attempts × History (Carried rules limits) old attempts new
+    (attempts : List Attempt) × AreAttemptsOf (all_conversations episodes) attempts
+        × History (Carried rules limits) old attempts new

@@ -27,7 +27,8 @@ IsOfAnother one changes = AllByRecursion (λ other. other.instance ≢ one.insta
 -- From all lives in which the instance of the change has the life that it has in these, the request is answered by this
 -- text, and leads to the changed lives.
 abbrev pub Decides : Rules → Message → Lives → List ℕ → LifeChange → Type 0
-Decides rules q lives text one = (others : Lives) → IsLives others → life_of others one.instance ≡ life_of lives one.instance →
+Decides rules q lives text one =
+    (others : Lives) → IsLives others → life_of others one.instance ≡ life_of lives one.instance →
     (text ≡ reply_text (reply_of q true ((machine rules).step others q).0))
     × (lives_changed one.change one.instance others ≡ ((machine rules).step others q).1)
     × CanBeMade one others
@@ -42,7 +43,8 @@ AreAnswered rules limits old (bytes ∷ connections) (text ∷ texts) new =
 AreAnswered rules limits old _ _ new = ⊥
 
 -- From these lives the connections are answered so once these changes are made, which can be.
-pub record IsGroup (rules : Rules) (limits : Limits) (lives : Lives) (connections texts : List (List ℕ)) (changes : List LifeChange) : Type 0 where
+pub record IsGroup (rules : Rules) (limits : Limits) (lives : Lives)
+    (connections texts : List (List ℕ)) (changes : List LifeChange) : Type 0 where
   pub answered : AreAnswered rules limits lives connections texts (all_changed changes lives)
   pub made : AllCanBeMade changes lives
   pub some : AllByRecursion ChangesSomething changes
@@ -50,7 +52,8 @@ pub record IsGroup (rules : Rules) (limits : Limits) (lives : Lives) (connection
 
 -- A connection was taken into a group: its request is decided by these lives, and its change, which is of another instance
 -- than those before, has to be made too, if it is one.
-pub record Joins (rules : Rules) (limits : Limits) (lives : Lives) (bytes : List ℕ) (old new : Group) : Type 0 where
+pub record Joins (rules : Rules) (limits : Limits) (lives : Lives) (bytes : List ℕ)
+    (old new : Group) : Type 0 where
   pub q : Message
   pub n : ℕ
   pub front : IsFront limits bytes (whole q n)
@@ -63,7 +66,8 @@ pub record Joins (rules : Rules) (limits : Limits) (lives : Lives) (bytes : List
   pub some : one.change ≢ Nothing → new.changes.items ≡ old.changes.items ++ one ∷ []
 
 -- the database has the lives after all of these connections
-pub record HasAll (rules : Rules) (limits : Limits) (old : State) (connections : List (List ℕ)) (db : Trees) : Type 0 where
+pub record HasAll (rules : Rules) (limits : Limits) (old : State) (connections : List (List ℕ))
+    (db : Trees) : Type 0 where
   pub texts : List (List ℕ)
   pub lives : Lives
   pub answered : AreAnswered rules limits (stored old) connections texts lives

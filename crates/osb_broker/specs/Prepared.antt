@@ -36,7 +36,8 @@ IsApplicable (Some pending) lives = CanBeMade pending lives
 -- before, where there was nothing to change
 abbrev pub PendingIsDurable : State → Lives → Option LifeChange → Trees → Type 0
 PendingIsDurable s lives pending db =
-    (IsTrue s.is_open × (lives_stored db ≡ after_pending pending lives)) ⊎ (((any : Lives) → after_pending pending any ≡ any) × s.may_leave db)
+    (IsTrue s.is_open × (lives_stored db ≡ after_pending pending lives))
+    ⊎ (((any : Lives) → after_pending pending any ≡ any) × s.may_leave db)
 
 -- the answer is that of the step; the change may be made, and leaves the lives of the step
 pub record Prepares (lives : Lives) (prepared : Prepared) (step : Answer × Lives) : Type 0 where

@@ -15,7 +15,8 @@ use Rattle.osb_broker.specs.Conversations.{Conversation, AreEpisodes, all_conver
 
 -- P of the bytes that were read of each client
 abbrev pub OfEachClient : (List ℕ → Type 0) → List Conversation → Type 0
-OfEachClient P conversations = AllByRecursion (λ conversation. P (all_bytes conversation.calls)) conversations
+OfEachClient P conversations =
+    AllByRecursion (λ conversation. P (all_bytes conversation.calls)) conversations
 
 -- no write to the client failed, and it was sent something, and not the fixed 500
 abbrev pub GotAnswer : Conversation → Type 0
@@ -29,19 +30,26 @@ SomeGotAnswer bytes (conversation ∷ later) =
 
 -- What holds of a request about an instance, which clients make again and again, one request each, over stops and starts
 -- from well-formed lives. What else they ask of the instance reports that its order succeeded, or only reads.
-abbrev pub OfRepeatedRequest : (Rules → Lives → List Conversation → List ℕ → Message → Lives → List ℕ → Type 0) → Type 0
-OfRepeatedRequest Holds = (rules : Rules) (limits : Limits) (old : Lives) (episodes : List (List Conversation)) (new : Lives) (id bytes : List ℕ) →
+abbrev pub OfRepeatedRequest : (Rules → Lives → List Conversation → List ℕ → Message → Lives →
+    List ℕ → Type 0) → Type 0
+OfRepeatedRequest Holds =
+    (rules : Rules) (limits : Limits) (old : Lives) (episodes : List (List Conversation))
+    (new : Lives) (id bytes : List ℕ) →
     IsLives old → (asked : AsksOf rules limits id bytes) →
     AreEpisodes rules limits 1 old episodes new →
-    OfEachClient (λ other. AsksOf rules limits id other → IsAgainOrBeside rules limits id (next_number old id) bytes other) (all_conversations episodes) →
+    OfEachClient (λ other. AsksOf rules limits id other →
+        IsAgainOrBeside rules limits id (next_number old id) bytes other)
+        (all_conversations episodes) →
     Holds rules old (all_conversations episodes) bytes asked.q new id
 
 -- where one of them got an answer, the instance's life is the one that the request leaves, made once, but for the report
 abbrev pub RepliedRequestsActOnce : Type 0
 RepliedRequestsActOnce = OfRepeatedRequest (λ rules old conversations bytes q new id.
-    SomeGotAnswer bytes conversations → IsOnce (life_of (lives_after rules old q) id) (life_of new id))
+    SomeGotAnswer bytes conversations →
+        IsOnce (life_of (lives_after rules old q) id) (life_of new id))
 
 -- in any case it is that one, or the one of before
 abbrev pub SentRequestsActAtMostOnce : Type 0
 SentRequestsActAtMostOnce = OfRepeatedRequest (λ rules old conversations bytes q new id.
-    (life_of new id ≡ life_of old id) ⊎ IsOnce (life_of (lives_after rules old q) id) (life_of new id))
+    (life_of new id ≡ life_of old id)
+    ⊎ IsOnce (life_of (lives_after rules old q) id) (life_of new id))

@@ -19,8 +19,8 @@ use Rattle.osb_broker.specs.ActsOnce.{Carried}
 -- ---- what may come in between
 
 -- the first request of the bytes reports that the order of that number, of the instance, succeeded
-pub record Reports (rules : Rules) (limits : Limits) (id : List ℕ) (number : ℕ) (bytes : List ℕ)
-    : Type 0 where
+pub record Reports (rules : Rules) (limits : Limits) (id : List ℕ) (number : ℕ)
+    (bytes : List ℕ) : Type 0 where
   pub q : Message
   pub n : ℕ
   pub ask : Ask

@@ -22,13 +22,15 @@ is_fault closed = false
 is_fault (stopped f) = true
 
 -- the same, and met_fault says whether the requests ended at a framing fault
-abbrev pub ServedTo : {S : Type 0} → Machine S → Limits → ℕ → S → List ℕ → Bool → List ℕ → List ℕ → S → Type 0
+abbrev pub ServedTo : {S : Type 0} → Machine S → Limits → ℕ → S → List ℕ → Bool → List ℕ → List ℕ →
+    S → Type 0
 ServedTo machine limits k s bytes met_fault old new t =
     (served : Served machine limits k s bytes old new t) × (met_fault ≡ is_fault served.is.end)
 
 -- These are the first texts of the connection, and t is the state after them: of the k requests that may come at most so
 -- many are looked for.
-pub record FirstTexts {S : Type 0} (machine : Machine S) (limits : Limits) (k : ℕ) (s : S) (bytes : List ℕ) (texts : List (List ℕ)) (t : S) : Type 0 where
+pub record FirstTexts {S : Type 0} (machine : Machine S) (limits : Limits) (k : ℕ) (s : S)
+    (bytes : List ℕ) (texts : List (List ℕ)) (t : S) : Type 0 where
   pub most : ℕ
   pub fewer : most ≤ k
   pub marks : List Bool
@@ -41,7 +43,8 @@ pub record FirstTexts {S : Type 0} (machine : Machine S) (limits : Limits) (k : 
 
 -- the first texts of the connection were written whole, and of the one behind them its first bytes; the state is the one
 -- after that
-pub record BrokenOff {S : Type 0} (machine : Machine S) (limits : Limits) (k : ℕ) (s : S) (bytes old new : List ℕ) (t : S) : Type 0 where
+pub record BrokenOff {S : Type 0} (machine : Machine S) (limits : Limits) (k : ℕ) (s : S)
+    (bytes old new : List ℕ) (t : S) : Type 0 where
   pub texts : List (List ℕ)
   pub text : List ℕ
   pub is : FirstTexts machine limits k s bytes (texts ++ text ∷ []) t
@@ -51,10 +54,12 @@ pub record BrokenOff {S : Type 0} (machine : Machine S) (limits : Limits) (k : �
 
 -- the limits of osb_frames: a head of 8,192 bytes with 128 field lines, and a body of 262,144 bytes
 abbrev pub AreStandard : Limits → Type 0
-AreStandard limits = (limits.head ≡ MOST_HEAD) × (limits.fields ≡ MOST_FIELDS) × (limits.body ≡ MOST_BODY)
+AreStandard limits =
+    (limits.head ≡ MOST_HEAD) × (limits.fields ≡ MOST_FIELDS) × (limits.body ≡ MOST_BODY)
 
 -- the outputs of connections are the texts of a run, for some marks
-pub record RunServed {S : Type 0} (machine : Machine S) (limits : Limits) (k : ℕ) (s : S) (connections outputs : List (List ℕ)) (t : S) : Type 0 where
+pub record RunServed {S : Type 0} (machine : Machine S) (limits : Limits) (k : ℕ) (s : S)
+    (connections outputs : List (List ℕ)) (t : S) : Type 0 where
   pub marks : List (List Bool)
   pub texts : List (List (List ℕ))
   pub is : Run machine limits k s connections marks texts t

@@ -31,7 +31,8 @@ HasCause (Err Write) read write = write
 
 -- the last that was written is the reply to a framing fault
 abbrev pub EndsAtFault : List ℕ → Type 0
-EndsAtFault sent = (kind : StopKind) × (before : List ℕ) × (sent ≡ before ++ reply_text (fault_reply kind))
+EndsAtFault sent =
+    (kind : StopKind) × (before : List ℕ) × (sent ≡ before ++ reply_text (fault_reply kind))
 
 -- a write failed or took nothing exactly where serving ends so
 abbrev pub WritesOf : Result (Unit {0}) ServeFault → ℕ → ℕ → Type 0
@@ -49,7 +50,8 @@ pub record EndsWith (last : Call) (calls : List Call) : Type 0 where
   pub gave_bytes : EachGaveBytes before
 
 -- which reads were made of a source from one moment to another, and what they gave; one that found the end left nothing
-pub record ReadsMade (made_old made_new : List Call) (known_old known_new : Option (List ℕ)) (calls : List Call) : Type 0 where
+pub record ReadsMade (made_old made_new : List Call) (known_old known_new : Option (List ℕ))
+    (calls : List Call) : Type 0 where
   pub made : made_new ≡ made_old ++ calls
   pub consumed : Consumes known_old known_new (all_bytes calls)
   pub at_end : EndsWith (Some []) calls → IsAtEnd known_new
@@ -62,7 +64,9 @@ ReadsOf _ calls = EachGaveBytes calls ⊎ EndsWith (Some []) calls
 -- P of the bytes of a connection that began with what these reads gave: whatever follows, or of that only, where the last
 -- read found the end
 abbrev pub OfConnection : (List ℕ → Type 0) → List Call → Type 0
-OfConnection P calls = ((more : List ℕ) → P (all_bytes calls ++ more)) ⊎ (P (all_bytes calls) × EndsWith (Some []) calls)
+OfConnection P calls =
+    ((more : List ℕ) → P (all_bytes calls ++ more))
+    ⊎ (P (all_bytes calls) × EndsWith (Some []) calls)
 
 -- no whole request waits, and no fault that no further bytes mend; bytes that follow may make a request
 pub record NothingWaits (limits : Limits) (held : List ℕ) : Type 0 where
@@ -74,14 +78,17 @@ pub record NothingWaits (limits : Limits) (held : List ℕ) : Type 0 where
 abbrev pub Past : Limits → List Message → List ℕ → List ℕ → Type 0
 Past limits [] bytes rest = rest ≡ bytes
 Past limits (q ∷ qs) bytes rest =
-    (n : ℕ) × IsFront limits bytes (whole q n) × (closes q ≡ false) × Past limits qs (drop n bytes) rest
+    (n : ℕ) × IsFront limits bytes (whole q n) × (closes q ≡ false)
+        × Past limits qs (drop n bytes) rest
 
 -- the replies to requests that met no refusal, and the state after them
 abbrev pub replies_unmarked : {S : Type 0} → Machine S → ℕ → S → List Message → List ReplyParts × S
-replies_unmarked machine k s requests = replies_of machine k s requests ended (map (λ q. false) requests)
+replies_unmarked machine k s requests =
+    replies_of machine k s requests ended (map (λ q. false) requests)
 
 -- a read failed: exactly the texts of the requests that came whole were written, and more requests might have come
-pub record ReadBroken {S : Type 0} (machine : Machine S) (limits : Limits) (k : ℕ) (s : S) (got old new : List ℕ) (t : S) : Type 0 where
+pub record ReadBroken {S : Type 0} (machine : Machine S) (limits : Limits) (k : ℕ) (s : S)
+    (got old new : List ℕ) (t : S) : Type 0 where
   pub requests : List Message
   pub held : List ℕ
   pub past : Past limits requests got held
@@ -91,7 +98,8 @@ pub record ReadBroken {S : Type 0} (machine : Machine S) (limits : Limits) (k : 
   pub leaves : t ≡ (replies_unmarked machine k s requests).1
 
 -- Whatever follows, got is requests of which none closes, and then held. Of k requests so many may still come.
-pub record RequestsPassed (limits : Limits) (k : ℕ) (got : List ℕ) (left : ℕ) (held : List ℕ) : Type 0 where
+pub record RequestsPassed (limits : Limits) (k : ℕ) (got : List ℕ) (left : ℕ)
+    (held : List ℕ) : Type 0 where
   pub requests : List Message
   pub is : (more : List ℕ) → Past limits requests (got ++ more) (held ++ more)
   pub fewer : left + length requests ≡ k
@@ -110,7 +118,8 @@ pub record WasNeeded (limits : Limits) (k room : ℕ) (got : List ℕ) (call : C
 -- so was each read of a connection
 abbrev pub EachWasNeeded : Limits → ℕ → ℕ → List Call → Type 0
 EachWasNeeded limits k room calls =
-    (before after : List Call) (call : Call) → calls ≡ before ++ call ∷ after → WasNeeded limits k room (all_bytes before) call
+    (before after : List Call) (call : Call) → calls ≡ before ++ call ∷ after →
+        WasNeeded limits k room (all_bytes before) call
 
 -- what was taken goes no further than the room past the start of the last request that was looked for, held being what
 -- follows that start; and there was at most one read for each byte, and one more
@@ -123,7 +132,11 @@ pub record IsBounded (limits : Limits) (k room : ℕ) (calls : List Call) : Type
 
 -- how serving a connection ended, of which these reads were made; met_fault is said of one that ended without a fault of
 -- the reader or the writer
-abbrev pub EndsAs : {S : Type 0} → Result (Unit {0}) ServeFault → Machine S → Limits → ℕ → S → List Call → Bool → List ℕ → List ℕ → S → Type 0
-EndsAs (Ok x) machine limits k s calls met_fault old new t = OfConnection (λ bytes. ServedTo machine limits k s bytes met_fault old new t) calls
-EndsAs (Err Read) machine limits k s calls met_fault old new t = ReadBroken machine limits k s (all_bytes calls) old new t
-EndsAs (Err Write) machine limits k s calls met_fault old new t = OfConnection (λ bytes. BrokenOff machine limits k s bytes old new t) calls
+abbrev pub EndsAs : {S : Type 0} → Result (Unit {0}) ServeFault → Machine S → Limits → ℕ → S →
+    List Call → Bool → List ℕ → List ℕ → S → Type 0
+EndsAs (Ok x) machine limits k s calls met_fault old new t =
+    OfConnection (λ bytes. ServedTo machine limits k s bytes met_fault old new t) calls
+EndsAs (Err Read) machine limits k s calls met_fault old new t =
+    ReadBroken machine limits k s (all_bytes calls) old new t
+EndsAs (Err Write) machine limits k s calls met_fault old new t =
+    OfConnection (λ bytes. BrokenOff machine limits k s bytes old new t) calls

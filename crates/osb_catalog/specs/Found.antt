@@ -24,7 +24,8 @@ use Rattle.osb_catalog.specs.Logins.{refuses_login}
 
 -- the field is the first whose rule the object breaks
 abbrev pub breaks_at : List FieldRule → Field → Data → Bool
-breaks_at rules field v = is_some_and (λ found. bytes_eq (field_name found) (field_name field)) (first_broken rules v)
+breaks_at rules field v =
+    is_some_and (λ found. bytes_eq (field_name found) (field_name field)) (first_broken rules v)
 
 -- the id is twice among these
 abbrev pub stands_twice : List (List ℕ) → List ℕ → Bool
@@ -56,7 +57,8 @@ plan_has file ids (a.Missing field) service plan = breaks_at plan_rules field pl
 plan_has file ids a.DoubleId service plan = stands_twice ids (text_at the.Id plan)
 plan_has file ids (a.LeftOut field) service plan = breaks_at plan_left_out_rules field plan
 plan_has file ids a.Version service plan = has_wrong_version plan
-plan_has file ids a.Mode service plan = not (flag_at the.BindingsRetrievable service) && binds_later file plan
+plan_has file ids a.Mode service plan =
+    not (flag_at the.BindingsRetrievable service) && binds_later file plan
 plan_has file ids _ service plan = false
 
 -- of the ids of all plans; a null counts as absent
@@ -84,11 +86,13 @@ abbrev pub service_place : List (List ℕ) → SettingsFault → ℕ → Data �
 service_place ids fault at service = placed (Service at) (service_has ids fault service)
 
 abbrev pub plan_place : Data → List (List ℕ) → SettingsFault → ℕ → Data → ℕ → Data → Option Place
-plan_place file ids fault number service at plan = placed (Plan number at) (plan_has file ids fault service plan)
+plan_place file ids fault number service at plan =
+    placed (Plan number at) (plan_has file ids fault service plan)
 
 -- that of the first plan of the service with this number
 abbrev pub place_in_service : Data → List (List ℕ) → SettingsFault → ℕ → Data → Option Place
-place_in_service file ids fault number service = first_place (plan_place file ids fault number service) 0 (plans_of service)
+place_in_service file ids fault number service =
+    first_place (plan_place file ids fault number service) 0 (plans_of service)
 
 abbrev pub mode_place : List (List ℕ) → SettingsFault → List ℕ → Data → Option Place
 mode_place ids fault name mode = placed (Mode name) (mode_has ids fault name mode)
@@ -103,7 +107,8 @@ first_named fault file = first_of (
     [])
 
 abbrev pub first_of_services : SettingsFault → Data → Option Place
-first_of_services fault file = first_place (service_place (ids_of (services_of file)) fault) 0 (services_of file)
+first_of_services fault file =
+    first_place (service_place (ids_of (services_of file)) fault) 0 (services_of file)
 
 -- of the plans of all services, which have these ids, and of the modes
 abbrev pub first_planned : List (List ℕ) → SettingsFault → Data → Option Place

@@ -23,4 +23,5 @@ plan_ids = all_of_each (λ service. ids_of (plans_of service))
 
 -- two services, or two plans of the catalog, have one id
 abbrev pub has_double_id : Data → Bool
-has_double_id file = has_double (ids_of (services_of file)) || has_double (plan_ids (services_of file))
+has_double_id file =
+    has_double (ids_of (services_of file)) || has_double (plan_ids (services_of file))

@@ -20,5 +20,6 @@ data_of s = record {
 -- the settings are sound, and their services and plans are at the places that are kept of their ids
 pub record AreIndexed (s : Inside) : Type 0 where
   pub sound : IsSettings (data_of s)
-  pub services : AreIdPositionsOf s.service_places (map (λ (service : Service). service.id) s.services.items)
+  pub services : AreIdPositionsOf s.service_places
+      (map (λ (service : Service). service.id) s.services.items)
   pub plans : AreIdPositionsOf s.plan_places (map (λ (plan : Plan). plan.id) s.plans.items)

@@ -61,7 +61,8 @@ is_login_object d = is_plain_login d && is_none_or is_plain_login (value_at the.
 
 -- an object with the text `version`, and where it has a `description` that is a text
 abbrev pub is_maintenance_info : Data → Bool
-is_maintenance_info d = is_object d && has_text the.Version d && is_none_or is_text (value_at the.Description d)
+is_maintenance_info d =
+    is_object d && has_text the.Version d && is_none_or is_text (value_at the.Description d)
 
 -- whether the value is of the kind
 abbrev pub fits : Kind → Data → Bool

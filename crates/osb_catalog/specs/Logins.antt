@@ -23,11 +23,13 @@ abbrev pub is_user : List ℕ → Bool
 is_user text = is_password text && not (has_colon text)
 
 abbrev pub refuses_plain_login : Data → Bool
-refuses_plain_login login = not (is_user (text_at the.User login)) || not (is_password (text_at the.Password login))
+refuses_plain_login login =
+    not (is_user (text_at the.User login)) || not (is_password (text_at the.Password login))
 
 -- the login itself, or the one in its `also`
 abbrev pub refuses_login : Data → Bool
-refuses_login login = refuses_plain_login login || is_some_and refuses_plain_login (value_at the.Also login)
+refuses_login login =
+    refuses_plain_login login || is_some_and refuses_plain_login (value_at the.Also login)
 
 abbrev pub refuses_login_at : Field → Data → Bool
 refuses_login_at door file = is_some_and refuses_login (value_at door file)
@@ -44,7 +46,9 @@ token_of_login login = token (text_at the.User login) (text_at the.Password logi
 
 -- the login's own, and behind it that of its `also`, where that is there
 abbrev pub tokens_of_login : Data → List (List ℕ)
-tokens_of_login login = token_of_login login ∷ option_map_or (λ also. token_of_login also ∷ []) (value_at the.Also login) []
+tokens_of_login login =
+    token_of_login login ∷ option_map_or (λ also. token_of_login also ∷ [])
+    (value_at the.Also login) []
 
 abbrev pub tokens_at : Field → Data → List (List ℕ)
 tokens_at door file = option_map_or tokens_of_login (value_at door file) []

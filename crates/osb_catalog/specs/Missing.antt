@@ -26,7 +26,9 @@ first_missing file = first_of (
 
 -- of the service itself, then of its plans
 abbrev pub left_out_of_service : Data → Option Field
-left_out_of_service service = option_or (first_broken service_left_out_rules service) (first_in (first_broken plan_left_out_rules) (plans_of service))
+left_out_of_service service =
+    option_or (first_broken service_left_out_rules service)
+    (first_in (first_broken plan_left_out_rules) (plans_of service))
 
 abbrev pub first_left_out : Data → Option Field
 first_left_out file = first_in left_out_of_service (services_of file)

@@ -12,7 +12,8 @@ use Rattle.osb_catalog.specs.Items.{any_item, any_member}
 
 -- synchronous where the mode doesn't say
 abbrev pub timing_at : Field → Data → Timing
-timing_at field mode = if bytes_eq (text_at field mode) (codes "asynchronous") then Asynchronous else Synchronous
+timing_at field mode =
+    if bytes_eq (text_at field mode) (codes "asynchronous") then Asynchronous else Synchronous
 
 abbrev pub is_asynchronous : Timing → Bool
 is_asynchronous Synchronous = false
@@ -23,11 +24,15 @@ abbrev pub names_no_plan : Items → List ℕ → Data → Bool
 names_no_plan services id mode = not (is_null mode) && not (is_among id (plan_ids services))
 
 abbrev pub binds_later : Data → Data → Bool
-binds_later file plan = is_asynchronous (timing_at the.Bindings (mode_of_plan file (text_at the.Id plan)))
+binds_later file plan =
+    is_asynchronous (timing_at the.Bindings (mode_of_plan file (text_at the.Id plan)))
 
 -- some plan of the service has asynchronous bindings, and its bindings can't be fetched
 abbrev pub has_lost_bindings : Data → Data → Bool
-has_lost_bindings file service = not (flag_at the.BindingsRetrievable service) && any_item (binds_later file) (plans_of service)
+has_lost_bindings file service =
+    not (flag_at the.BindingsRetrievable service) && any_item (binds_later file) (plans_of service)
 
 abbrev pub refuses_modes : Data → Bool
-refuses_modes file = any_member (names_no_plan (services_of file)) (modes_of file) || any_item (has_lost_bindings file) (services_of file)
+refuses_modes file =
+    any_member (names_no_plan (services_of file)) (modes_of file)
+    || any_item (has_lost_bindings file) (services_of file)

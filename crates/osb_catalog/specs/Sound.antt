@@ -18,11 +18,15 @@ pub record AreSound (rules : Rules) : Type 0 where
   pub most_orders : rules.order_limit ≤ 1000000
   pub service_id : (service : List ℕ) → IsSome (rules.service service) → is_id service ≡ true
   pub plan_id : (service plan : List ℕ) → IsSome (rules.plan service plan) → is_id plan ≡ true
-  pub service : (service plan : List ℕ) → IsSome (rules.plan service plan) → IsSome (rules.service service)
-  pub one_service : (service other plan : List ℕ) → IsSome (rules.plan service plan) → IsSome (rules.plan other plan) → service ≡ other
+  pub service : (service plan : List ℕ) → IsSome (rules.plan service plan) →
+      IsSome (rules.service service)
+  pub one_service : (service other plan : List ℕ) → IsSome (rules.plan service plan) →
+      IsSome (rules.plan other plan) → service ≡ other
   pub mode : (service plan : List ℕ) → IsSome (rules.plan service plan) → IsSome (rules.mode plan)
-  pub version : (service plan : List ℕ) → IfSome (rules.plan service plan) (λ facts. is_version_or_empty facts.version ≡ true)
-  pub credentials : (plan : List ℕ) → IfSome (rules.mode plan) (λ mode. is_object_text mode.credentials ≡ true)
+  pub version : (service plan : List ℕ) →
+      IfSome (rules.plan service plan) (λ facts. is_version_or_empty facts.version ≡ true)
+  pub credentials : (plan : List ℕ) →
+      IfSome (rules.mode plan) (λ mode. is_object_text mode.credentials ≡ true)
 
 -- asynchronous bindings only where they can be fetched (OSB API 2.17, "Binding")
 abbrev pub IsFetchable : Plan → Type 0

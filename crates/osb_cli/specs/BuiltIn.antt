@@ -7,7 +7,8 @@ built_in =
     codes "{\"platform\":{\"user\":\"platform\",\"password\":\"secret\"},\n" ++ (
     codes " \"backend\":{\"user\":\"backend\",\"password\":\"worker\"},\n" ++ (
     codes " \"catalog\":{\"services\":[{\"name\":\"store\",\"id\":\"svc\",\"description\":\"Key store\",\n" ++ (
-    codes "  \"bindable\":true,\"bindings_retrievable\":true,\"plan_updateable\":true,\"plans\":[\n" ++ (
+    codes "  \"bindable\":true,\"bindings_retrievable\":true,\"plan_updateable\":true,\"plans\":[\n"
+    ++ (
     codes "   {\"name\":\"small\",\"id\":\"p-sync\",\"description\":\"At once\"},\n" ++ (
     codes "   {\"name\":\"large\",\"id\":\"p-async\",\"description\":\"Later\",\"maintenance_info\":{\"version\":\"1.2.0\"}}]}]},\n" ++ (
     codes " \"modes\":{\"p-sync\":{\"credentials\":{\"uri\":\"mem:1\"}},\n" ++ (

@@ -27,19 +27,23 @@ counts_line services plans =
 -- these are the remarks on a file that are asked for
 abbrev pub AreRemarks : Contents → List ℕ → Bool → List ℕ → Type 0
 AreRemarks contents name false remarks = remarks ≡ []
-AreRemarks contents name true remarks = (text : List ℕ) × AreBytesOf contents name text × (remarks ≡ remarks_of text)
+AreRemarks contents name true remarks =
+    (text : List ℕ) × AreBytesOf contents name text × (remarks ≡ remarks_of text)
 
 -- the line of the settings of a file was written, and the remarks on it
-pub record IsChecked (contents : Contents) (name : List ℕ) (explain : Bool) (old new : List ℕ) : Type 0 where
+pub record IsChecked (contents : Contents) (name : List ℕ) (explain : Bool)
+    (old new : List ℕ) : Type 0 where
   pub settings : SettingsData
   pub are : AreOfFile contents name settings
   pub remarks : List ℕ
   pub explained : AreRemarks contents name explain remarks
-  pub written : new ≡ old ++ (counts_line (length settings.services) (length settings.plans) ++ remarks)
+  pub written : new ≡ old ++ (counts_line (length settings.services) (length settings.plans)
+      ++ remarks)
 
 abbrev pub counted_line : Counts → List ℕ
 counted_line counts =
-    codes "instances " ++ (decimal counts.instances ++ (codes ", bindings " ++ (decimal counts.bindings
+    codes "instances " ++ (decimal counts.instances
+    ++ (codes ", bindings " ++ (decimal counts.bindings
     ++ (codes ", running " ++ (decimal counts.running ++ codes "\n")))))
 
 abbrev pub database_line : Seen → List ℕ
@@ -55,7 +59,8 @@ pub record IsLookedAt (contents : Contents) (name old new : List ℕ) : Type 0 w
   pub written : new ≡ old ++ database_line seen
 
 -- One file was made of a database file and its log, and needs none. It has their database, and its line was written.
-pub record IsBackedUp (contents : Contents) (IsMade : List ℕ → List ℕ → Type 0) (name to old new : List ℕ) : Type 0 where
+pub record IsBackedUp (contents : Contents) (IsMade : List ℕ → List ℕ → Type 0)
+    (name to old new : List ℕ) : Type 0 where
   pub files : Copied
   pub copy : IsCopyOf contents name files
   pub bytes : List ℕ
@@ -89,7 +94,8 @@ AreAccepted contents (Some name) None = ⊤
 AreAccepted contents (Some name) (Some database) = HasItsPlans contents name database
 
 -- the lines of the settings, and behind them that of the database; a start with the two lacks no plan
-pub record AreChecked (contents : Contents) (explain : Bool) (settings database : Option (List ℕ)) (old new : List ℕ) : Type 0 where
+pub record AreChecked (contents : Contents) (explain : Bool) (settings database : Option (List ℕ))
+    (old new : List ℕ) : Type 0 where
   pub between : List ℕ
   pub settings_checked : AreSettingsChecked contents explain settings old between
   pub database_checked : IsDatabaseChecked contents database between new
@@ -104,7 +110,8 @@ AreConnections contents (name ∷ names) input connections =
 
 -- the replies to the connections of these files, or of the input, were written, from a broker with the settings of
 -- this file, or the built-in ones
-pub record IsReplayedBy (contents : Contents) (file : Option (List ℕ)) (most : ℕ) (names : List (List ℕ)) (input : Option (List ℕ)) (old new : List ℕ) : Type 0 where
+pub record IsReplayedBy (contents : Contents) (file : Option (List ℕ)) (most : ℕ)
+    (names : List (List ℕ)) (input : Option (List ℕ)) (old new : List ℕ) : Type 0 where
   pub settings : SettingsData
   pub are : AreSettingsOf contents file settings
   pub connections : List (List ℕ)
@@ -117,7 +124,8 @@ trimmed_line count before after =
     ++ (codes ", now " ++ (decimal after ++ codes "\n")))))
 
 -- In the place of a database file and its log is one file, in which their lives are trimmed, and the line was written.
-pub record IsTrimmed (contents : Contents) (IsMade : List ℕ → List ℕ → Type 0) (name old new : List ℕ) : Type 0 where
+pub record IsTrimmed (contents : Contents) (IsMade : List ℕ → List ℕ → Type 0)
+    (name old new : List ℕ) : Type 0 where
   pub files : Copied
   pub copy : IsCopyOf contents name files
   pub bytes : List ℕ
@@ -128,15 +136,20 @@ pub record IsTrimmed (contents : Contents) (IsMade : List ℕ → List ℕ → T
 
 -- what `backup` has made and written, what `check` has written, what `serve`, what `trim` has made and written, and what
 -- `replay` has written, also without its name
-pub record IsDone (contents : Contents) (IsMade : List ℕ → List ℕ → Type 0) (found : FoundCommand) (input : Option (List ℕ)) (old new : List ℕ) : Type 0 where
+pub record IsDone (contents : Contents) (IsMade : List ℕ → List ℕ → Type 0) (found : FoundCommand)
+    (input : Option (List ℕ)) (old new : List ℕ) : Type 0 where
   pub backup : Names (codes "backup") found → IsBackedUp contents IsMade
-      (unwrap_or (text_in (codes "database") found) []) (unwrap_or (text_in (codes "to") found) []) old new
+      (unwrap_or (text_in (codes "database") found) []) (unwrap_or (text_in (codes "to") found) [])
+          old new
   pub check : Names (codes "check") found → (explain : Bool) × HasExplain found explain
-      × AreChecked contents explain (text_in (codes "settings") found) (text_in (codes "database") found) old new
+      × AreChecked contents explain (text_in (codes "settings") found)
+          (text_in (codes "database") found) old new
   pub serve : Names (codes "serve") found →
       new ≡ old ++ listening_line (unwrap_or (text_in (codes "listen") found) [])
   pub trim : Names (codes "trim") found →
       IsTrimmed contents IsMade (unwrap_or (text_in (codes "database") found) []) old new
-  pub replay : ¬ Names (codes "backup") found → ¬ Names (codes "check") found → ¬ Names (codes "serve") found
+  pub replay : ¬ Names (codes "backup") found → ¬ Names (codes "check") found →
+      ¬ Names (codes "serve") found
       → ¬ Names (codes "trim") found → (most : ℕ) × HasPerConnection found most
-      × IsReplayedBy contents (text_in (codes "settings") found) most (texts_in (codes "connections") found) input old new
+      × IsReplayedBy contents (text_in (codes "settings") found) most
+          (texts_in (codes "connections") found) input old new

@@ -54,8 +54,11 @@ replay_command = with_rule (with_rule (with_rule (new_app (codes "replay"))
     (text_option (codes "settings"))) per_connection_option) files_word
 
 abbrev pub serve_command : App
-serve_command = with_rule (with_rule (with_rule (with_rule (with_rule (with_rule (with_rule (with_rule (new_app (codes "serve"))
-    (required_option (codes "settings"))) (required_option (codes "database"))) (flag_option (codes "existing")))
+serve_command =
+    with_rule (with_rule (with_rule (with_rule (with_rule (with_rule (with_rule (with_rule
+    (new_app (codes "serve"))
+    (required_option (codes "settings"))) (required_option (codes "database")))
+    (flag_option (codes "existing")))
     (required_option (codes "listen"))) per_connection_option)
     (number_option (codes "connections") 1000000)) (number_option (codes "time-limit") 86400))
     (number_option (codes "together") 1024)
@@ -66,7 +69,8 @@ trim_command = with_rule (new_app (codes "trim")) (required_word (codes "databas
 -- the words come without the program's name, and `help` is no command
 abbrev pub osb_broker : App
 osb_broker = with_subcommand (with_subcommand (with_subcommand (with_subcommand (with_subcommand
-    (on_top (λ s. record s { no_binary_name = true; disable_help_subcommand = true; has_version = true })
+    (on_top (λ s. record s { no_binary_name = true; disable_help_subcommand = true;
+        has_version = true })
     (new_app (codes "osb-broker")))
     backup_command.top) check_command.top) replay_command.top) serve_command.top)
     trim_command.top

@@ -36,7 +36,8 @@ use Rattle.osb_cli.specs.Words.{FoundCommand, Names, text_in, texts_in, one_text
 
 -- as a replay was asked for
 abbrev pub IsReplayedFor : Contents → Replay → Option (List ℕ) → List ℕ → List ℕ → Type 0
-IsReplayedFor contents asked = IsReplayedBy contents (option_map (λ it. it.now) asked.settings) asked.per_connection.number
+IsReplayedFor contents asked =
+    IsReplayedBy contents (option_map (λ it. it.now) asked.settings) asked.per_connection.number
     (map (λ it. it.now) asked.connections.items)
 
 -- a plan that is named as in use is one
@@ -62,7 +63,8 @@ OffersSeen rules (Counted counts plans) = first_lacking rules plans.items ≡ No
 
 -- a plan was seen in use, and is the first that the catalog lacks
 abbrev pub LacksSeen : Rules → Seen → Unserved → Type 0
-LacksSeen rules (Counted counts plans) (PlanInUse service plan) = first_lacking rules plans.items ≡ Some (service, plan)
+LacksSeen rules (Counted counts plans) (PlanInUse service plan) =
+    first_lacking rules plans.items ≡ Some (service, plan)
 LacksSeen rules (Counted counts plans) (Fault fault) = ⊥
 LacksSeen rules New fault = ⊥
 
@@ -93,7 +95,8 @@ pub record AsksReplay (found : FoundCommand) (asked : Replay) : Type 0 where
   pub no_serve : ¬ Names (codes "serve") found
   pub no_trim : ¬ Names (codes "trim") found
   pub settings : option_map (λ it. it.now) asked.settings ≡ text_in (codes "settings") found
-  pub connections : map (λ it. it.now) asked.connections.items ≡ texts_in (codes "connections") found
+  pub connections : map (λ it. it.now) asked.connections.items
+      ≡ texts_in (codes "connections") found
   pub per_connection : HasPerConnection found asked.per_connection.number
 
 pub record AsksServe (found : FoundCommand) (asked : Listen) : Type 0 where
@@ -154,5 +157,6 @@ IsOtherUnserved (PlanInUse service plan) = ⊤
 abbrev pub IsPlacedBy : (List ℕ → Type 0) → SettingsFault → faults.Fault → Type 0
 IsPlacedBy IsText of (fault.Settings found) = found ≡ of
 IsPlacedBy IsText of (fault.Placed found place) = (found ≡ of) × HasPlace IsText of place
-IsPlacedBy IsText of (fault.Unreadable reason) = (of ≡ NoText) × HasReason IsText (string_bytes reason)
+IsPlacedBy IsText of (fault.Unreadable reason) =
+    (of ≡ NoText) × HasReason IsText (string_bytes reason)
 IsPlacedBy IsText of _ = ⊤

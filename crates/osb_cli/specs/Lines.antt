@@ -24,7 +24,8 @@ use Rattle.osb_cli.specs.declared.fault.Unserved.TheVariants as served
 abbrev pub settings_line : SettingsFault → Option Field → List ℕ
 settings_line fault None = concat (codes "settings: " ∷ decimal (fault_number fault) ∷ codes " "
     ∷ fault_name fault ∷ codes "\n" ∷ [])
-settings_line fault (Some field) = concat (codes "settings: " ∷ decimal (fault_number fault) ∷ codes " "
+settings_line fault (Some field) =
+    concat (codes "settings: " ∷ decimal (fault_number fault) ∷ codes " "
     ∷ fault_name fault ∷ codes " " ∷ field_name field ∷ codes "\n" ∷ [])
 
 -- where in the settings it is
@@ -33,7 +34,8 @@ place_line place.File = concat (codes "at the top\n" ∷ [])
 place_line place.Catalog = concat (codes "at catalog\n" ∷ [])
 place_line place.Platform = concat (codes "at platform\n" ∷ [])
 place_line place.Backend = concat (codes "at backend\n" ∷ [])
-place_line (place.Service at) = concat (codes "at catalog.services[" ∷ decimal at ∷ codes "]\n" ∷ [])
+place_line (place.Service at) =
+    concat (codes "at catalog.services[" ∷ decimal at ∷ codes "]\n" ∷ [])
 place_line (place.Plan service at) = concat (codes "at catalog.services[" ∷ decimal service
     ∷ codes "].plans[" ∷ decimal at ∷ codes "]\n" ∷ [])
 place_line (place.Mode name) = concat (codes "at modes." ∷ name ∷ codes "\n" ∷ [])
@@ -56,8 +58,10 @@ unseen_lines cause = database_fault_line (unseen_fault_of cause)
 
 -- those of a fault; the text for words that aren't those of a command is clap's
 abbrev pub fault_lines : Fault → List (List ℕ)
-fault_lines (the.CannotRead name) = concat (codes "osb-broker: cannot read " ∷ name.now ∷ codes "\n" ∷ []) ∷ []
-fault_lines (the.TooLarge name) = concat (codes "osb-broker: too large " ∷ name.now ∷ codes "\n" ∷ []) ∷ []
+fault_lines (the.CannotRead name) =
+    concat (codes "osb-broker: cannot read " ∷ name.now ∷ codes "\n" ∷ []) ∷ []
+fault_lines (the.TooLarge name) =
+    concat (codes "osb-broker: too large " ∷ name.now ∷ codes "\n" ∷ []) ∷ []
 fault_lines the.OutOfMemory = concat (codes "osb-broker: out of memory\n" ∷ []) ∷ []
 fault_lines (the.Database fault) = database_fault_line fault ∷ []
 fault_lines the.CannotWrite = concat (codes "osb-broker: cannot write\n" ∷ []) ∷ []
@@ -66,14 +70,17 @@ fault_lines (the.CannotListen address) =
 fault_lines the.CannotAccept = concat (codes "osb-broker: cannot accept\n" ∷ []) ∷ []
 fault_lines (the.Words text) = concat (string_bytes text ∷ []) ∷ []
 fault_lines (the.Settings fault) = settings_line fault (field_in fault) ∷ []
-fault_lines (the.Placed fault at) = settings_line fault (field_in fault) ∷ place_line at ∷ wanted_line fault at ∷ []
+fault_lines (the.Placed fault at) =
+    settings_line fault (field_in fault) ∷ place_line at ∷ wanted_line fault at ∷ []
 fault_lines (the.Unreadable reason) =
     settings_line a.Text None ∷ concat (string_bytes reason ∷ codes "\n" ∷ []) ∷ []
 fault_lines (the.Unseen cause) = unseen_lines cause
-fault_lines (the.IsThere name) = concat (codes "osb-broker: already there " ∷ name.now ∷ codes "\n" ∷ []) ∷ []
+fault_lines (the.IsThere name) =
+    concat (codes "osb-broker: already there " ∷ name.now ∷ codes "\n" ∷ []) ∷ []
 fault_lines (the.DraftIsThere name) =
     concat (codes "osb-broker: already there " ∷ name.now ∷ codes "-new\n" ∷ []) ∷ []
-fault_lines (the.CannotMake name) = concat (codes "osb-broker: cannot make " ∷ name.now ∷ codes "\n" ∷ []) ∷ []
+fault_lines (the.CannotMake name) =
+    concat (codes "osb-broker: cannot make " ∷ name.now ∷ codes "\n" ∷ []) ∷ []
 
 abbrev pub unserved_lines : Unserved → List (List ℕ)
 unserved_lines (served.Fault fault) = fault_lines fault

@@ -10,7 +10,8 @@ use Rattle.osb_broker.specs.Served.{AreStandard, RunServed}
 
 -- the texts of connections of these bytes were written, one after the other, from a broker over these rules that has no
 -- orders yet and takes up to so many requests of a connection
-pub record IsReplayed (rules : Rules) (most : ℕ) (connections : List (List ℕ)) (old new : List ℕ) : Type 0 where
+pub record IsReplayed (rules : Rules) (most : ℕ) (connections : List (List ℕ))
+    (old new : List ℕ) : Type 0 where
   pub limits : Limits
   pub standard : AreStandard limits
   pub outputs : List (List ℕ)

@@ -36,7 +36,8 @@ HasReason IsText reason = (text : List ℕ) × IsText text × IsReason text (Som
 abbrev pub IsOfText : (List ℕ → Type 0) → Fault → Type 0
 IsOfText IsText (the.Settings fault) = HasFault IsText fault
 IsOfText IsText (the.Placed fault place) = HasFault IsText fault × HasPlace IsText fault place
-IsOfText IsText (the.Unreadable reason) = HasFault IsText Text × HasReason IsText (string_bytes reason)
+IsOfText IsText (the.Unreadable reason) =
+    HasFault IsText Text × HasReason IsText (string_bytes reason)
 IsOfText IsText _ = ⊤
 
 abbrev pub IsUnservedOf : (List ℕ → Type 0) → Unserved → Type 0
@@ -49,22 +50,28 @@ IsTextOf contents None text = text ≡ built_in
 IsTextOf contents (Some name) text = AreBytesOf contents name text
 
 -- of those that the words name; `serve` has no others
-pub record IsSettingsText (contents : Contents) (found : FoundCommand) (text : List ℕ) : Type 0 where
+pub record IsSettingsText (contents : Contents) (found : FoundCommand)
+    (text : List ℕ) : Type 0 where
   pub serve : Names (codes "serve") found → AreBytesOf contents (settings_name found) text
-  pub other : ¬ Names (codes "serve") found → IsTextOf contents (text_in (codes "settings") found) text
+  pub other : ¬ Names (codes "serve") found →
+      IsTextOf contents (text_in (codes "settings") found) text
 
 -- the fault has this status, and its lines were written
-pub record IsReported (fault : Unserved) (status : ℕ) (old new : List ℕ) (failed_old failed_new : ℕ) : Type 0 where
+pub record IsReported (fault : Unserved) (status : ℕ) (old new : List ℕ)
+    (failed_old failed_new : ℕ) : Type 0 where
   pub is : status ≡ unserved_status fault
   pub lines : Says (unserved_lines fault) old new failed_old failed_new
 
 -- a fault was reported, and if it is one of settings, they have it
-pub record Reports (contents : Contents) (found : FoundCommand) (status : ℕ) (old new : List ℕ) (failed_old failed_new : ℕ) : Type 0 where
+pub record Reports (contents : Contents) (found : FoundCommand) (status : ℕ) (old new : List ℕ)
+    (failed_old failed_new : ℕ) : Type 0 where
   pub fault : Unserved
   pub has : IsUnservedOf (IsSettingsText contents found) fault
   pub reported : IsReported fault status old new failed_old failed_new
 
 -- Status 0 says that serving ended well, and nothing was written behind it. Behind any other its fault was reported.
-pub record IsStatusOf (contents : Contents) (found : FoundCommand) (ended : Result (Unit {0}) ListenFault) (status : ℕ) (old new : List ℕ) (failed_old failed_new : ℕ) : Type 0 where
+pub record IsStatusOf (contents : Contents) (found : FoundCommand)
+    (ended : Result (Unit {0}) ListenFault) (status : ℕ) (old new : List ℕ)
+    (failed_old failed_new : ℕ) : Type 0 where
   pub well : status ≡ 0 → IsOk ended × (new ≡ old)
   pub other : 1 ≤ status → Reports contents found status old new failed_old failed_new

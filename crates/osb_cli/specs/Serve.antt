@@ -19,14 +19,16 @@ abbrev pub settings_name : FoundCommand → List ℕ
 settings_name found = unwrap_or (text_in (codes "settings") found) []
 
 -- what serving by the settings of a file leaves, where the database file held these trees
-pub record Leaves (contents : Contents) (name : List ℕ) (per_connection : ℕ) (existing : Bool) (db : Trees) (serving : Serving) (now : State) : Type 0 where
+pub record Leaves (contents : Contents) (name : List ℕ) (per_connection : ℕ) (existing : Bool)
+    (db : Trees) (serving : Serving) (now : State) : Type 0 where
   pub settings : SettingsData
   pub are : AreOfFile contents name settings
   pub leaves : LeavesFile (rules_of settings) per_connection existing db serving now
 
 -- by the settings that the words name, with as many requests of each client as they say, and from an existing database
 -- where they ask for one
-pub record LeavesAs (contents : Contents) (found : FoundCommand) (db : Trees) (serving : Serving) (now : State) : Type 0 where
+pub record LeavesAs (contents : Contents) (found : FoundCommand) (db : Trees) (serving : Serving)
+    (now : State) : Type 0 where
   pub per_connection : ℕ
   pub of_each : HasPerConnection found per_connection
   pub existing : Bool
@@ -34,13 +36,17 @@ pub record LeavesAs (contents : Contents) (found : FoundCommand) (db : Trees) (s
   pub left : Leaves contents (settings_name found) per_connection existing db serving now
 
 -- as many clients as the words say were served, or fewer
-pub record HasServedAs (found : FoundCommand) (serving : Serving) (journal_old journal_new : List Conversation) (said_old said_new : List ℕ) (failed_old failed_new : ℕ) : Type 0 where
+pub record HasServedAs (found : FoundCommand) (serving : Serving)
+    (journal_old journal_new : List Conversation) (said_old said_new : List ℕ)
+    (failed_old failed_new : ℕ) : Type 0 where
   pub connections : ℕ
   pub of_all : HasConnections found connections
-  pub served : HasServed connections serving journal_old journal_new said_old said_new failed_old failed_new
+  pub served : HasServed connections serving journal_old journal_new said_old said_new failed_old
+      failed_new
 
 -- the settings of a file lack this plan, which the lives in these trees have in use
-pub record LacksPlan (contents : Contents) (name : List ℕ) (db : Trees) (service plan : List ℕ) : Type 0 where
+pub record LacksPlan (contents : Contents) (name : List ℕ) (db : Trees)
+    (service plan : List ℕ) : Type 0 where
   pub settings : SettingsData
   pub are : AreOfFile contents name settings
   pub lacks : IsInUse (rules_of settings) db service plan
@@ -58,7 +64,8 @@ MayFindPlans found = Names (codes "serve") found ⊎ Names (codes "check") found
 -- some plan that the database which the words name has in use is lacking
 abbrev pub FindsSome : Contents → FoundCommand → Type 0
 FindsSome contents found = (service plan : List ℕ)
-    × LacksPlanOf contents (settings_name found) (unwrap_or (text_in (codes "database") found) []) service plan
+    × LacksPlanOf contents (settings_name found) (unwrap_or (text_in (codes "database") found) [])
+        service plan
 
 -- some plan that the lives in these trees have in use is lacking
 abbrev pub NamesSome : Contents → FoundCommand → Trees → Type 0

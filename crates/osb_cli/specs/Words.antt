@@ -35,7 +35,8 @@ one_text_in id = option_and_then (λ it. one_of id it.1)
 abbrev pub HasNumber : ℕ → ℕ → Option (List ℕ) → ℕ → Type 0
 HasNumber most other None n = n ≡ other
 HasNumber most other (Some text) n = let digits = without_leading_plus text in
-    IsNumeral 10 digits → 1 ≤ digits_value 10 digits → digits_value 10 digits ≤ most → n ≡ digits_value 10 digits
+    IsNumeral 10 digits → 1 ≤ digits_value 10 digits → digits_value 10 digits ≤ most →
+        n ≡ digits_value 10 digits
 
 -- whether a flag of this text is given: clap has the text `true` where it is, and none where it isn't
 abbrev pub HasFlag : Option (List ℕ) → Bool → Type 0
@@ -59,4 +60,5 @@ abbrev pub default_together : ℕ → ℕ
 default_together per_connection = if per_connection == 1 then 64 else 1
 
 abbrev pub HasTogether : FoundCommand → ℕ → ℕ → Type 0
-HasTogether found per_connection = HasNumber 1024 (default_together per_connection) (one_text_in (codes "together") found)
+HasTogether found per_connection =
+    HasNumber 1024 (default_together per_connection) (one_text_in (codes "together") found)

@@ -17,4 +17,6 @@ ended_over _ _ context = None
 
 -- the order's context is the one that the entries have for it
 abbrev pub contexts_ended : List ℕ → Order → List ContextEntry → List ContextEntry
-contexts_ended id order contexts = standing_set false (ended_over order.kind order.outcome.state (context_at contexts id order.number)) id contexts
+contexts_ended id order contexts =
+    standing_set false (ended_over order.kind order.outcome.state
+        (context_at contexts id order.number)) id contexts

@@ -28,7 +28,8 @@ is_below id row = is_lt (value_cmp (rowid row) id)
 -- a row is shown with its id, and with 1 where it has the id of an instance
 pub record ShowsNamed (shown : Row → Row) : Type 0 where
   pub ids : (row : Row) → rowid (shown row) ≡ rowid row
-  pub named : (row : Row) → (column (shown row) 1 ≡ Int (pos 1)) ↔ (is_row_between [] beyond row ≡ true)
+  pub named : (row : Row) →
+      (column (shown row) 1 ≡ Int (pos 1)) ↔ (is_row_between [] beyond row ≡ true)
 
 -- The rows show the first so many of those that pass, by their ids.
 pub record IsPage (passes : Row → Bool) (most : ℕ) (table rows : List Row) : Type 0 where

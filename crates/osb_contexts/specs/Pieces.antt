@@ -25,7 +25,8 @@ has_instances tree = tree == 1 || tree == 3 || tree == 5 || tree == 7
 
 -- the trees with the rows of these instances only
 abbrev pub piece : List ℕ → Value → Trees → Trees
-piece after to db tree = if has_instances tree then filter (is_row_between after to) (db tree) else db tree
+piece after to db tree =
+    if has_instances tree then filter (is_row_between after to) (db tree) else db tree
 
 -- each row has the id of an instance, which isn't empty
 abbrev pub AreNamed : List Row → Type 0

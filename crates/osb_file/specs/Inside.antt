@@ -27,7 +27,8 @@ IsSeenOf lives (Counted counts plans) = AreCounts lives counts × (plans.items �
 abbrev pub IsSeenIn : Database → Seen → Type 0
 IsSeenIn db New = db.schema ≡ no_schema
 IsSeenIn db (Counted counts plans) = (db.schema ≢ no_schema)
-    × ((lives : Lives) × AreLivesOfDatabase db lives × AreCounts lives counts × (plans.items ≡ plans_in_use lives))
+    × ((lives : Lives) × AreLivesOfDatabase db lives × AreCounts lives counts
+        × (plans.items ≡ plans_in_use lives))
 
 -- any trees that a file has are these, in which so much of everything is
 abbrev pub IsCountedIn : Image → Counts → Type 0
@@ -37,7 +38,8 @@ IsCountedIn file counts =
 -- with these lives, the instance has this one too, and every other instance has its own
 pub record HasLifeToo (lives : Lives) (id : List ℕ) (life : Life) (new : Lives) : Type 0 where
   pub here : life_of new id ≡ life
-  pub others : (other : List ℕ) → bytes_eq other id ≡ false → life_of new other ≡ life_of lives other
+  pub others : (other : List ℕ) → bytes_eq other id ≡ false →
+      life_of new other ≡ life_of lives other
 
 -- the two files have no other trees than these, and the lives in them are those that the records show
 pub record IsOfFiles (both : Image) (s : State) : Type 0 where

@@ -22,4 +22,5 @@ pub record HoldsLivesOf (bytes : List ℕ) (lives : Lives) : Type 0 where
 
 -- The lives of both files are in one file, trimmed.
 abbrev pub IsTrimmedInOne : Image → List ℕ → Type 0
-IsTrimmedInOne both bytes = (lives : Lives) × HaveLives both lives × HoldsLivesOf bytes (trimmed_lives lives)
+IsTrimmedInOne both bytes =
+    (lives : Lives) × HaveLives both lives × HoldsLivesOf bytes (trimmed_lives lives)

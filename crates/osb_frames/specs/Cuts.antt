@@ -63,7 +63,6 @@ abbrev pub front_of : Limits → RequestHead → List ℕ → Front
 front_of limits h rest =
     option_map_or fault (fault_of limits h.minor (lines_of h)) (with_body h rest (body_length (lines_of h)))
 
--- what is at the front of bytes
 pub data IsFront (limits : Limits) (bytes : List ℕ) (front : Front) : Type 0 where
   empty : bytes ≡ [] → front ≡ nothing → IsFront limits bytes front
   headless : 0 < length bytes → HasNoHead limits bytes → front ≡ fault NoHead → IsFront limits bytes front
@@ -80,8 +79,7 @@ EndsAt limits bytes ended = IsFront limits bytes nothing
 EndsAt limits bytes (stopped f) = IsFront limits bytes (fault f)
 EndsAt limits bytes closed = ⊥
 
--- The bytes of a connection on which k requests may come are these requests, with that end. The first request is what
--- is at the front. None comes after the k-th, nor after one that closes.
+-- the bytes are these requests, and then that end; none comes after the k-th, nor after one that closes
 abbrev pub Cuts : Limits → ℕ → List ℕ → List Message → End → Type 0
 Cuts limits zero bytes requests end = (requests ≡ []) × (end ≡ closed)
 Cuts limits (suc k) bytes [] end = EndsAt limits bytes end

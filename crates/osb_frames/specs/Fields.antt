@@ -24,7 +24,6 @@ abbrev pub lists_item : List ℕ → List ℕ → Bool
 lists_item word value =
     list_any (λ item. same_ignoring_case (trim_ows item) word) (slice_split (λ b. b == 44) value)
 
--- 1 to 19 digits
 abbrev pub is_number : List ℕ → Bool
 is_number value = nat_lt 0 (length value) && (nat_le (length value) 19 && list_all is_ascii_digit value)
 
@@ -32,8 +31,7 @@ is_number value = nat_lt 0 (length value) && (nat_le (length value) 19 && list_a
 unfoldable pub digits_number : List ℕ → Option ℕ
 digits_number value = if is_number value then Some (digits_value 10 value) else None
 
--- the length of the body, from the values of Content-Length (RFC 9112, 6.3): 0 where there is none, and no
--- length where there are several
+-- the length of the body by the values of Content-Length (RFC 9112, 6.3): 0 without one, no length with several
 abbrev pub length_given : List (List ℕ) → Option ℕ
 length_given [] = Some 0
 length_given (value ∷ []) = digits_number value

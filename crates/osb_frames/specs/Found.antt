@@ -10,7 +10,8 @@ use Rattle.osb_frames.specs.Heads.{HeadAt, HasNoHead, lines_of}
 use Rattle.osb_frames.specs.Steps.{message}
 
 -- q has the parts of the head h, which has n bytes, at the front of bytes
-pub record HoldsHead (limits : Limits) (bytes : List ℕ) (q : Request) (n : ℕ) (h : RequestHead) : Type 0 where
+pub record HoldsHead (limits : Limits) (bytes : List ℕ) (q : Request) (n : ℕ)
+    (h : RequestHead) : Type 0 where
   pub head : HeadAt limits bytes h (drop n bytes)
   pub len : n ≡ length (print_request h)
   pub method : q.method.now ≡ h.method
@@ -21,6 +22,9 @@ pub record HoldsHead (limits : Limits) (bytes : List ℕ) (q : Request) (n : ℕ
 
 abbrev pub IsFound : Limits → List ℕ → FoundOf Request → Type 0
 IsFound limits bytes (found.Head q n) = (h : RequestHead) × HoldsHead limits bytes q n h
-IsFound limits bytes found.Unfinished = HasNoHead limits bytes × (length bytes < limits.head) × MayBecomeRequest bytes
-IsFound limits bytes found.TooManyFields = ((more : List ℕ) → HasNoHead limits (bytes ++ more)) × (length bytes < limits.head) × RequestExceeds limits.fields bytes
+IsFound limits bytes found.Unfinished =
+    HasNoHead limits bytes × (length bytes < limits.head) × MayBecomeRequest bytes
+IsFound limits bytes found.TooManyFields =
+    ((more : List ℕ) → HasNoHead limits (bytes ++ more)) × (length bytes < limits.head)
+    × RequestExceeds limits.fields bytes
 IsFound limits bytes found.Never = (more : List ℕ) → HasNoHead limits (bytes ++ more)

@@ -25,7 +25,9 @@ MayBecomeHead limits bytes = MayBecomeRequest bytes ⊎ RequestExceeds limits.fi
 
 -- a head is at the front of the bytes, or they may begin one yet
 abbrev pub IsHopeful : Limits → List ℕ → Type 0
-IsHopeful limits bytes = ((h : RequestHead) × (rest : List ℕ) × HeadAt limits bytes h rest) ⊎ ((bytes ≡ []) ⊎ MayBecomeRequest bytes)
+IsHopeful limits bytes =
+    ((h : RequestHead) × (rest : List ℕ) × HeadAt limits bytes h rest)
+    ⊎ ((bytes ≡ []) ⊎ MayBecomeRequest bytes)
 
 -- the names and the values of the field lines of a head
 abbrev pub lines_of : RequestHead → List Line

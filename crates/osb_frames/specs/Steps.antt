@@ -31,7 +31,8 @@ ReportsFault limits bytes over f = IsFront limits bytes (fault f)
 -- no head is there yet, the limit of a head isn't reached, and a head may still come
 abbrev pub Waits : Limits → List ℕ → Type 0
 Waits limits bytes =
-    HasNoHead limits bytes × (length bytes < limits.head) × ((bytes ≡ []) ⊎ MayBecomeHead limits bytes)
+    HasNoHead limits bytes × (length bytes < limits.head)
+    × ((bytes ≡ []) ⊎ MayBecomeHead limits bytes)
 
 -- a step says what is at the front of the bytes, or wants more of them: a body lacks a part, or a head may come
 abbrev pub Says : Limits → List ℕ → Bool → Step Request → Type 0
@@ -43,11 +44,13 @@ Says limits bytes over More = IsFalse over × (IsFront limits bytes (fault Cut) 
 -- the fault is there whatever follows, or it is what the end of the input makes of the bytes
 abbrev pub FaultStays : Limits → List ℕ → Bool → StopKind → Type 0
 FaultStays limits bytes over f =
-    ((more : List ℕ) → IsFront limits (bytes ++ more) (fault f)) ⊎ (IsFront limits bytes (fault f) × IsTrue over)
+    ((more : List ℕ) → IsFront limits (bytes ++ more) (fault f))
+        ⊎ (IsFront limits bytes (fault f) × IsTrue over)
 
 -- what is said is there whatever follows
 abbrev pub Stays : Limits → List ℕ → Bool → Step Request → Type 0
-Stays limits bytes over (Whole q n) = (more : List ℕ) → IsFront limits (bytes ++ more) (whole (message q) n)
+Stays limits bytes over (Whole q n) =
+    (more : List ℕ) → IsFront limits (bytes ++ more) (whole (message q) n)
 Stays limits bytes over (Stop f) = FaultStays limits bytes over f
 Stays limits bytes over _ = ⊤
 

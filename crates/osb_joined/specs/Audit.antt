@@ -19,7 +19,8 @@ pub record HaveNoContexts (orders : List Entry) (instances : List InstanceEntry)
 
 -- each list rises strictly by its keys, the orders make up well-formed lives with the contexts, and the rows and the
 -- contexts are theirs
-pub record AreRowsWithContexts (contexts : List ContextEntry) (orders : List Entry) (instances : List InstanceEntry) (bindings : List BindingEntry) : Type 0 where
+pub record AreRowsWithContexts (contexts : List ContextEntry) (orders : List Entry)
+    (instances : List InstanceEntry) (bindings : List BindingEntry) : Type 0 where
   pub rise : AreSorted orders instances bindings
   pub lives : IsLives (joined_lives contexts (lives_in orders))
   pub instances_stand : InstancesStand (lives_in orders) instances

@@ -16,7 +16,8 @@ use Rattle.osb_bare.specs.Context.{standing_context}
 use Rattle.osb_joined.specs.declared.entry.ContextEntry.{ContextEntry}
 
 abbrev pub context_entry : List ℕ → ℕ → List ℕ → ContextEntry
-context_entry instance number context = record { instance = instance; number = number; context = context }
+context_entry instance number context =
+    record { instance = instance; number = number; context = context }
 
 -- the order of the keys: by the instance, and then by the number
 abbrev pub context_cmp : ContextEntry → ContextEntry → Ordering
@@ -45,8 +46,11 @@ context_of_standing id standing = context_entry id 0 (standing_context standing)
 -- none where the instance never had an order
 abbrev pub contexts_of_instance : List ℕ → Life → List ContextEntry
 contexts_of_instance id [] = []
-contexts_of_instance id (order ∷ later) = context_of_standing id (standing_of (order ∷ later)) ∷ map (context_of_order id) (order ∷ later)
+contexts_of_instance id (order ∷ later) =
+    context_of_standing id (standing_of (order ∷ later)) ∷ map (context_of_order id) (order ∷ later)
 
 -- those of all instances, in the order of their ids
 abbrev pub contexts_of : Lives → List ContextEntry
-contexts_of lives = flat_map (λ (instance : List ℕ × Life). contexts_of_instance instance.0 instance.1) (entries lives)
+contexts_of lives =
+    flat_map (λ (instance : List ℕ × Life). contexts_of_instance instance.0 instance.1)
+    (entries lives)

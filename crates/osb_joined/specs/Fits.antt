@@ -10,4 +10,5 @@ fits_order context entry = bytes_eq context.instance entry.0 && (context.number 
 
 -- it is of this row; what is absent has no context
 abbrev pub fits_row : ContextEntry → InstanceEntry → Bool
-fits_row context entry = bytes_eq context.instance entry.0 && (is_some entry.1.standing || (length context.context == 0))
+fits_row context entry =
+    bytes_eq context.instance entry.0 && (is_some entry.1.standing || (length context.context == 0))

@@ -29,12 +29,15 @@ pub record AreOrdersWith (contexts : List ContextEntry) (orders joined : List En
   pub contexts_are : filter is_of_order contexts ≡ map context_of_entry joined
 
 -- the same of rows
-pub record AreRowsWith (contexts : List ContextEntry) (instances joined : List InstanceEntry) : Type 0 where
+pub record AreRowsWith (contexts : List ContextEntry)
+    (instances joined : List InstanceEntry) : Type 0 where
   pub same : map bare_instance_entry joined ≡ map bare_instance_entry instances
   pub contexts_are : filter is_of_standing contexts ≡ map context_of_row joined
 
 -- both, of contexts in the order of their keys
-pub record AreJoined (contexts : List ContextEntry) (orders : List Entry) (instances : List InstanceEntry) (joined_orders : List Entry) (joined_instances : List InstanceEntry) : Type 0 where
+pub record AreJoined (contexts : List ContextEntry) (orders : List Entry)
+    (instances : List InstanceEntry) (joined_orders : List Entry)
+    (joined_instances : List InstanceEntry) : Type 0 where
   pub rising : AreRising contexts
   pub orders_with : AreOrdersWith contexts orders joined_orders
   pub rows_with : AreRowsWith contexts instances joined_instances

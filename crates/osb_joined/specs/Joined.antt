@@ -23,7 +23,8 @@ abbrev pub order_with : List ℕ → Order → Order
 order_with context order = record order { attributes = attributes_with context order.attributes }
 
 abbrev pub standing_with : List ℕ → Standing → Standing
-standing_with context standing = record standing { attributes = attributes_with context standing.attributes }
+standing_with context standing =
+    record standing { attributes = attributes_with context standing.attributes }
 
 abbrev pub row_with : List ℕ → InstanceRow → InstanceRow
 row_with context row = record row { standing = option_map (standing_with context) row.standing }

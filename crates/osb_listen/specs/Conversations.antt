@@ -28,17 +28,23 @@ ended_by (suc writes) reads = Err Write
 
 -- the line of each conversation, by how it ended
 abbrev pub lines_of : List Conversation → List (List ℕ)
-lines_of conversations = map (λ c. line_of (ended_by c.failed (failure_count c.calls))) conversations
+lines_of conversations =
+    map (λ c. line_of (ended_by c.failed (failure_count c.calls))) conversations
 
 -- The conversations lead from the lives of one state of the store to those of another. So they do to the lives in
 -- whatever a crash leaves then.
-pub record LeadTo (rules : Rules) (limits : Limits) (k : ℕ) (old new : State) (conversations : List Conversation) : Type 0 where
-  pub lives : (before after : Lives) → LivesGo old new before after → AreConversations rules limits k before conversations after
-  pub left : Works old → HasCleanDisk new → LeavesLives new (λ t. AreConversations rules limits k (stored old) conversations t)
+pub record LeadTo (rules : Rules) (limits : Limits) (k : ℕ) (old new : State)
+    (conversations : List Conversation) : Type 0 where
+  pub lives : (before after : Lives) → LivesGo old new before after →
+      AreConversations rules limits k before conversations after
+  pub left : Works old → HasCleanDisk new →
+      LeavesLives new (λ t. AreConversations rules limits k (stored old) conversations t)
 
 -- These conversations are the journal's last, they lead from the lives of one state of the store to those of another, and
 -- their lines were written on standard error, where requests that were refused have lines too.
-pub record Serves (rules : Rules) (limits : Limits) (k : ℕ) (conversations : List Conversation) (old new : State) (journal_old journal_new : List Conversation) (said_old said_new : List ℕ) (failed_old failed_new : ℕ) : Type 0 where
+pub record Serves (rules : Rules) (limits : Limits) (k : ℕ) (conversations : List Conversation)
+    (old new : State) (journal_old journal_new : List Conversation) (said_old said_new : List ℕ)
+    (failed_old failed_new : ℕ) : Type 0 where
   pub journal : journal_new ≡ journal_old ++ conversations
   pub lead : LeadTo rules limits k old new conversations
   pub lines : SaysWithRefused (lines_of conversations) said_old said_new failed_old failed_new

@@ -43,15 +43,18 @@ AreBefore (Err CannotAccept) lines = (origin : Origin) × (lines ≡ origin_line
 AreBefore (Err FileTaken) lines = (origin : Origin) × (lines ≡ origin_line origin ∷ [])
 
 -- The conversations are the journal's last, as many as were asked for or fewer, and the lines were written.
-pub record HasServed (all : ℕ) (serving : Serving) (journal_old journal_new : List Conversation) (said_old said_new : List ℕ) (failed_old failed_new : ℕ) : Type 0 where
+pub record HasServed (all : ℕ) (serving : Serving) (journal_old journal_new : List Conversation)
+    (said_old said_new : List ℕ) (failed_old failed_new : ℕ) : Type 0 where
   pub journal : journal_new ≡ journal_old ++ serving.conversations
   pub many : AreAsMany serving.ended all (length serving.conversations)
   pub first : AreBefore serving.ended serving.before
-  pub lines : SaysWithRefused (serving.before ++ lines_of serving.conversations) said_old said_new failed_old failed_new
+  pub lines : SaysWithRefused (serving.before ++ lines_of serving.conversations) said_old said_new
+      failed_old failed_new
 
 -- The conversations lead, within the standard limits, from the lives in these trees to others. A database without tables
 -- is begun, and any other is served on, as the line before says; none is begun where an existing one was asked for.
-pub record ServesFrom (rules : Rules) (k : ℕ) (existing : Bool) (db : Trees) (serving : Serving) (new : Lives) : Type 0 where
+pub record ServesFrom (rules : Rules) (k : ℕ) (existing : Bool) (db : Trees) (serving : Serving)
+    (new : Lives) : Type 0 where
   pub old : Lives
   pub are_in : AreLivesOf db old
   pub origin : Origin
@@ -82,21 +85,29 @@ NoBroker rules db FileTaken = ⊥
 
 -- what serving leaves of a file that held these trees, by how it ended: it isn't served from, or the conversations lead to
 -- its lives
-abbrev pub LeavesWith : Rules → ℕ → Bool → Trees → Serving → Lives → Result (Unit {0}) ListenFault → Type 0
+abbrev pub LeavesWith : Rules → ℕ → Bool → Trees → Serving → Lives → Result (Unit {0}) ListenFault →
+    Type 0
 LeavesWith rules k existing db serving new (Ok x) = ServesFrom rules k existing db serving new
-LeavesWith rules k existing db serving new (Err (Database fault)) = NoBroker rules db (Database fault)
-LeavesWith rules k existing db serving new (Err (PlanInUse service plan)) = IsInUse rules db service plan
+LeavesWith rules k existing db serving new (Err (Database fault)) =
+    NoBroker rules db (Database fault)
+LeavesWith rules k existing db serving new (Err (PlanInUse service plan)) =
+    IsInUse rules db service plan
 LeavesWith rules k existing db serving new (Err Memory) = ServesFrom rules k existing db serving new
-LeavesWith rules k existing db serving new (Err CannotListen) = ServesFrom rules k existing db serving new
-LeavesWith rules k existing db serving new (Err CannotWrite) = ServesFrom rules k existing db serving new
-LeavesWith rules k existing db serving new (Err CannotAccept) = ServesFrom rules k existing db serving new
-LeavesWith rules k existing db serving new (Err FileTaken) = ServesFrom rules k existing db serving new
+LeavesWith rules k existing db serving new (Err CannotListen) =
+    ServesFrom rules k existing db serving new
+LeavesWith rules k existing db serving new (Err CannotWrite) =
+    ServesFrom rules k existing db serving new
+LeavesWith rules k existing db serving new (Err CannotAccept) =
+    ServesFrom rules k existing db serving new
+LeavesWith rules k existing db serving new (Err FileTaken) =
+    ServesFrom rules k existing db serving new
 
 abbrev pub LeavesOf : Rules → ℕ → Bool → Trees → Serving → Lives → Type 0
 LeavesOf rules k existing db serving new = LeavesWith rules k existing db serving new serving.ended
 
 -- the conversations lead, within the standard limits, from the lives old to those in these trees
-pub record LeadInto (rules : Rules) (k : ℕ) (old : Lives) (conversations : List Conversation) (left : Trees) : Type 0 where
+pub record LeadInto (rules : Rules) (k : ℕ) (old : Lives) (conversations : List Conversation)
+    (left : Trees) : Type 0 where
   pub lives : Lives
   pub are_in : AreLivesOf left lives
   pub limits : Limits
@@ -105,10 +116,13 @@ pub record LeadInto (rules : Rules) (k : ℕ) (old : Lives) (conversations : Lis
 
 -- What serving leaves of a file that held these trees: the lives that the store has, where it works, and those in whatever
 -- a crash leaves now.
-pub record LeavesFile (rules : Rules) (k : ℕ) (existing : Bool) (db : Trees) (serving : Serving) (now : State) : Type 0 where
+pub record LeavesFile (rules : Rules) (k : ℕ) (existing : Bool) (db : Trees) (serving : Serving)
+    (now : State) : Type 0 where
   pub works : Works now → LeavesOf rules k existing db serving (stored now)
-  pub crash : HasCleanDisk now → (old : Lives) → AreLivesOf db old → (left : Trees) → now.may_leave left → LeadInto rules k old serving.conversations left
+  pub crash : HasCleanDisk now → (old : Lives) → AreLivesOf db old → (left : Trees) →
+      now.may_leave left → LeadInto rules k old serving.conversations left
 
 -- why there is no file to open: it is refused, or lacks where an existing one was asked for
 abbrev pub IsOfFile : Bool → ListenFault → Type 0
-IsOfFile existing fault = (fault ≡ Database Refused) ⊎ ((existing ≡ true) × (fault ≡ Database Missing))
+IsOfFile existing fault =
+    (fault ≡ Database Refused) ⊎ ((existing ≡ true) × (fault ≡ Database Missing))

@@ -21,7 +21,8 @@ AreWrittenInPart (text ∷ texts) old new =
 
 -- The lines were written, each up to some byte, and whole where no write failed: so many had failed before, and so many
 -- have now.
-pub record Says (lines : List (List ℕ)) (old new : List ℕ) (failed_old failed_new : ℕ) : Type 0 where
+pub record Says (lines : List (List ℕ)) (old new : List ℕ)
+    (failed_old failed_new : ℕ) : Type 0 where
   pub in_part : AreWrittenInPart lines old new
   pub later : failed_old ≤ failed_new
   pub whole : failed_new ≡ failed_old → new ≡ old ++ concat lines
@@ -44,7 +45,8 @@ abbrev pub refused_line : Cause → ℕ → List ℕ
 refused_line cause count =
     if count == 1
     then concat (codes "request: 500 " ∷ cause_words cause ∷ codes "\n" ∷ [])
-    else concat (codes "request: 500 " ∷ cause_words cause ∷ codes ", " ∷ decimal count ∷ codes " times\n" ∷ [])
+    else concat (codes "request: 500 " ∷ cause_words cause ∷ codes ", " ∷ decimal count
+        ∷ codes " times\n" ∷ [])
 
 pub record IsRefusedLine (line : List ℕ) : Type 0 where
   pub cause : Cause
@@ -60,7 +62,8 @@ AddsRefused lines (line ∷ all) =
     ⊎ ((rest : List (List ℕ)) × (lines ≡ line ∷ rest) × AddsRefused rest all)
 
 -- These lines were written, and at most lines of requests that were refused beside them.
-pub record SaysWithRefused (lines : List (List ℕ)) (old new : List ℕ) (failed_old failed_new : ℕ) : Type 0 where
+pub record SaysWithRefused (lines : List (List ℕ)) (old new : List ℕ)
+    (failed_old failed_new : ℕ) : Type 0 where
   pub all : List (List ℕ)
   pub adds : AddsRefused lines all
   pub says : Says all old new failed_old failed_new

@@ -20,4 +20,5 @@ misses_of e = e.misses.items
 -- the conversation with such a client
 abbrev pub conversation_with : Counted Incoming × (Counted Outgoing × Bool) → Conversation
 conversation_with (input, (output, met_fault)) =
-    conversation_of (calls_of input) (all_bytes (calls_of output)) (failed_or_empty_count (calls_of output)) met_fault
+    conversation_of (calls_of input) (all_bytes (calls_of output))
+        (failed_or_empty_count (calls_of output)) met_fault

@@ -15,7 +15,6 @@ use Rattle.osb_machine.specs.Decision.{Decision, refuses, gone}
 use Rattle.osb_machine.specs.Plans.{instances_are_asynchronous}
 use Rattle.osb_machine.specs.Opened.{Opening, instance_opening, opened, accepted, is_busy}
 
--- with what the instance has
 abbrev pub deletion : Rules → Attributes → Deprovision → Opening
 deletion rules instance ask =
     let asynchronous = instances_are_asynchronous rules instance.plan in

@@ -22,12 +22,15 @@ abbrev pub kept_credentials : ReportState → Report → Order → Json
 kept_credentials said.Succeeded ask order = if is_a Bind order then ask.credentials else empty_object
 kept_credentials said.Failed ask order = empty_object
 
--- the outcome that the report gives the order
 abbrev pub kept_outcome : Report → Order → Outcome
-kept_outcome ask order = record { state = reported_state ask.state; description = ask.description; credentials = kept_credentials ask.state ask order }
+kept_outcome ask order =
+    record { state = reported_state ask.state; description = ask.description;
+        credentials = kept_credentials ask.state ask order }
 
 abbrev pub is_outcome : Outcome → Outcome → Bool
-is_outcome one other = state_number one.state == state_number other.state && bytes_eq one.description other.description && bytes_eq one.credentials other.credentials
+is_outcome one other =
+    state_number one.state == state_number other.state && bytes_eq one.description other.description
+    && bytes_eq one.credentials other.credentials
 
 -- An order that runs ends; one that ended so is done; one that ended in another way stays.
 abbrev pub reported_on : Order → Outcome → Decision

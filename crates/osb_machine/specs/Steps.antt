@@ -6,7 +6,8 @@ use Rattle.osb_machine.specs.Decision.{Decision}
 use Rattle.osb_machine.specs.Opened.{Opening}
 
 abbrev pub decision : AnswerAndChange → Decision
-decision step = record { status = step.answer.status; body = body_bytes step.answer.body; change = step.change }
+decision step =
+    record { status = step.answer.status; body = body_bytes step.answer.body; change = step.change }
 
 abbrev pub opening_of : declared.Opening → Opening
 opening_of opening = record {

@@ -15,8 +15,7 @@ use Rattle.osb_orders.specs.Lists.{from_last, last_where}
 use Rattle.osb_orders.specs.Orders.{is_a, has_succeeded, is_of_binding, empty_object}
 use Rattle.osb_orders.specs.Life.{Life, since_birth}
 
--- The birth of a binding is the last Bind of its id after which no Unbind of that id succeeded. These are the orders from
--- it on; where the binding is absent there are none.
+-- from its birth on: the last Bind of the id after which no Unbind of it succeeded; nothing where the binding is absent
 abbrev pub since_bind : Id → Life → Life
 since_bind id life =
     let orders = from_last (λ order. is_a Bind order && is_of_binding id order) life in
@@ -43,12 +42,13 @@ of_binding attributes = record attributes { maintenance = []; context = empty_ob
 -- the attributes and the credentials are those of the Bind
 abbrev pub binding_since : Id → Life → Option BindingNow
 binding_since id [] = None
-binding_since id (bind ∷ later) = Some (record { phase = binding_phase_since id bind later; attributes = of_binding bind.attributes; credentials = bind.outcome.credentials })
+binding_since id (bind ∷ later) =
+    Some (record { phase = binding_phase_since id bind later;
+        attributes = of_binding bind.attributes; credentials = bind.outcome.credentials })
 
 -- the binding, unless it is absent
 abbrev pub binding_of : Id → Life → Option BindingNow
 binding_of id life = binding_since id (since_bind id (since_birth life))
 
--- some binding isn't absent
 abbrev pub has_bindings : Life → Bool
 has_bindings life = list_any (λ order. is_some (binding_of order.binding life)) life

@@ -19,8 +19,7 @@ use Rattle.osb_orders.specs.Orders.{is_a, has_succeeded, is_of_instance}
 abbrev pub Life : Type 0
 Life = List Order
 
--- The birth is the last Create after which no Delete succeeded. These are the orders from the birth on; where the
--- instance is absent there are none.
+-- from its birth on: the last Create after which no Delete succeeded; nothing where the instance is absent
 abbrev pub since_birth : Life → Life
 since_birth life =
     let orders = from_last (is_a Create) life in

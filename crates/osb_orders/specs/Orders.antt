@@ -41,7 +41,6 @@ is_now state order = state_number order.outcome.state == state_number state
 abbrev pub has_succeeded : OrderKind → Order → Bool
 has_succeeded kind order = is_a kind order && is_now Succeeded order
 
--- a Bind or an Unbind
 abbrev pub is_about_binding : OrderKind → Bool
 is_about_binding Bind = true
 is_about_binding Unbind = true
@@ -51,7 +50,6 @@ is_about_binding _ = false
 abbrev pub is_of_instance : Order → Bool
 is_of_instance order = not (is_about_binding order.kind)
 
--- a Bind or an Unbind of that binding
 abbrev pub is_of_binding : Id → Order → Bool
 is_of_binding id order = is_about_binding order.kind && bytes_eq order.binding id
 

@@ -14,7 +14,6 @@ use Rattle.osb_asks.specs.Subjects.{instance_id_of, binding_id_of}
 use Rattle.osb_orders.specs.Named.{subject, named_in}
 use Rattle.osb_orders.specs.Listing.{listing_for}
 
--- the parts of a view
 pub record ViewData : Type 0 where
   pub standing : Option Standing
   pub last : Option Order
@@ -27,7 +26,10 @@ pub record ViewData : Type 0 where
 
 -- the facts that a view has
 abbrev pub data_in : View → ViewData
-data_in view = record { standing = view.standing; last = view.last; binding = view.binding; named = view.named; subject_last = view.subject_last; count = view.count; bound = view.bound; listing = view.listing.items }
+data_in view =
+    record { standing = view.standing; last = view.last; binding = view.binding; named = view.named;
+        subject_last = view.subject_last; count = view.count; bound = view.bound;
+        listing = view.listing.items }
 
 -- the facts for an ask, from the life that it names and the running orders
 abbrev pub view_data_of : Life → List (Id × Order) → Ask → ViewData

@@ -18,9 +18,12 @@ ChangesSomething one = one.change ≢ Nothing
 
 -- the change leaves well-formed lives, and ends no order but the running last one
 abbrev pub CanBeMade : LifeChange → Lives → Type 0
-CanBeMade one lives = IsLives (lives_changed one.change one.instance lives) × FinishesLast (life_of lives one.instance) one.change
+CanBeMade one lives =
+    IsLives (lives_changed one.change one.instance lives)
+    × FinishesLast (life_of lives one.instance) one.change
 
 -- so does each of these, made one after the other
 abbrev pub AllCanBeMade : List LifeChange → Lives → Type 0
 AllCanBeMade [] lives = Unit {0}
-AllCanBeMade (one ∷ later) lives = CanBeMade one lives × AllCanBeMade later (lives_changed one.change one.instance lives)
+AllCanBeMade (one ∷ later) lives =
+    CanBeMade one lives × AllCanBeMade later (lives_changed one.change one.instance lives)

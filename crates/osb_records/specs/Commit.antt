@@ -28,4 +28,5 @@ pub record Commits (old : State) (lives : Lives) (db : Trees) : Type 0 where
 -- was nothing to change
 abbrev pub IsDurable : State → Change → List ℕ → Trees → Type 0
 IsDurable old change id db =
-    (IsTrue old.is_open × (lives_stored db ≡ lives_changed change id (stored old))) ⊎ ((change ≡ Nothing) × old.may_leave db)
+    (IsTrue old.is_open × (lives_stored db ≡ lives_changed change id (stored old)))
+    ⊎ ((change ≡ Nothing) × old.may_leave db)

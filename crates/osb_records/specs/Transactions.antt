@@ -22,13 +22,16 @@ FindsSettled schema s = IsSettled s × (s.now.schema ≡ schema)
 -- NotOurs says that no lives are in it.
 pub record TakesOver (old new : State) (result : Result (Unit {0}) StoreFault) : Type 0 where
   pub ready : OnOk result (IsReady new)
-  pub ok : HasCleanDisk new → IsTrue new.is_open → OnOk result (AreLivesOfDatabase old.now (stored new))
+  pub ok : HasCleanDisk new → IsTrue new.is_open →
+      OnOk result (AreLivesOfDatabase old.now (stored new))
   pub err : HasCleanDisk new → IsTrue new.is_open → OnErr result (new.now ≡ old.now)
-  pub not_ours : HasCleanDisk new → result ≡ Err NotOurs → (lives : Lives) → ¬ AreLivesOfDatabase old.now lives
+  pub not_ours : HasCleanDisk new → result ≡ Err NotOurs → (lives : Lives) →
+      ¬ AreLivesOfDatabase old.now lives
 
 -- The change was committed: at `Ok` the store was open, these are the lives, and a crash leaves them and nothing else; an
 -- error leaves the lives as they were; and a crash of the call leaves what it left before, or these lives.
-pub record BecomesLives (old new : State) (result : Result (Unit {0}) StoreFault) (lives : Lives) : Type 0 where
+pub record BecomesLives (old new : State) (result : Result (Unit {0}) StoreFault)
+    (lives : Lives) : Type 0 where
   pub ok : HasCleanDisk new → OnOk result (stored new ≡ lives)
   pub err : HasCleanDisk new → IsTrue new.is_open → OnErr result (stored new ≡ stored old)
   pub was_open : HasCleanDisk new → IsTrue new.is_open → IsTrue old.is_open
@@ -56,4 +59,5 @@ pub record HasMade (old new : State) (changes : List LifeChange) (count : ℕ) :
   pub survives : Survives old new (λ _. ⊥)
   pub kept : HasCleanDisk new → KeepsCommit old new
   pub found_open : HasCleanDisk new → 0 < count → IsTrue old.is_open
-  pub goes : HasCleanDisk new → IsTrue old.is_open → Goes old new (all_changed (take count changes) (stored old))
+  pub goes : HasCleanDisk new → IsTrue old.is_open →
+      Goes old new (all_changed (take count changes) (stored old))

@@ -12,7 +12,6 @@ use Rattle.osb_replies.specs.Text.{ReplyParts}
 abbrev pub described : String → List ℕ
 described text = codes "{\"description\":\"" ++ codes text ++ codes "\"}"
 
--- with the code too
 abbrev pub coded : String → String → List ℕ
 coded code text = codes "{\"description\":\"" ++ codes text ++ codes "\",\"error\":\"" ++ codes code ++ codes "\"}"
 

@@ -10,7 +10,8 @@ pub record Seen : Type 0 where
   pub room : ℕ
 
 abbrev pub seen : List ℕ → ℕ → ℕ → ℕ → Seen
-seen taken writes failed_or_empty room = record { taken = taken; writes = writes; failed_or_empty = failed_or_empty; room = room }
+seen taken writes failed_or_empty room =
+    record { taken = taken; writes = writes; failed_or_empty = failed_or_empty; room = room }
 
 -- from `start` the whole text went out, and each write took bytes
 pub record Whole (start : Seen) (text : List ℕ) (now : Seen) (written : ℕ) : Type 0 where

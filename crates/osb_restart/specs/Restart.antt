@@ -12,4 +12,5 @@ MayLeaveLives s lives = ∥ ((db : Trees) × s.may_leave db × AreLivesOf db liv
 -- what a crash of the next run may leave holds the lives of something that a crash could leave before
 abbrev pub LeavesFound : State → State → Type 0
 LeavesFound old new = (db : Trees) → new.may_leave db →
-    ∥ ((was : Trees) × old.may_leave was × ((lives : Lives) → HoldsLives lives was → HoldsLives lives db)) ∥₁
+    ∥ ((was : Trees) × old.may_leave was
+        × ((lives : Lives) → HoldsLives lives was → HoldsLives lives db)) ∥₁

@@ -11,9 +11,12 @@ use Rattle.osb_broker.specs.Served.{AreStandard}
 
 -- a file and its log have a database with lives of which P holds
 abbrev pub HoldsSome : Image → (Lives → Type 0) → Type 0
-HoldsSome image P = ∥ ((db : Trees) × HasTrees image db × (lives : Lives) × AreLivesOf db lives × P lives) ∥₁
+HoldsSome image P =
+    ∥ ((db : Trees) × HasTrees image db × (lives : Lives) × AreLivesOf db lives × P lives) ∥₁
 
 -- the conversations lead, within the standard limits, from the lives in the file and the log before to those in them after
 abbrev pub Leads : Rules → ℕ → Image → List Conversation → Image → Type 0
-Leads rules k before conversations after = (db : Trees) → HasTrees before db → (old : Lives) → AreLivesOf db old →
-    HoldsSome after (λ new. (limits : Limits) × AreStandard limits × AreConversations rules limits k old conversations new)
+Leads rules k before conversations after =
+    (db : Trees) → HasTrees before db → (old : Lives) → AreLivesOf db old →
+    HoldsSome after (λ new. (limits : Limits) × AreStandard limits
+    × AreConversations rules limits k old conversations new)

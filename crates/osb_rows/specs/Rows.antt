@@ -19,6 +19,7 @@ pub record AreRows (cells : Row → Row) (rows shown : List Row) : Type 0 where
   pub same : IsPermutation (map cells rows) shown
 
 -- the rows are those of these entries, whose keys rise
-pub record Stores {E : Type 0} (cells : Row → Row) (shown : E → Row) (cmp : E → E → Ordering) (rows : List Row) (entries : List E) : Type 0 where
+pub record Stores {E : Type 0} (cells : Row → Row) (shown : E → Row) (cmp : E → E → Ordering)
+    (rows : List Row) (entries : List E) : Type 0 where
   pub held : AreRows cells rows (map shown entries)
   pub rising : IsAscending (λ a b. cmp a b ≡ Less) entries

@@ -34,23 +34,29 @@ abbrev pub kept_phase : Bool → InstancePhase
 kept_phase birth_failed = if birth_failed then phase.Failed else phase.Ready
 
 -- by the kind of the order and how far it is
-abbrev pub standing_over : OrderKind → OrderState → Bool → Attributes → Option Standing → Option Standing
-standing_over Create state birth_failed attributes old = Some (stands (phase_of_birth state) attributes)
+abbrev pub standing_over : OrderKind → OrderState → Bool → Attributes → Option Standing →
+    Option Standing
+standing_over Create state birth_failed attributes old =
+    Some (stands (phase_of_birth state) attributes)
 standing_over Update Running birth_failed attributes old = option_map (in_phase phase.Updating) old
-standing_over Update Succeeded birth_failed attributes old = option_map (λ _. updated attributes) old
+standing_over Update Succeeded birth_failed attributes old =
+    option_map (λ _. updated attributes) old
 standing_over Update Failed birth_failed attributes old = option_map (in_phase phase.Ready) old
 standing_over Delete Running birth_failed attributes old = option_map (in_phase phase.Deleting) old
 standing_over Delete Succeeded birth_failed attributes old = None
-standing_over Delete Failed birth_failed attributes old = option_map (in_phase (kept_phase birth_failed)) old
+standing_over Delete Failed birth_failed attributes old =
+    option_map (in_phase (kept_phase birth_failed)) old
 standing_over Bind state birth_failed attributes old = old
 standing_over Unbind state birth_failed attributes old = old
 
 -- the state of the instance after the order
 abbrev pub standing_after : Bool → Order → Option Standing → Option Standing
-standing_after birth_failed order old = standing_over order.kind order.outcome.state birth_failed order.attributes old
+standing_after birth_failed order old =
+    standing_over order.kind order.outcome.state birth_failed order.attributes old
 
 abbrev pub row_after : Bool → Order → Option InstanceRow → InstanceRow
-row_after birth_failed order old = row_by (standing_after birth_failed order (standing_in old)) order
+row_after birth_failed order old =
+    row_by (standing_after birth_failed order (standing_in old)) order
 
 -- only here it matters whether the birth failed
 abbrev pub is_failed_deletion : Order → Bool

@@ -37,4 +37,6 @@ BindingsRemain = (life : Life) → has_rows (bindings_of life) ≡ has_bindings 
 
 -- the listing is that of the busy rows, each with the order of its last number
 abbrev pub ListedByRows : Type 0
-ListedByRows = (lives : Lives) (after : List ℕ) (limit : ℕ) → IsLives lives → listing lives after limit ≡ listing_by_rows lives after limit
+ListedByRows =
+    (lives : Lives) (after : List ℕ) (limit : ℕ) → IsLives lives →
+    listing lives after limit ≡ listing_by_rows lives after limit

@@ -23,8 +23,11 @@ is_listed_row after entry = entry.1.busy && is_gt (slice_cmp nat_cmp entry.0 aft
 
 -- the instance's order that has the last number of the row
 abbrev pub with_order : Lives → (List ℕ × InstanceRow) → Option (List ℕ × Order)
-with_order lives entry = option_map (λ (order : Order). (entry.0, order)) (order_numbered entry.1.last_number (life_of lives entry.0))
+with_order lives entry =
+    option_map (λ (order : Order). (entry.0, order))
+    (order_numbered entry.1.last_number (life_of lives entry.0))
 
 -- the busy rows of greater ids, each with its order, up to a limit
 abbrev pub listing_by_rows : Lives → List ℕ → ℕ → List (List ℕ × Order)
-listing_by_rows lives after limit = take limit (filter_map (with_order lives) (filter (is_listed_row after) (instance_rows lives)))
+listing_by_rows lives after limit =
+    take limit (filter_map (with_order lives) (filter (is_listed_row after) (instance_rows lives)))

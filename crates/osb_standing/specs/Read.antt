@@ -14,7 +14,8 @@ use Rattle.osb_standing.specs.Rows.{row_of, bindings_of}
 use Rattle.osb_standing.specs.Laws.{has_rows}
 
 -- each part is what the rows of the life, its orders and the listing say
-pub record IsReadOf (life : Life) (listing : List (List ℕ × Order)) (ask : Ask) (read : Read) : Type 0 where
+pub record IsReadOf (life : Life) (listing : List (List ℕ × Order)) (ask : Ask)
+    (read : Read) : Type 0 where
   pub row : read.row ≡ row_of life
   pub last : read.last ≡ last_of life
   pub binding : read.binding ≡ option_and_then (λ id. get (bindings_of life) id) (binding_id_of ask)
@@ -25,4 +26,5 @@ pub record IsReadOf (life : Life) (listing : List (List ℕ × Order)) (ask : As
 
 -- read for the ask of these lives
 abbrev pub IsReadFor : Lives → Ask → Read → Type 0
-IsReadFor lives ask read = IsReadOf (named_life lives (instance_id_of ask)) (listing_for lives ask) ask read
+IsReadFor lives ask read =
+    IsReadOf (named_life lives (instance_id_of ask)) (listing_for lives ask) ask read

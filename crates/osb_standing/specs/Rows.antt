@@ -18,7 +18,8 @@ use Rattle.osb_orders.specs.Bindings.{binding_of}
 use Rattle.osb_standing.specs.declared.row.InstanceRow.{InstanceRow}
 
 abbrev pub row_by : Option Standing → Order → InstanceRow
-row_by standing last = record { standing = standing; busy = is_now Running last; last_number = last.number }
+row_by standing last =
+    record { standing = standing; busy = is_now Running last; last_number = last.number }
 
 -- the row of an instance; none where it never had an order
 abbrev pub row_of : Life → Option InstanceRow
@@ -43,7 +44,8 @@ with_binding id (Some binding) rows = insert rows id binding
 -- each binding that these orders name and that isn't absent after all orders of the life
 abbrev pub bindings_named : Life → Life → Bindings
 bindings_named life [] = empty
-bindings_named life (order ∷ later) = with_binding order.binding (binding_of order.binding life) (bindings_named life later)
+bindings_named life (order ∷ later) =
+    with_binding order.binding (binding_of order.binding life) (bindings_named life later)
 
 -- one for each binding that isn't absent
 abbrev pub bindings_of : Life → Bindings

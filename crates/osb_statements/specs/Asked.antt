@@ -35,7 +35,9 @@ is_above after entry = is_gt (slice_cmp nat_cmp entry.0 after)
 
 -- the order that such cells name, with the id of its instance
 abbrev pub order_for : Lives → Row → Option (List ℕ × Order)
-order_for lives cells = option_map (λ (order : Order). (bytes (column cells 0), order)) (order_numbered (number_in (column cells 1)) (life_of lives (bytes (column cells 0))))
+order_for lives cells =
+    option_map (λ (order : Order). (bytes (column cells 0), order))
+    (order_numbered (number_in (column cells 1)) (life_of lives (bytes (column cells 0))))
 
 -- the item, if it passes
 abbrev pub only : {A : Type 0} → (A → Bool) → Option A → Option A
@@ -54,10 +56,12 @@ is_kept order = is_kind_of [] Create order || is_kind_of [] Update order
 abbrev pub later_of : Option Order → Option Order → Option Order
 later_of None other = other
 later_of (Some order) None = Some order
-later_of (Some order) (Some other) = if nat_lt order.number other.number then Some other else Some order
+later_of (Some order) (Some other) =
+    if nat_lt order.number other.number then Some other else Some order
 
 -- what was read of an instance, with the contexts
-pub record IsJoinedRead (contexts : List ContextEntry) (id : List ℕ) (read joined : Read) : Type 0 where
+pub record IsJoinedRead (contexts : List ContextEntry) (id : List ℕ)
+    (read joined : Read) : Type 0 where
   pub row : joined.row ≡ option_map (joined_row contexts id) read.row
   pub last : joined.last ≡ option_map (joined_order contexts id) read.last
   pub binding : joined.binding ≡ read.binding

@@ -20,7 +20,8 @@ AreBlank places db = AllByRecursion (λ tree. db tree ≡ []) places
 
 -- a clean connection that is open has this schema, and no rows in these trees
 abbrev pub ShowsBlank : Schema → List ℕ → State → Type 0
-ShowsBlank schema places s = HasCleanDisk s → IsTrue s.is_open → (s.now.schema ≡ schema) × AreBlank places s.now.trees
+ShowsBlank schema places s =
+    HasCleanDisk s → IsTrue s.is_open → (s.now.schema ≡ schema) × AreBlank places s.now.trees
 
 -- the content with other lives, instances or bindings
 abbrev pub with_lives : Lives → Content → Content
@@ -39,7 +40,8 @@ with_row row entry = (entry.0, row)
 -- the instance has this row now, and the others have what they had
 pub record Puts (id : List ℕ) (row : InstanceRow) (before after : List InstanceEntry) : Type 0 where
   pub here : IsRowOf id (Some row) after
-  pub others : (other : List ℕ) → bytes_eq id other ≡ false → filter (is_instance other) after ≡ filter (is_instance other) before
+  pub others : (other : List ℕ) → bytes_eq id other ≡ false →
+      filter (is_instance other) after ≡ filter (is_instance other) before
 
 -- the rows of the contexts stay
 abbrev pub KeepsContexts : State → State → Type 0

@@ -25,7 +25,9 @@ standing_number None = 0
 standing_number (Some standing) = instance_phase_number standing.phase
 
 abbrev pub no_attributes : Attributes
-no_attributes = record { service = []; plan = []; place = []; spot = []; parameters = []; maintenance = []; context = [] }
+no_attributes =
+    record { service = []; plan = []; place = []; spot = []; parameters = []; maintenance = [];
+        context = [] }
 
 -- empty texts where the instance is absent
 abbrev pub attributes_shown : Option Standing → Attributes
@@ -63,7 +65,9 @@ instance_phase_numbered number =
     else Deleting
 
 abbrev pub standing_decoded : ℕ → Attributes → Option Standing
-standing_decoded number attributes = if number == 0 then None else Some (record { phase = instance_phase_numbered number; attributes = attributes })
+standing_decoded number attributes =
+    if number == 0 then None
+    else Some (record { phase = instance_phase_numbered number; attributes = attributes })
 
 abbrev pub instance_row_decoded : Row → InstanceRow
 instance_row_decoded cells = record {

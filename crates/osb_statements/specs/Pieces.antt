@@ -65,11 +65,14 @@ is_instance_between after to entry = is_between after to (Words entry.0)
 
 -- how many instances aren't absent, and how many have a last order that runs
 abbrev pub counted_in : List InstanceEntry → ℕ × ℕ
-counted_in rows = (length (filter (λ (entry : InstanceEntry). is_some entry.1.standing) rows), length (filter (λ (entry : InstanceEntry). entry.1.busy) rows))
+counted_in rows =
+    (length (filter (λ (entry : InstanceEntry). is_some entry.1.standing) rows),
+        length (filter (λ (entry : InstanceEntry). entry.1.busy) rows))
 
 -- both numbers have grown by those of the rows
 abbrev pub CountsMore : List InstanceEntry → ℕ × ℕ → ℕ × ℕ → Type 0
-CountsMore rows old new = (new.0 ≡ old.0 + (counted_in rows).0) × (new.1 ≡ old.1 + (counted_in rows).1)
+CountsMore rows old new =
+    (new.0 ≡ old.0 + (counted_in rows).0) × (new.1 ≡ old.1 + (counted_in rows).1)
 
 -- ---- from version 1 to version 2
 

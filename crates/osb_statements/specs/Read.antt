@@ -20,13 +20,15 @@ use Rattle.osb_contexts.specs.Format.{version_row, version_cells}
 use Rattle.osb_statements.specs.Stored.{AreBare, AreBareRows, entry_row, order_columns, order_cells}
 
 -- A number was read as one of these values: at `Ok` as the one that it stands for, and NotOurs says that it stands for none.
-pub record IsReadAs {V : Type 0} (number_of : V → ℕ) (numbered : ℕ → V) (number : ℕ) (result : Result V StoreFault) : Type 0 where
+pub record IsReadAs {V : Type 0} (number_of : V → ℕ) (numbered : ℕ → V) (number : ℕ)
+    (result : Result V StoreFault) : Type 0 where
   pub told : IfOk result (λ value. value ≡ numbered number)
   pub held : IfOk result (λ value. number ≡ number_of value)
   pub known : (value : V) → number ≡ number_of value → result ≢ Err NotOurs
 
 -- A row was read as an entry: at `Ok` these columns show the entry, and NotOurs says that the row shows none.
-pub record IsEntryOf {E : Type 0} (shown : E → Row) (columns : Row → Row) (row : Row) (result : Result E StoreFault) : Type 0 where
+pub record IsEntryOf {E : Type 0} (shown : E → Row) (columns : Row → Row) (row : Row)
+    (result : Result E StoreFault) : Type 0 where
   pub told : IfOk result (λ entry. shown entry ≡ columns row)
   pub known : (entry : E) → row ≡ shown entry → result ≢ Err NotOurs
 
@@ -42,9 +44,11 @@ HoldAttributes cells attributes =
 
 -- These entries were read of the table: its rows show them, each under a rowid of its own, and if it stores entries at all,
 -- their rows are these.
-pub record IsListOf {E : Type 0} (cells : Row → Row) (shown : E → Row) (cmp : E → E → Ordering) (rows : List Row) (entries : List E) : Type 0 where
+pub record IsListOf {E : Type 0} (cells : Row → Row) (shown : E → Row) (cmp : E → E → Ordering)
+    (rows : List Row) (entries : List E) : Type 0 where
   pub held : AreRows cells rows (map shown entries)
-  pub only : (others : List E) → Stores cells shown cmp rows others → map shown others ≡ map shown entries
+  pub only : (others : List E) → Stores cells shown cmp rows others →
+      map shown others ≡ map shown entries
 
 -- the columns of an instance, with its id
 abbrev pub instance_columns : Row → Row
@@ -83,7 +87,8 @@ abbrev pub AreOrdersOf : Trees → List Entry → Type 0
 AreOrdersOf db entries = IsListOf order_cells entry_row entry_cmp (db 1) entries × AreBare entries
 
 abbrev pub AreInstancesOf : Trees → List InstanceEntry → Type 0
-AreInstancesOf db entries = IsListOf instance_cells instance_row instance_cmp (db 3) entries × AreBareRows entries
+AreInstancesOf db entries =
+    IsListOf instance_cells instance_row instance_cmp (db 3) entries × AreBareRows entries
 
 abbrev pub AreBindingsOf : Trees → List BindingEntry → Type 0
 AreBindingsOf db entries = IsListOf binding_cells binding_row binding_cmp (db 5) entries

@@ -52,7 +52,8 @@ pub record IsReady (s : State) : Type 0 where
   pub tables : ShowsTables s
   pub lives : HasCleanDisk s → IsTrue s.is_open → IsLives (stored s)
   pub standing : HasCleanDisk s → IsTrue s.is_open → IsConsistent (content s)
-  pub contexts : HasCleanDisk s → IsTrue s.is_open → HoldsContexts (contexts_of (stored s)) s.now.trees
+  pub contexts : HasCleanDisk s → IsTrue s.is_open →
+      HoldsContexts (contexts_of (stored s)) s.now.trees
   pub committed : HasCleanDisk s → IsTrue s.is_open → s.now ≡ s.committed
 
 -- a crash leaves these lives and nothing else

@@ -109,7 +109,8 @@ AreBareRows = AllByRecursion (λ entry. bare_row entry.1 ≡ entry.1)
 -- ---- trees
 
 -- the tables hold this version of the format and these entries
-pub record Holds (version : ℕ) (entries : List Entry) (instance_entries : List InstanceEntry) (binding_entries : List BindingEntry) (db : Trees) : Type 0 where
+pub record Holds (version : ℕ) (entries : List Entry) (instance_entries : List InstanceEntry)
+    (binding_entries : List BindingEntry) (db : Trees) : Type 0 where
   pub format : Stores version_cells version_row nat_cmp (db 0) (version ∷ [])
   pub orders : Stores order_cells entry_row entry_cmp (db 1) entries
   pub instances : Stores instance_cells instance_row instance_cmp (db 3) instance_entries
@@ -146,4 +147,5 @@ pub record Content : Type 0 where
   pub bindings : List BindingEntry
 
 abbrev pub content_in : Trees → Content
-content_in db = record { lives = bare_lives_in db; instances = instances_in db; bindings = bindings_in db }
+content_in db =
+    record { lives = bare_lives_in db; instances = instances_in db; bindings = bindings_in db }

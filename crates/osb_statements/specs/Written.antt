@@ -14,11 +14,13 @@ use Rattle.osb_statements.specs.Steps.{content, bare_in}
 -- Inside a transaction the row of the instance followed the order that is written next. Nothing is committed.
 pub record RowFollows (old new : State) (id : List ℕ) (order : Order) : Type 0 where
   pub steps : ContentSteps old new (with_instances (content new).instances (content old))
-  pub stands : (change : Change) → IsWritten (life_of (bare_in old) id) change order → InstancesStand (bare_in old) (content old).instances
+  pub stands : (change : Change) → IsWritten (life_of (bare_in old) id) change order →
+      InstancesStand (bare_in old) (content old).instances
       → InstancesStand (lives_changed change id (bare_in old)) (content new).instances
 
 -- With the row the bindings of the instance followed it.
 pub record RowsFollow (old new : State) (id : List ℕ) (order : Order) : Type 0 where
   pub steps : ContentSteps old new (with_lives (bare_in old) (content new))
-  pub stands : (change : Change) → IsWritten (life_of (bare_in old) id) change order → IsConsistent (content old)
+  pub stands : (change : Change) → IsWritten (life_of (bare_in old) id) change order →
+      IsConsistent (content old)
       → IsConsistent (with_lives (lives_changed change id (bare_in old)) (content new))

@@ -17,7 +17,9 @@ use Rattle.osb_tables.specs.declared.schema.Indexes.TheVariants.{None, Listing, 
 
 -- a column of a STRICT table
 abbrev pub column_of : List ℕ → Kind → Column
-column_of name kind = record { name = name; kind = kind; is_strict = true; not_null = true; default = Null; collation = Binary }
+column_of name kind =
+    record { name = name; kind = kind; is_strict = true; not_null = true; default = Null;
+        collation = Binary }
 
 -- those of these names and kinds
 abbrev pub columns_of : List (Bor (List ℕ) × Kind) → List Column
@@ -122,11 +124,13 @@ instances_table = plain_table (codes "instances") 3 columns_of_instances (1 ∷ 
 
 -- its key is the instance and the binding
 abbrev pub bindings_table : Table
-bindings_table = plain_table (codes "bindings") 5 columns_of_bindings (1 ∷ 2 ∷ []) ((1 ∷ 2 ∷ []) ∷ [])
+bindings_table =
+    plain_table (codes "bindings") 5 columns_of_bindings (1 ∷ 2 ∷ []) ((1 ∷ 2 ∷ []) ∷ [])
 
 -- its key is the instance and the number of the order, or 0 for the current state
 abbrev pub contexts_table : Table
-contexts_table = plain_table (codes "contexts") 7 columns_of_contexts (1 ∷ 2 ∷ []) ((1 ∷ 2 ∷ []) ∷ [])
+contexts_table =
+    plain_table (codes "contexts") 7 columns_of_contexts (1 ∷ 2 ∷ []) ((1 ∷ 2 ∷ []) ∷ [])
 
 abbrev pub no_schema : Schema
 no_schema = record { tables = []; indexes = []; views = [] }
@@ -150,7 +154,9 @@ five_tables = created tables_schema contexts_table
 
 -- an index by the bytes of these columns
 abbrev pub index_of : List ℕ → ℕ → ℕ → List ℕ → Bool → Index
-index_of name tree table columns is_unique = record { name = name; tree = tree; table = table; columns = columns; order = record { digits = 0 }; is_unique = is_unique }
+index_of name tree table columns is_unique =
+    record { name = name; tree = tree; table = table; columns = columns;
+        order = record { digits = 0 }; is_unique = is_unique }
 
 abbrev pub busy_name : List ℕ
 busy_name = codes "busy_instances"

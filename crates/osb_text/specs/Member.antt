@@ -32,6 +32,7 @@ abbrev pub object_value : Data → Option Data
 object_value d = option_map object (as_object d)
 
 -- The look-up's result, seen by `view`, is what is found.
-abbrev pub Gives : {X Y : Type 0} → (X → Y) → Result (Option X) TextFault → Result (Option Y) TextFault → Type 0
+abbrev pub Gives : {X Y : Type 0} → (X → Y) → Result (Option X) TextFault →
+    Result (Option Y) TextFault → Type 0
 Gives view (Ok o) found = found ≡ Ok (option_map view o)
 Gives view (Err fault) found = found ≡ Err fault

@@ -1,7 +1,6 @@
 -- Lists of bytes, by what they hold.
 use Rattle.std.specs.Prelude.{ℕ, List}
 
--- any bytes
 abbrev pub Bytes : Type 0
 Bytes = List ℕ
 

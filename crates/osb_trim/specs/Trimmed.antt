@@ -31,7 +31,8 @@ erased order = record order { attributes = erased_attributes order.kind }
 abbrev pub trimmed : Life → Life
 trimmed [] = []
 trimmed (order ∷ later) =
-    (if list_any (has_succeeded Delete) (order ∷ later) then erased order else order) ∷ trimmed later
+    (if list_any (has_succeeded Delete) (order ∷ later) then erased order else order)
+    ∷ trimmed later
 
 -- an instance's id with its life
 abbrev pub trimmed_instance : (List ℕ × Life) → (List ℕ × Life)
