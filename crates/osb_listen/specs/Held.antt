@@ -51,8 +51,9 @@ pub record HasServed (all : ℕ) (serving : Serving) (journal_old journal_new : 
   pub lines : SaysWithRefused (serving.before ++ lines_of serving.conversations) said_old said_new
       failed_old failed_new
 
--- The conversations lead, within the standard limits, from the lives in these trees to others. A database without tables
--- is begun, and any other is served on, as the line before says; none is begun where an existing one was asked for.
+-- The conversations lead, within the standard limits, from the lives in these trees, which hold no others, to new ones. A
+-- database without tables is begun, any other is served on, as the line before says; where an existing one was asked for,
+-- none is begun.
 pub record ServesFrom (rules : Rules) (k : ℕ) (existing : Bool) (db : Trees) (serving : Serving)
     (new : Lives) : Type 0 where
   pub old : Lives

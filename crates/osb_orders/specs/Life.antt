@@ -25,7 +25,7 @@ since_birth life =
     let orders = from_last (is_a Create) life in
     if list_any (has_succeeded Delete) orders then [] else orders
 
--- by how the birth ended, and by the last Create, Update or Delete and how far it is
+-- by how the birth ended and the last of Create, Update and Delete; one that was deleted has no birth
 abbrev pub phase_by : OrderState → OrderKind → OrderState → InstancePhase
 phase_by birth Create Running = phase.Creating
 phase_by birth Create Failed = phase.Failed

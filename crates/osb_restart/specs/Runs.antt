@@ -9,7 +9,7 @@ use Rattle.osb_file.specs.File.{AreLivesOf, HasTrees}
 use Rattle.osb_broker.specs.Conversations.{Conversation, AreConversations}
 use Rattle.osb_broker.specs.Served.{AreStandard}
 
--- a file and its log have a database with lives of which P holds
+-- a file and its log have a database with lives of which P holds (`∥ .. ∥₁` says that there is one, not which)
 abbrev pub HoldsSome : Image → (Lives → Type 0) → Type 0
 HoldsSome image P =
     ∥ ((db : Trees) × HasTrees image db × (lives : Lives) × AreLivesOf db lives × P lives) ∥₁
