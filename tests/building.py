@@ -175,7 +175,8 @@ def try_schedules():
     yield "one alone", begun(4, much, ["osb_text"]), {"osb_text": 4}
     yield "no more than four", begun(16, much, ["osb_text"]), {"osb_text": 4}
     yield "one that has nothing to share", begun(4, much, ["osb_rows"]), {"osb_rows": 1}
-    yield "two share", begun(4, much, pair), {"osb_text": 2, "osb_frames": 2}
+    yield "two share", begun(4, much, pair), {"osb_text": 3, "osb_frames": 1}
+    yield "those on two processors", begun(2, much, pair), {"osb_text": 1, "osb_frames": 1}
     yield "on one processor", begun(1, much, pair), {"osb_text": 1}
     yield "beside one that runs", begun(4, much, ["osb_frames"], {"osb_text": 3}), {"osb_frames": 1}
     yield "with no processor idle", begun(4, much, ["osb_frames"], {"osb_text": 4}), {}

@@ -241,7 +241,7 @@ NAMED = ("returns", "loop", "invariant_of")
 WRITTEN = "a written answer: "
 GAVE_UP = "`search` gave up at one of its limits"
 # What is said of an answer that names what is gone, or that wasn't decided.
-GONE = re.compile(r"has no field|is not in scope|has no `|was not admitted|ran out of|is no name")
+GONE = re.compile(r"nearest:|has no field|is not in scope|has no `|was not admitted|ran out of|is no name")
 
 
 class Judgement:

@@ -1,12 +1,14 @@
 """Proves the crates that the program stands on, and links it.
 
-    python3 tools/build.py
+    python3 tools/build.py [--keep]
     python3 tools/build.py --linked-by COMMAND ..
 
 A line says when a crate is begun, and one when it is proved. Crates that don't stand on each other are proved side by
-side, each by its share of the processors that are idle, as far as memory reaches. What was proved before and hasn't
-changed is not proved again. The second runs a command that proves everything and links the program, as `rt ci`; the
-first then takes that program, as long as the sources are the same."""
+side, by the processors that are idle, as far as memory reaches. What was proved before and hasn't changed is not proved
+again. With --keep the checks of a crate's functions are kept too, so that the next build of it, and of those above it,
+only checks what changed; a first build takes longer by that. A crate of which they are kept goes on with them. The
+second runs a command that proves everything and links the program, as `rt ci`; the first then takes that program, as
+long as the sources are the same."""
 
 import concurrent.futures
 import os
@@ -40,10 +42,10 @@ MINUTES = {
     "osb_contexts": (0.6, 1.8),
     "osb_statements": (2.6, 9.1),
     "osb_records": (1.4, 2.0),
-    "osb_file": (2.2, 0),
+    "osb_file": (5.6, 0),
     "osb_laws": (0.1, 0),
-    "osb_broker": (2.6, 1.0),
-    "osb_listen": (3.2, 0),
+    "osb_broker": (3.0, 2.0),
+    "osb_listen": (2.8, 1.7),
     "osb_trim": (0.5, 0.4),
     "osb_cli": (4.3, 0.9),
     "osb_program": (7.0, 0),
@@ -99,12 +101,12 @@ class Schedule:
                 yield crate, jobs
 
     def jobs_for(self, crate, count):
-        """The jobs of a crate that is one of so many which could begin: its share of the idle processors, as far as
-        memory reaches. None where it has to wait."""
+        """The jobs of a crate that is the first of so many which could begin: the idle processors but one for each of
+        the others, as far as memory reaches. None where it has to wait."""
         idle = self.processors - sum(self.running.values())
         free = self.memory - sum(bytes_of(it, jobs) for it, jobs in self.running.items())
         most = MOST_JOBS if MINUTES.get(crate, MINUTES_OF_OTHERS)[1] else 1
-        jobs = max(min(1, idle), min(most, idle // count))
+        jobs = max(min(1, idle), min(most, idle - (count - 1)))
         while jobs and bytes_of(crate, jobs) > free:
             jobs -= 1
         return jobs if self.running else max(1, jobs)
@@ -164,8 +166,8 @@ def is_proved(crate, status, said):
     return not status and is_kept(crate)
 
 
-def prove_all(crates):
-    """Proves crates, each once those below it are proved. Whether all are."""
+def prove_all(crates, keeps=True):
+    """Proves crates, each once those below it are proved, and maybe keeps what was checked. Whether all are."""
     schedule, proofs, well = schedule_of(crates), {}, True
     progress = Progress(schedule)
     progress.plan()
@@ -173,7 +175,7 @@ def prove_all(crates):
         while well and (schedule.left or schedule.running):
             for crate, jobs in schedule.begin():
                 progress.begin(crate, jobs)
-                proofs[pool.submit(prove, crate, jobs)] = crate
+                proofs[pool.submit(prove, crate, jobs, keeps)] = crate
             for it in concurrent.futures.wait(proofs, return_when=concurrent.futures.FIRST_COMPLETED).done:
                 crate = proofs.pop(it)
                 schedule.end(crate)
@@ -217,7 +219,7 @@ def main(words):
     crates = [*below(PROGRAM), PROGRAM]
     if is_kept(PROGRAM):
         say(f"{PROGRAM}: proved and linked before, of the same sources")
-    elif not prove_all([it for it in crates if not is_kept(it)]):
+    elif not prove_all([it for it in crates if not is_kept(it)], words == ["--keep"]):
         return 1
     place_program()
     return 0

@@ -15,7 +15,7 @@ import subprocess
 import sys
 
 from crates import ROOT, below, has_changed, sum_of
-from rattle import KIT, build_library, build_program, folder_of, is_program, rlib
+from rattle import KEPT, KIT, build_library, build_program, folder_of, is_program, rlib
 
 PROVED = re.compile(r"^logic=proved .*?\bfunctions=(\d+)", re.M)
 
@@ -89,14 +89,16 @@ def held(crate):
         yield files
 
 
-def prove(crate, jobs):
+def prove(crate, jobs, keeps=True):
     """Builds a crate over the libraries that are there: the status, and what the toolkit says of its proof. It is kept
-    where each of those libraries is and no file was changed meanwhile."""
+    where each of those libraries is and no file was changed meanwhile. What was checked is kept for the next check if
+    that is asked for, or if it was before."""
     with held(crate) as files:
         if is_kept(crate):
             return 0, ""
         forget(crate)
-        status, said = (build_program if is_program(crate) else build_library)(crate, jobs, files)
+        keeps = keeps or (folder_of(crate) / KEPT).is_dir()
+        status, said = (build_program if is_program(crate) else build_library)(crate, jobs, keeps, files)
         if status == 0 and not PROVED.search(said):
             return 1, f"{said}\n{crate}: built, and no verdict was given"
         if status == 0 and not has_changed(crate) and all(map(is_kept, below(crate))):

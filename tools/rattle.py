@@ -34,7 +34,7 @@ def rlib(crate):
 
 def words(crate, jobs, kept=KEPT):
     """What `rt` tells the compiler of a crate, in its folder: to check it with so many jobs over the libraries that
-    were built of those below."""
+    were built of those below, and to keep there what was checked."""
     found = ["--crate-name", crate, "src/main.rt" if is_program(crate) else "src/lib.rt"]
     for name in ["std", *LIBRARIES[crate]]:
         found += ["--extern", f"{name}={rlib(name) if name in LIBRARIES else KIT / 'rlibs' / f'{name}.rlib'}"]
@@ -42,7 +42,7 @@ def words(crate, jobs, kept=KEPT):
         found += ["-L", f"dependency={folder}"]
     found += ["--antt-project", str(KIT / "rattle" / "logic" / "antt-project.json")]
     found += ["--logic-built", str(KIT / "logic_built"), "--links", f"{crate}="]
-    return [*found, "--jobs", str(jobs), "--incremental", str(kept)]
+    return [*found, "--jobs", str(jobs), *(["--incremental", str(kept)] if kept else [])]
 
 
 def run(command, folder, held=()):
@@ -52,25 +52,30 @@ def run(command, folder, held=()):
     return ran.returncode, ran.stdout
 
 
-def build(crate, jobs, made, more=(), held=()):
-    """The status of a build of a crate, and what the compiler says of it. One with several jobs that is killed, most
-    likely for memory, is made again with one."""
-    status, said = run([RATTLE, "build", *words(crate, jobs), *more, "-o", made], folder_of(crate), held)
-    if status == -signal.SIGKILL and jobs > 1:
-        return build(crate, 1, made, more, held)
+def build(command, folder, held):
+    """The status of a build by these words, and what the compiler says of it. One with several jobs that is killed,
+    most likely for memory, is made again with one."""
+    status, said = run([RATTLE, "build", *command], folder, held)
+    at = command.index("--jobs") + 1
+    if status == -signal.SIGKILL and command[at] != "1":
+        return build([*command[:at], "1", *command[at + 1 :]], folder, held)
     return status, said
 
 
-def build_library(crate, jobs, held=()):
-    """Builds a crate's library."""
-    return build(crate, jobs, f"out/rlib/{crate}.rlib", held=held)
+def build_library(crate, jobs, keeps, held=()):
+    """Builds a crate's library. It may keep what was checked, for the next check of the crate. Otherwise its library has
+    only statements, if the toolkit can: those above it then read no proofs."""
+    statements = ["--statements"] if "--statements" in help_of("build") and not keeps else []
+    command = [*words(crate, jobs, None if statements else KEPT), *statements, "-o", f"out/rlib/{crate}.rlib"]
+    return build(command, folder_of(crate), held)
 
 
-def build_program(crate, jobs, held=()):
-    """Builds a program, and links it."""
+def build_program(crate, jobs, keeps, held=()):
+    """Builds a program, and links it. It may keep what was checked."""
     toolchain = ["--toolchain", str(KIT / "toolchain")]
     backend = ["--backend", "llvm"] if "--backend" in help_of("build") else []
-    status, said = build(crate, jobs, f"out/{crate}.o", [*toolchain, *backend], held)
+    command = [*words(crate, jobs, KEPT if keeps else None), *toolchain, *backend, "-o", f"out/{crate}.o"]
+    status, said = build(command, folder_of(crate), held)
     if status:
         return status, said
     files = [f"out/{crate}.o", *(str(KIT / "c" / name) for name in ("libos_c.a", "liblibc_c.a"))]
