@@ -42,7 +42,7 @@ MINUTES = {
     "osb_contexts": (0.6, 1.8),
     "osb_statements": (2.6, 9.1),
     "osb_records": (1.4, 2.0),
-    "osb_file": (5.6, 0),
+    "osb_file": (2.0, 4.3),
     "osb_laws": (0.1, 0),
     "osb_broker": (3.0, 2.0),
     "osb_listen": (2.8, 1.7),

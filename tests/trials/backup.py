@@ -205,20 +205,26 @@ def try_refused(program, folder):
     yield from refused(program, folder, "a log without its file", moved, unseen("a log without its file"))
 
 
+# How often a file that is written to is tried.
+ATTEMPTS = 10
 # Changes the time of a file again and again.
 TOUCH = "import os, sys, time\nwhile True: os.utime(sys.argv[1], ns=(0, time.time_ns()))"
 
 
 def try_in_use(program, folder):
     """A file that is written to all the time is given up. Several processes write to it, so that one does while another
-    waits for a processor; and it takes some time to read."""
+    waits for a processor; and it takes some time to read. Where all of them wait for one, it is tried again."""
     path = new_database(folder)
     with open(path, "wb") as file:
         file.truncate(64 << 20)
     writers = [subprocess.Popen([sys.executable, "-c", TOUCH, path]) for _ in range(3)]
     try:
         time.sleep(0.2)
-        yield from refused(program, folder, "a file that is written to", path, unseen("in use"))
+        for _ in range(ATTEMPTS):
+            found = list(refused(program, folder, "a file that is written to", path, unseen("in use")))
+            if all(got == expected for _, got, expected in found):
+                break
+        yield from found
     finally:
         for writer in writers:
             writer.kill()
