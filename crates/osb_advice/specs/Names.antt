@@ -11,7 +11,7 @@ use Rattle.osb_advice.specs.Past.{lines_of}
 abbrev pub name_line : ℕ → ℕ → List ℕ
 name_line number at =
     concat (codes "two plans of one name: catalog.services[" ∷ decimal number ∷ codes "].plans["
-        ∷ decimal at ∷ codes "]\n" ∷ [])
+    ∷ decimal at ∷ codes "]\n" ∷ [])
 
 -- of the plans from `at` on, by their names, and those of the plans before
 abbrev pub name_lines : ℕ → List (List ℕ) → ℕ → List (List ℕ) → List ℕ

@@ -66,9 +66,9 @@ past_in_login path also login =
 abbrev pub past_in_logins : Data → List ℕ
 past_in_logins file =
     option_map_or (past_in_login (codes "platform.") (codes "platform.also."))
-        (value_at the.Platform file) []
+    (value_at the.Platform file) []
     ++ option_map_or (past_in_login (codes "backend.") (codes "backend.also."))
-        (value_at the.Backend file) []
+    (value_at the.Backend file) []
 
 abbrev pub service_path : ℕ → List ℕ
 service_path at = concat (codes "catalog.services[" ∷ decimal at ∷ codes "]." ∷ [])
@@ -76,7 +76,7 @@ service_path at = concat (codes "catalog.services[" ∷ decimal at ∷ codes "].
 abbrev pub plan_path : ℕ → ℕ → List ℕ
 plan_path number at =
     concat (codes "catalog.services[" ∷ decimal number ∷ codes "].plans[" ∷ decimal at ∷ codes "]."
-        ∷ [])
+    ∷ [])
 
 abbrev pub past_in_info : List ℕ → Data → List ℕ
 past_in_info path plan =

@@ -25,4 +25,4 @@ share_a_login one other =
 abbrev pub doors_share_a_login : Data → Bool
 doors_share_a_login file =
     is_some_and (λ platform. is_some_and (share_a_login platform) (value_at the.Backend file))
-        (value_at the.Platform file)
+    (value_at the.Platform file)

@@ -17,7 +17,7 @@ service_line at =
 abbrev pub plan_line : ℕ → ℕ → List ℕ
 plan_line number at =
     concat (codes "a space in a name: catalog.services[" ∷ decimal number ∷ codes "].plans["
-        ∷ decimal at ∷ codes "]\n" ∷ [])
+    ∷ decimal at ∷ codes "]\n" ∷ [])
 
 abbrev pub plan_spaces : ℕ → ℕ → Data → List ℕ
 plan_spaces number at plan = if name_has_space plan then plan_line number at else []

@@ -18,7 +18,7 @@ timing_name Asynchronous = codes "asynchronous"
 abbrev pub timing_line : List ℕ → Data → List ℕ
 timing_line id mode =
     concat (codes "plan " ∷ shown id ∷ codes ": instances "
-        ∷ timing_name (timing_at the.Instances mode)
+    ∷ timing_name (timing_at the.Instances mode)
     ∷ codes ", bindings " ∷ timing_name (timing_at the.Bindings mode) ∷ codes "\n" ∷ [])
 
 unfoldable pub plan_timing : Data → Data → List ℕ

@@ -17,7 +17,7 @@ use Rattle.osb_catalog.specs.Tables.{file_rules, catalog_rules, service_rules, p
 abbrev pub kind_in : List FieldRule → Field → Option Kind
 kind_in rules field =
     option_map (λ rule. rule.kind)
-        (find (λ rule. bytes_eq (field_name rule.field) (field_name field)) rules)
+    (find (λ rule. bytes_eq (field_name rule.field) (field_name field)) rules)
 
 -- the kind of the field's values, by the first table that has the field
 abbrev pub kind_of : Field → Option Kind

@@ -22,9 +22,7 @@ bind_in instance binding accepts_incomplete v = do
   app_guid ← app_guid_at v
   bind_resource ← object_or_empty (codes "bind_resource") v
   details ← details_at v
-  Ok (record { instance = instance; binding = binding; service = named.service; plan = named.plan;
-      app_guid = app_guid; bind_resource = bind_resource; context = details.context;
-      parameters = details.parameters; accepts_incomplete = accepts_incomplete })
+  Ok (record { instance = instance; binding = binding; service = named.service; plan = named.plan; app_guid = app_guid; bind_resource = bind_resource; context = details.context; parameters = details.parameters; accepts_incomplete = accepts_incomplete })
 
 unfoldable pub bind_of : Rules → Bytes → Bytes → Bytes → Bytes → Result Ask AskFault
 bind_of rules i b q body = do
@@ -52,9 +50,7 @@ unbind_of rules i b q = do
   accepts_incomplete ← query.accepts_incomplete_in q
   service ← query.query_id (codes "service_id") q
   plan ← query.query_id (codes "plan_id") q
-  if_offered (has_plan rules service plan)
-      (ask.Unbind (record { instance = instance; binding = binding; service = service; plan = plan;
-          accepts_incomplete = accepts_incomplete }))
+  if_offered (has_plan rules service plan) (ask.Unbind (record { instance = instance; binding = binding; service = service; plan = plan; accepts_incomplete = accepts_incomplete }))
 
 -- ---- "Polling Last Operation for Service Bindings"
 

@@ -23,10 +23,7 @@ provision_in instance accepts_incomplete v = do
   place ← space_at v
   details ← details_at v
   maintenance ← maintenance_at v
-  Ok (record { instance = instance; service = named.service; plan = named.plan;
-      organization = place.organization; space = place.space; context = details.context;
-      parameters = details.parameters; maintenance = maintenance;
-      accepts_incomplete = accepts_incomplete })
+  Ok (record { instance = instance; service = named.service; plan = named.plan; organization = place.organization; space = place.space; context = details.context; parameters = details.parameters; maintenance = maintenance; accepts_incomplete = accepts_incomplete })
 
 unfoldable pub provision_of : Rules → Bytes → Bytes → Bytes → Result Ask AskFault
 provision_of rules i q body = do
@@ -50,8 +47,7 @@ update_in instance accepts_incomplete v = do
   context ← object_at (codes "context") v
   parameters ← object_at (codes "parameters") v
   maintenance ← maintenance_at v
-  Ok (record { instance = instance; service = service; plan = plan; context = context;
-      parameters = parameters; maintenance = maintenance; accepts_incomplete = accepts_incomplete })
+  Ok (record { instance = instance; service = service; plan = plan; context = context; parameters = parameters; maintenance = maintenance; accepts_incomplete = accepts_incomplete })
 
 unfoldable pub update_of : Rules → Bytes → Bytes → Bytes → Result Ask AskFault
 update_of rules i q body = do
@@ -69,9 +65,7 @@ deprovision_of rules i q = do
   accepts_incomplete ← query.accepts_incomplete_in q
   service ← query.query_id (codes "service_id") q
   plan ← query.query_id (codes "plan_id") q
-  if_offered (has_plan rules service plan)
-      (ask.Deprovision (record { instance = instance; service = service; plan = plan;
-          accepts_incomplete = accepts_incomplete }))
+  if_offered (has_plan rules service plan) (ask.Deprovision (record { instance = instance; service = service; plan = plan; accepts_incomplete = accepts_incomplete }))
 
 -- ---- "Polling Last Operation for Service Instances"
 

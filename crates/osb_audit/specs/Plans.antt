@@ -36,7 +36,7 @@ abbrev pub pairs_of : Life → List Pair
 pairs_of life =
     map (λ (standing : Standing). pair_in standing.attributes) (option_to_list (standing_of life))
     ++ map (λ (order : Order). pair_in order.attributes)
-        (filter is_running_update (option_to_list (last_of life)))
+    (filter is_running_update (option_to_list (last_of life)))
 
 -- each once, in order
 abbrev pub in_order : List Pair → List Pair

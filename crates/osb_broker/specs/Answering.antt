@@ -12,21 +12,21 @@ WritesReply base before now after (Ok close) reply =
     (now ≡ base ++ reply_text reply) × (after ≡ before) × (close ≡ reply.close)
 WritesReply base before now after (Err f) reply =
     (k : ℕ) × (k ≤ length (reply_text reply)) × (now ≡ base ++ take k (reply_text reply))
-        × (before < after)
+    × (before < after)
 
 -- a request was answered by a reply that was written, or begun
 abbrev pub Answers : {S : Type 0} → Machine S → Message → Bool → S → S → List ℕ → ℕ → List ℕ → ℕ →
     Result Bool WriteFault → Type 0
 Answers machine q last s t base before now after result =
     (mark : Bool) × (reply : ReplyParts) × Answered machine q last mark s reply t
-        × WritesReply base before now after result reply
+    × WritesReply base before now after result reply
 
 -- a request was answered by a reply that was written whole, and closes or doesn't
 abbrev pub AnswersWhole : {S : Type 0} → Machine S → Message → Bool → S → S → List ℕ → List ℕ →
     Bool → Type 0
 AnswersWhole machine q last s t base now close =
     (mark : Bool) × (reply : ReplyParts) × Answered machine q last mark s reply t
-        × (now ≡ base ++ reply_text reply) × (close ≡ reply.close)
+    × (now ≡ base ++ reply_text reply) × (close ≡ reply.close)
 
 -- A request was carried out, and t is the state after it; the reply that was written, or begun, is the fixed 500.
 pub record LostReply {S : Type 0} (machine : Machine S) (q : Message) (s t : S) (base now : List ℕ)

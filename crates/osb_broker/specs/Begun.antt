@@ -48,7 +48,7 @@ GroupsAreConversations =
     (rules : Rules) (limits : Limits) (old new : Lives) (connections texts : List (List ℕ))
     (conversations : List Conversation) →
     WereAnswered rules limits connections texts conversations →
-        RunOrLost (capped rules) limits 1 old connections texts new →
+    RunOrLost (capped rules) limits 1 old connections texts new →
     AreConversations rules limits 1 old conversations new
 
 -- P of how a connection ended that was begun, or Q where its request waits

@@ -39,7 +39,7 @@ abbrev pub AreConversations : Rules → Limits → ℕ → Lives → List Conver
 AreConversations rules limits k old [] new = new ≡ old
 AreConversations rules limits k old (conversation ∷ later) new =
     (lives : Lives) × IsConversation rules limits k old conversation lives
-        × AreConversations rules limits k lives later new
+    × AreConversations rules limits k lives later new
 
 -- An episode is the conversations between a start of the program and its stop; the next one begins with the lives that it
 -- left.
@@ -47,7 +47,7 @@ abbrev pub AreEpisodes : Rules → Limits → ℕ → Lives → List (List Conve
 AreEpisodes rules limits k old [] new = new ≡ old
 AreEpisodes rules limits k old (conversations ∷ later) new =
     (lives : Lives) × AreConversations rules limits k old conversations lives
-        × AreEpisodes rules limits k lives later new
+    × AreEpisodes rules limits k lives later new
 
 -- the conversations of all episodes
 abbrev pub all_conversations : List (List Conversation) → List Conversation
@@ -60,7 +60,7 @@ EpisodesGoOn =
     (rules : Rules) (limits : Limits) (k : ℕ) (old : Lives) (episodes : List (List Conversation))
     (new : Lives) →
     AreEpisodes rules limits k old episodes new →
-        AreConversations rules limits k old (all_conversations episodes) new
+    AreConversations rules limits k old (all_conversations episodes) new
 
 -- ---- with one request a client
 
@@ -93,4 +93,4 @@ EpisodesAreHistories =
     (new : Lives) →
     AreEpisodes rules limits 1 old episodes new →
     (attempts : List Attempt) × AreAttemptsOf (all_conversations episodes) attempts
-        × History (Carried rules limits) old attempts new
+    × History (Carried rules limits) old attempts new

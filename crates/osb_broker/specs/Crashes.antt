@@ -65,5 +65,5 @@ abbrev pub RunOrLost : {S : Type 0} → Machine S → Limits → ℕ → S → L
 RunOrLost machine limits k s [] [] t = t ≡ s
 RunOrLost {S} machine limits k s (bytes ∷ connections) (output ∷ outputs) t =
     (u : S) × ServedOrLost machine limits k s bytes [] output u
-        × RunOrLost machine limits k u connections outputs t
+    × RunOrLost machine limits k u connections outputs t
 RunOrLost machine limits k s _ _ t = ⊥

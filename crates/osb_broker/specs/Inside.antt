@@ -70,19 +70,19 @@ pub record GivesPrepared {S E : Type 0} (g : Ghosts S) (rules : catalog.Rules)
     (asked : Result Ask AskFault) (old new : Held S) (result : Result Prepared E) : Type 0 where
   pub ok : Works (state g old) → HasCleanDisk (state g new) →
       IfOk result (λ prepared. Prepares (stored (state g old)) prepared
-          (step_for rules (stored (state g old)) asked))
+      (step_for rules (stored (state g old)) asked))
   pub quiet : IfOk result (λ prepared. is_early asked ≡ true → prepared.pending ≡ None)
   pub late : OnErr result (is_early asked ≡ false)
   pub was_open : HasCleanDisk (state g new) → needs_lives asked ≡ true →
       OnOk result (IsTrue (state g old).is_open)
   pub plain : needs_lives asked ≡ false →
       IfOk result (λ prepared. (lives : Lives) →
-          Prepares lives prepared (step_for rules lives asked))
+      Prepares lives prepared (step_for rules lives asked))
   pub silent : needs_lives asked ≡ false → IfOk result (λ prepared. prepared.pending ≡ None)
   pub alike : Works (state g old) → HasCleanDisk (state g new) →
       IfOk result (λ prepared. (lives : Lives) → IsLives lives →
-          AreAnsweredAlike rules asked (stored (state g old)) lives →
-          Prepares lives prepared (step_for rules lives asked))
+      AreAnsweredAlike rules asked (stored (state g old)) lives →
+      Prepares lives prepared (step_for rules lives asked))
   pub names : IfOk result (λ prepared. IsOfInstance asked prepared.pending)
   pub untouched : needs_lives asked ≡ false → new ≡ old
   pub stays : LivesStay (state g old) (state g new)
@@ -100,24 +100,24 @@ pub record AppliesPending {S E : Type 0} (g : Ghosts S) (pending : Option LifeCh
       (Commits (state g old) (after_pending pending (stored (state g old))))
   pub lasts : HasCleanDisk (state g new) →
       OnOk result ((db : Trees) → (state g new).may_leave db →
-          PendingIsDurable (state g old) (stored (state g old)) pending db)
+      PendingIsDurable (state g old) (stored (state g old)) pending db)
 
 -- A request was replied to by the machine's step, once its change was made; at an error the lives stay.
 pub record GivesReply {S E : Type 0} (g : Ghosts S) (rules : catalog.Rules) (q : Message)
     (last : Bool) (old new : Held S) (result : Result Reply E) : Type 0 where
   pub ok : Works (state g new) →
       IfOk result (λ reply. Answered (machine rules) q last false (stored (state g old))
-          (parts reply) (stored (state g new)))
+      (parts reply) (stored (state g new)))
   pub err : Works (state g new) → OnErr result (stored (state g new) ≡ stored (state g old))
   pub closes : IfOk result (λ reply. closes q ≡ true → (parts reply).close ≡ true)
   pub was_open : HasCleanDisk (state g new) → needs_lives (ask_of rules q) ≡ true →
       OnOk result (IsTrue (state g old).is_open)
   pub told : Works (state g old) → HasCleanDisk (state g new) →
       IfOk result (λ reply. parts reply
-          ≡ reply_of q last ((machine rules).step (stored (state g old)) q).0)
+      ≡ reply_of q last ((machine rules).step (stored (state g old)) q).0)
   pub plain : needs_lives (ask_of rules q) ≡ false →
       IfOk result (λ reply. (lives : Lives) →
-          Answered (machine rules) q last false lives (parts reply) lives)
+      Answered (machine rules) q last false lives (parts reply) lives)
   pub untouched : needs_lives (ask_of rules q) ≡ false → new ≡ old
   pub works : Works (state g new) → Works (state g old)
   pub crash : Survives (state g old) (state g new)
@@ -156,7 +156,7 @@ abbrev pub EachStays : Machine Lives → Limits → ℕ → List (List ℕ) → 
 EachStays machine limits k [] [] = Unit {0}
 EachStays machine limits k (bytes ∷ connections) (output ∷ outputs) =
     ((lives : Lives) → Served machine limits k lives bytes [] output lives)
-        × EachStays machine limits k connections outputs
+    × EachStays machine limits k connections outputs
 EachStays machine limits k _ _ = ⊥
 
 -- Connections were served, one after the other, with these outputs. Where the store was shut, each left the lives.
@@ -169,7 +169,7 @@ pub record ServesEach {S : Type 0} (g : Ghosts S) (machine : Machine Lives) (lim
   pub worked : Worked (state g old) (state g new)
   pub leaves : Works (state g old) → HasCleanDisk (state g new) →
       LeavesLives (state g new) (λ lives. RunOrLost machine limits k (stored (state g old))
-          connections outputs lives)
+      connections outputs lives)
 
 -- the same, with outputs that follow those that were there
 pub record ServesMore {S : Type 0} (g : Ghosts S) (machine : Machine Lives) (limits : Limits)

@@ -38,15 +38,15 @@ OfRepeatedRequest Holds =
     IsLives old → (asked : AsksOf rules limits id bytes) →
     AreEpisodes rules limits 1 old episodes new →
     OfEachClient (λ other. AsksOf rules limits id other →
-        IsAgainOrBeside rules limits id (next_number old id) bytes other)
-        (all_conversations episodes) →
+    IsAgainOrBeside rules limits id (next_number old id) bytes other)
+    (all_conversations episodes) →
     Holds rules old (all_conversations episodes) bytes asked.q new id
 
 -- where one of them got an answer, the instance's life is the one that the request leaves, made once, but for the report
 abbrev pub RepliedRequestsActOnce : Type 0
 RepliedRequestsActOnce = OfRepeatedRequest (λ rules old conversations bytes q new id.
     SomeGotAnswer bytes conversations →
-        IsOnce (life_of (lives_after rules old q) id) (life_of new id))
+    IsOnce (life_of (lives_after rules old q) id) (life_of new id))
 
 -- in any case it is that one, or the one of before
 abbrev pub SentRequestsActAtMostOnce : Type 0

@@ -79,7 +79,7 @@ abbrev pub Past : Limits → List Message → List ℕ → List ℕ → Type 0
 Past limits [] bytes rest = rest ≡ bytes
 Past limits (q ∷ qs) bytes rest =
     (n : ℕ) × IsFront limits bytes (whole q n) × (closes q ≡ false)
-        × Past limits qs (drop n bytes) rest
+    × Past limits qs (drop n bytes) rest
 
 -- the replies to requests that met no refusal, and the state after them
 abbrev pub replies_unmarked : {S : Type 0} → Machine S → ℕ → S → List Message → List ReplyParts × S
@@ -119,7 +119,7 @@ pub record WasNeeded (limits : Limits) (k room : ℕ) (got : List ℕ) (call : C
 abbrev pub EachWasNeeded : Limits → ℕ → ℕ → List Call → Type 0
 EachWasNeeded limits k room calls =
     (before after : List Call) (call : Call) → calls ≡ before ++ call ∷ after →
-        WasNeeded limits k room (all_bytes before) call
+    WasNeeded limits k room (all_bytes before) call
 
 -- what was taken goes no further than the room past the start of the last request that was looked for, held being what
 -- follows that start; and there was at most one read for each byte, and one more

@@ -20,8 +20,10 @@ use Rattle.osb_catalog.specs.SettingsData.{SettingsData}
 
 abbrev pub service_of : Data → Service
 service_of service =
-    record { id = text_at the.Id service;
-        context_updates = flag_at the.AllowContextUpdates service }
+    record {
+      id = text_at the.Id service;
+      context_updates = flag_at the.AllowContextUpdates service;
+    }
 
 abbrev pub bool_of : Data → Bool
 bool_of d = unwrap_or (as_bool d) false
@@ -36,22 +38,32 @@ version_of plan = option_map_or (text_at the.Version) (value_at the.MaintenanceI
 
 abbrev pub facts_of : Data → Data → PlanFacts
 facts_of service plan =
-    record { bindable = flag_over the.Bindable plan service;
-        plan_updateable = flag_over the.PlanUpdateable plan service; version = version_of plan }
+    record {
+      bindable = flag_over the.Bindable plan service;
+      plan_updateable = flag_over the.PlanUpdateable plan service;
+      version = version_of plan;
+    }
 
 abbrev pub credentials_of : Data → List ℕ
 credentials_of mode = option_map_or compact_text (value_at the.Credentials mode) (codes "{}")
 
 abbrev pub mode_from : Data → Mode
 mode_from mode =
-    record { instances = timing_at the.Instances mode; bindings = timing_at the.Bindings mode;
-        credentials = credentials_of mode }
+    record {
+      instances = timing_at the.Instances mode;
+      bindings = timing_at the.Bindings mode;
+      credentials = credentials_of mode;
+    }
 
 abbrev pub plan_of : Data → Data → Data → Plan
 plan_of file service plan =
-    record { service = text_at the.Id service; id = text_at the.Id plan;
-        facts = facts_of service plan; mode = mode_from (mode_of_plan file (text_at the.Id plan));
-        bindings_retrievable = flag_at the.BindingsRetrievable service }
+    record {
+      service = text_at the.Id service;
+      id = text_at the.Id plan;
+      facts = facts_of service plan;
+      mode = mode_from (mode_of_plan file (text_at the.Id plan));
+      bindings_retrievable = flag_at the.BindingsRetrievable service;
+    }
 
 abbrev pub plans_of_service : Data → Data → List Plan
 plans_of_service file service = each (plan_of file service) (plans_of service)

@@ -140,10 +140,10 @@ pub record IsDone (contents : Contents) (IsMade : List ℕ → List ℕ → Type
     (input : Option (List ℕ)) (old new : List ℕ) : Type 0 where
   pub backup : Names (codes "backup") found → IsBackedUp contents IsMade
       (unwrap_or (text_in (codes "database") found) []) (unwrap_or (text_in (codes "to") found) [])
-          old new
+      old new
   pub check : Names (codes "check") found → (explain : Bool) × HasExplain found explain
       × AreChecked contents explain (text_in (codes "settings") found)
-          (text_in (codes "database") found) old new
+      (text_in (codes "database") found) old new
   pub serve : Names (codes "serve") found →
       new ≡ old ++ listening_line (unwrap_or (text_in (codes "listen") found) [])
   pub trim : Names (codes "trim") found →
@@ -152,4 +152,4 @@ pub record IsDone (contents : Contents) (IsMade : List ℕ → List ℕ → Type
       ¬ Names (codes "serve") found
       → ¬ Names (codes "trim") found → (most : ℕ) × HasPerConnection found most
       × IsReplayedBy contents (text_in (codes "settings") found) most
-          (texts_in (codes "connections") found) input old new
+      (texts_in (codes "connections") found) input old new

@@ -69,8 +69,11 @@ trim_command = with_rule (new_app (codes "trim")) (required_word (codes "databas
 -- the words come without the program's name, and `help` is no command
 abbrev pub osb_broker : App
 osb_broker = with_subcommand (with_subcommand (with_subcommand (with_subcommand (with_subcommand
-    (on_top (λ s. record s { no_binary_name = true; disable_help_subcommand = true;
-        has_version = true })
+    (on_top (λ s. record s {
+      no_binary_name = true;
+      disable_help_subcommand = true;
+      has_version = true;
+    })
     (new_app (codes "osb-broker")))
     backup_command.top) check_command.top) replay_command.top) serve_command.top)
     trim_command.top

@@ -65,7 +65,7 @@ MayFindPlans found = Names (codes "serve") found ⊎ Names (codes "check") found
 abbrev pub FindsSome : Contents → FoundCommand → Type 0
 FindsSome contents found = (service plan : List ℕ)
     × LacksPlanOf contents (settings_name found) (unwrap_or (text_in (codes "database") found) [])
-        service plan
+    service plan
 
 -- some plan that the lives in these trees have in use is lacking
 abbrev pub NamesSome : Contents → FoundCommand → Trees → Type 0

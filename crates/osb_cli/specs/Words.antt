@@ -36,7 +36,7 @@ abbrev pub HasNumber : ℕ → ℕ → Option (List ℕ) → ℕ → Type 0
 HasNumber most other None n = n ≡ other
 HasNumber most other (Some text) n = let digits = without_leading_plus text in
     IsNumeral 10 digits → 1 ≤ digits_value 10 digits → digits_value 10 digits ≤ most →
-        n ≡ digits_value 10 digits
+    n ≡ digits_value 10 digits
 
 -- whether a flag of this text is given: clap has the text `true` where it is, and none where it isn't
 abbrev pub HasFlag : Option (List ℕ) → Bool → Type 0

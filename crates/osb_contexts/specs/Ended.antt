@@ -19,4 +19,4 @@ ended_over _ _ context = None
 abbrev pub contexts_ended : List ℕ → Order → List ContextEntry → List ContextEntry
 contexts_ended id order contexts =
     standing_set false (ended_over order.kind order.outcome.state
-        (context_at contexts id order.number)) id contexts
+    (context_at contexts id order.number)) id contexts

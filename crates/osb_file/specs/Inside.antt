@@ -28,7 +28,7 @@ abbrev pub IsSeenIn : Database → Seen → Type 0
 IsSeenIn db New = db.schema ≡ no_schema
 IsSeenIn db (Counted counts plans) = (db.schema ≢ no_schema)
     × ((lives : Lives) × AreLivesOfDatabase db lives × AreCounts lives counts
-        × (plans.items ≡ plans_in_use lives))
+    × (plans.items ≡ plans_in_use lives))
 
 -- any trees that a file has are these, in which so much of everything is
 abbrev pub IsCountedIn : Image → Counts → Type 0

@@ -45,7 +45,7 @@ Says limits bytes over More = IsFalse over × (IsFront limits bytes (fault Cut) 
 abbrev pub FaultStays : Limits → List ℕ → Bool → StopKind → Type 0
 FaultStays limits bytes over f =
     ((more : List ℕ) → IsFront limits (bytes ++ more) (fault f))
-        ⊎ (IsFront limits bytes (fault f) × IsTrue over)
+    ⊎ (IsFront limits bytes (fault f) × IsTrue over)
 
 -- what is said is there whatever follows
 abbrev pub Stays : Limits → List ℕ → Bool → Step Request → Type 0

@@ -97,7 +97,7 @@ abbrev pub ContextOfOrder : Type 0
 ContextOfOrder =
     (lives : Lives) (id : List ℕ) → IsLives lives →
     AllByRecursion (λ (order : Order). filter (is_context id order.number) (contexts_of lives)
-        ≡ context_of_order id order ∷ []) (life_of lives id)
+    ≡ context_of_order id order ∷ []) (life_of lives id)
 
 abbrev pub ContextOfStanding : Type 0
 ContextOfStanding =
@@ -146,7 +146,7 @@ RowsOfLivesJoin =
     (orders : List Entry) (instances : List InstanceEntry) (bindings : List BindingEntry) →
     AreRowsOfLives orders instances bindings →
     AreJoined (contexts_of (lives_in orders)) (map bare_entry orders)
-        (map bare_instance_entry instances) orders instances
+    (map bare_instance_entry instances) orders instances
 
 -- and no others do
 abbrev pub JoinedAreContexts : Type 0
@@ -155,5 +155,5 @@ JoinedAreContexts =
     (joined_orders : List Entry) (joined_instances : List InstanceEntry)
     (bindings : List BindingEntry) →
     AreJoined contexts orders instances joined_orders joined_instances →
-        AreRowsOfLives joined_orders joined_instances bindings →
-        contexts ≡ contexts_of (lives_in joined_orders)
+    AreRowsOfLives joined_orders joined_instances bindings →
+    contexts ≡ contexts_of (lives_in joined_orders)

@@ -39,7 +39,7 @@ module _ {I O : Type 0} (calls : I → List Call) (taken : O → List ℕ) (fail
   HasBegun clients_old clients_new requests_old requests_new conversations =
       ((length conversations ≡ 1) × (clients_new ≡ clients_old) × (requests_new ≡ requests_old))
       ⊎ ((input : I) × (output : O) × (bytes : List ℕ)
-          × IsKept rules limits k (calls input) (taken output) (failed output) bytes
+      × IsKept rules limits k (calls input) (taken output) (failed output) bytes
       × (conversations ≡ []) × (clients_new ≡ clients_old ++ (input, output) ∷ [])
       × (requests_new ≡ requests_old ++ bytes ∷ []))
 

@@ -46,7 +46,7 @@ refused_line cause count =
     if count == 1
     then concat (codes "request: 500 " ∷ cause_words cause ∷ codes "\n" ∷ [])
     else concat (codes "request: 500 " ∷ cause_words cause ∷ codes ", " ∷ decimal count
-        ∷ codes " times\n" ∷ [])
+    ∷ codes " times\n" ∷ [])
 
 pub record IsRefusedLine (line : List ℕ) : Type 0 where
   pub cause : Cause

@@ -21,4 +21,4 @@ misses_of e = e.misses.items
 abbrev pub conversation_with : Counted Incoming × (Counted Outgoing × Bool) → Conversation
 conversation_with (input, (output, met_fault)) =
     conversation_of (calls_of input) (all_bytes (calls_of output))
-        (failed_or_empty_count (calls_of output)) met_fault
+    (failed_or_empty_count (calls_of output)) met_fault

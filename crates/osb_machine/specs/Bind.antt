@@ -22,10 +22,7 @@ use Rattle.osb_machine.specs.Opened.{Opening, instance_opening, opened, accepted
 
 -- those of the request; a binding has no maintenance version
 abbrev pub bound_attributes : Bind → Attributes
-bound_attributes ask =
-    record { service = ask.service; plan = ask.plan; place = app_guid_of ask;
-        spot = ask.bind_resource; parameters = ask.parameters; maintenance = [];
-        context = ask.context }
+bound_attributes ask = record { service = ask.service; plan = ask.plan; place = app_guid_of ask; spot = ask.bind_resource; parameters = ask.parameters; maintenance = []; context = ask.context }
 
 -- by the mode of the plan that the instance has
 abbrev pub bind_opening : Rules → Attributes → Bind → Opening

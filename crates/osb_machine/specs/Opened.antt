@@ -51,9 +51,7 @@ succeeded_with credentials = record { state = Succeeded; description = []; crede
 
 -- the order of that number
 abbrev pub numbered : ℕ → Opening → Outcome → Order
-numbered number opening outcome =
-    record { number = number; kind = opening.kind; binding = opening.binding;
-        attributes = opening.attributes; outcome = outcome }
+numbered number opening outcome = record { number = number; kind = opening.kind; binding = opening.binding; attributes = opening.attributes; outcome = outcome }
 
 abbrev pub appends : Status → Json → Order → Decision
 appends status body order = record { status = status; body = body; change = Append order }

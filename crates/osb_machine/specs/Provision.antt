@@ -18,10 +18,7 @@ use Rattle.osb_machine.specs.Opened.{Opening, instance_opening, opened, accepted
 
 -- those of the request, with the catalog's maintenance version
 abbrev pub created_attributes : Rules → Provision → Attributes
-created_attributes rules ask =
-    record { service = ask.service; plan = ask.plan; place = ask.organization; spot = ask.space;
-        parameters = ask.parameters; maintenance = catalog_version rules ask.service ask.plan;
-        context = ask.context }
+created_attributes rules ask = record { service = ask.service; plan = ask.plan; place = ask.organization; spot = ask.space; parameters = ask.parameters; maintenance = catalog_version rules ask.service ask.plan; context = ask.context }
 
 abbrev pub creation : Rules → Provision → Opening
 creation rules ask =

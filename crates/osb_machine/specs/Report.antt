@@ -23,9 +23,7 @@ kept_credentials said.Succeeded ask order = if is_a Bind order then ask.credenti
 kept_credentials said.Failed ask order = empty_object
 
 abbrev pub kept_outcome : Report → Order → Outcome
-kept_outcome ask order =
-    record { state = reported_state ask.state; description = ask.description;
-        credentials = kept_credentials ask.state ask order }
+kept_outcome ask order = record { state = reported_state ask.state; description = ask.description; credentials = kept_credentials ask.state ask order }
 
 abbrev pub is_outcome : Outcome → Outcome → Bool
 is_outcome one other =

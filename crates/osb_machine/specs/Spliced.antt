@@ -17,9 +17,9 @@ joined (piece ∷ next ∷ pieces) = piece ++ joined (next ∷ pieces)
 abbrev pub state_pieces : Outcome → Json
 state_pieces outcome =
     if length outcome.description == 0
-        then joined (codes "{\"state\":\"" ∷ state_text outcome.state ∷ codes "\"}" ∷ [])
+    then joined (codes "{\"state\":\"" ∷ state_text outcome.state ∷ codes "\"}" ∷ [])
     else joined (codes "{\"description\":" ∷ quoted outcome.description ∷ codes ",\"state\":\""
-        ∷ state_text outcome.state ∷ codes "\"}" ∷ [])
+    ∷ state_text outcome.state ∷ codes "\"}" ∷ [])
 
 -- the maintenance version, where it isn't empty
 abbrev pub maintenance_member : Bytes → Bytes

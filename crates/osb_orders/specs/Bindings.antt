@@ -42,9 +42,7 @@ of_binding attributes = record attributes { maintenance = []; context = empty_ob
 -- the attributes and the credentials are those of the Bind
 abbrev pub binding_since : Id → Life → Option BindingNow
 binding_since id [] = None
-binding_since id (bind ∷ later) =
-    Some (record { phase = binding_phase_since id bind later;
-        attributes = of_binding bind.attributes; credentials = bind.outcome.credentials })
+binding_since id (bind ∷ later) = Some (record { phase = binding_phase_since id bind later; attributes = of_binding bind.attributes; credentials = bind.outcome.credentials })
 
 -- the binding, unless it is absent
 abbrev pub binding_of : Id → Life → Option BindingNow

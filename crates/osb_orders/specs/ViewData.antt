@@ -27,9 +27,16 @@ pub record ViewData : Type 0 where
 -- the facts that a view has
 abbrev pub data_in : View → ViewData
 data_in view =
-    record { standing = view.standing; last = view.last; binding = view.binding; named = view.named;
-        subject_last = view.subject_last; count = view.count; bound = view.bound;
-        listing = view.listing.items }
+    record {
+      standing = view.standing;
+      last = view.last;
+      binding = view.binding;
+      named = view.named;
+      subject_last = view.subject_last;
+      count = view.count;
+      bound = view.bound;
+      listing = view.listing.items;
+    }
 
 -- the facts for an ask, from the life that it names and the running orders
 abbrev pub view_data_of : Life → List (Id × Order) → Ask → ViewData

@@ -13,4 +13,4 @@ MayLeaveLives s lives = ∥ ((db : Trees) × s.may_leave db × AreLivesOf db liv
 abbrev pub LeavesFound : State → State → Type 0
 LeavesFound old new = (db : Trees) → new.may_leave db →
     ∥ ((was : Trees) × old.may_leave was
-        × ((lives : Lives) → HoldsLives lives was → HoldsLives lives db)) ∥₁
+    × ((lives : Lives) → HoldsLives lives was → HoldsLives lives db)) ∥₁

@@ -17,8 +17,11 @@ use Rattle.osb_standing.specs.Rows.{Bindings}
 
 abbrev pub binding_by : BindingPhase → Order → BindingNow
 binding_by now bind =
-    record { phase = now; attributes = of_binding bind.attributes;
-        credentials = bind.outcome.credentials }
+    record {
+      phase = now;
+      attributes = of_binding bind.attributes;
+      credentials = bind.outcome.credentials;
+    }
 
 abbrev pub with_binding_phase : BindingPhase → BindingNow → BindingNow
 with_binding_phase now binding = record binding { phase = now }

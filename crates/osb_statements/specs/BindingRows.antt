@@ -61,4 +61,4 @@ pub record FollowsOrder (old new : State) (id : List ℕ) (order : Order) : Type
   pub puts : (life : Life) (change : Change) → IsWritten life change order →
       BindingsStand id life (content old).bindings
       → PutsBindings id (bindings_of (changed change life)) (content old).bindings
-          (content new).bindings
+      (content new).bindings

@@ -26,8 +26,15 @@ standing_number (Some standing) = instance_phase_number standing.phase
 
 abbrev pub no_attributes : Attributes
 no_attributes =
-    record { service = []; plan = []; place = []; spot = []; parameters = []; maintenance = [];
-        context = [] }
+    record {
+      service = [];
+      plan = [];
+      place = [];
+      spot = [];
+      parameters = [];
+      maintenance = [];
+      context = [];
+    }
 
 -- empty texts where the instance is absent
 abbrev pub attributes_shown : Option Standing → Attributes

@@ -65,9 +65,10 @@ is_instance_between after to entry = is_between after to (Words entry.0)
 
 -- how many instances aren't absent, and how many have a last order that runs
 abbrev pub counted_in : List InstanceEntry → ℕ × ℕ
-counted_in rows =
-    (length (filter (λ (entry : InstanceEntry). is_some entry.1.standing) rows),
-        length (filter (λ (entry : InstanceEntry). entry.1.busy) rows))
+counted_in rows = (
+  length (filter (λ (entry : InstanceEntry). is_some entry.1.standing) rows),
+  length (filter (λ (entry : InstanceEntry). entry.1.busy) rows),
+)
 
 -- both numbers have grown by those of the rows
 abbrev pub CountsMore : List InstanceEntry → ℕ × ℕ → ℕ × ℕ → Type 0

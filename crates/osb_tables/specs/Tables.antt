@@ -18,8 +18,14 @@ use Rattle.osb_tables.specs.declared.schema.Indexes.TheVariants.{None, Listing, 
 -- a column of a STRICT table
 abbrev pub column_of : List ℕ → Kind → Column
 column_of name kind =
-    record { name = name; kind = kind; is_strict = true; not_null = true; default = Null;
-        collation = Binary }
+    record {
+      name = name;
+      kind = kind;
+      is_strict = true;
+      not_null = true;
+      default = Null;
+      collation = Binary;
+    }
 
 -- those of these names and kinds
 abbrev pub columns_of : List (Bor (List ℕ) × Kind) → List Column
@@ -155,8 +161,14 @@ five_tables = created tables_schema contexts_table
 -- an index by the bytes of these columns
 abbrev pub index_of : List ℕ → ℕ → ℕ → List ℕ → Bool → Index
 index_of name tree table columns is_unique =
-    record { name = name; tree = tree; table = table; columns = columns;
-        order = record { digits = 0 }; is_unique = is_unique }
+    record {
+      name = name;
+      tree = tree;
+      table = table;
+      columns = columns;
+      order = record { digits = 0 };
+      is_unique = is_unique;
+    }
 
 abbrev pub busy_name : List ℕ
 busy_name = codes "busy_instances"
