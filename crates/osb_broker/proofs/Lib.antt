@@ -35,6 +35,7 @@ mod RepliedLemmas
 mod ShardLemmas
 mod LoginLemmas
 mod ErrorLemmas
+mod BodyLemmas
 mod TrimmedRunLemmas
 mod TrimmedEpisodeLemmas
 mod Vectors

@@ -36,8 +36,9 @@ pub mod Begun
 pub mod Waiting
 -- Several brokers are one.
 pub mod Shards
--- A reply that reports an error has changed nothing, and who lacks the login learns nothing.
+-- A reply that reports an error has changed nothing, and who lacks the login learns nothing. Each body is an object.
 pub mod Errors
+pub mod Bodies
 pub mod Logins
 -- Trimmed lives answer as the lives do.
 pub mod Trimmed

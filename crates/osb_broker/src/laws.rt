@@ -24,6 +24,7 @@ ghost use Rattle.osb_broker.specs.Begun.{GroupsAreConversations};
 ghost use Rattle.osb_broker.specs.Replied.{RepliedRequestsActOnce, SentRequestsActAtMostOnce};
 ghost use Rattle.osb_broker.specs.Shards.{ShardsAreApart, ShardsKeepOut, UnnamedMayBeLeftOut, ShardsAreOne, HistoriesAreOne};
 ghost use Rattle.osb_broker.specs.Errors.{ErrorsStay};
+ghost use Rattle.osb_broker.specs.Bodies.{RepliesAreObjects, FaultsAreObjects};
 ghost use Rattle.osb_broker.specs.Trimmed.{RunsStay, EpisodesStay};
 ghost use Rattle.osb_broker.specs.Logins.{UnknownLearnNothing, AsksHaveLogins, PlatformReportsNothing};
 
@@ -182,6 +183,15 @@ pub fn shards()
 pub fn errors()
     ensures { ErrorsStay }
 {}
+
+/// The body of each reply is a JSON object: to a request, refused or not, from well-formed lives and by
+/// sound settings whose catalog is one, and to a framing fault.
+pub fn bodies()
+    ensures replies { RepliesAreObjects }
+    ensures faults { FaultsAreObjects }
+{
+    osb_laws::bodies();
+}
 
 /// A request that names a door and lacks its logins has the fixed answer 401, the same from any lives,
 /// and leaves these. It is never refused memory.

@@ -32,9 +32,9 @@ pub use broker::Broker;
 pub use buffer::Buffer;
 pub use fault::{NewFault, ServeFault};
 pub use laws::{
-    apart, episodes, errors, histories, logins, never_fails, reads_are_bounded, refusals_show,
-    replied, reported, resend, runs_go_on, shards, texts_are_of_the_cut, together, trimmed,
-    unknown,
+    apart, bodies, episodes, errors, histories, logins, never_fails, reads_are_bounded,
+    refusals_show, replied, reported, resend, runs_go_on, shards, texts_are_of_the_cut, together,
+    trimmed, unknown,
 };
 pub use plans::first_lacking;
 pub use rooms::Room;

@@ -13,4 +13,7 @@ pub mod OpenedLemmas
 pub mod ReportedLemmas
 pub mod CountLemmas
 pub mod FailureLemmas
+mod ValueLemmas
+mod BodyLemmas
+mod CatalogLemmas
 mod Vectors

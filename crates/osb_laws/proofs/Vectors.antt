@@ -3,6 +3,10 @@ use Rattle.std.proofs.Common.{◌≡◌, ℕ, ◌==◌, Bool, true, false, [], �
 use Rattle.std.specs.Option.{option_map_or}
 use Rattle.std.specs.Fmt.{digits}
 use Rattle.std.proofs.lemmas.Bool.{true≢false}
+use Rattle.std.proofs.Common.{bytes_eq, take}
+use Rattle.json.specs.Print.{escape_byte}
+use Rattle.serde_json.specs.Data.{null, string, object, Members, no_members, member}
+use Rattle.osb_text.specs.Order.{IsInByteOrder}
 use Rattle.osb_replies.specs.declared.status.Status.TheVariants.{Created, Accepted, Ok, Gone, Conflict}
 use Rattle.osb_asks.specs.declared.ask.Report.{Report}
 use Rattle.osb_asks.specs.declared.ask.ReportState.TheVariants as said
@@ -21,6 +25,7 @@ use Rattle.osb_orders.specs.Life.{Life}
 use Rattle.osb_machine.specs.Texts.{state_body}
 use Rattle.osb_laws.specs.Statuses.{StatusSays, is_success, polled_of, PollSays}
 use Rattle.osb_laws.specs.Reported.{ReportsSuccess, IsOnce}
+use Rattle.osb_laws.specs.Bodies.{IsObjectBody}
 
 abbrev nothing : Attributes
 nothing = record { service = []; plan = []; place = []; spot = []; parameters = []; maintenance = []; context = [] }
@@ -124,3 +129,24 @@ not_failed (inl e) = let bad : true ≡ false = ap ends_failed e in absurd (true
 not_failed (inr (outcome, succeeded, e)) =
     let bad : true ≡ false = ap ends_failed e ∙ ap (λ s. state_number s == 2) succeeded in
     absurd (true≢false bad)
+
+-- ---- bodies
+
+-- one with two members
+abbrev two_members : Members
+two_members = member (codes "description") (string (codes "no \"disk\"")) (member (codes "state") (string (codes "failed")) no_members)
+
+an_object : IsObjectBody (codes "{\"description\":\"no \\\"disk\\\"\",\"state\":\"failed\"}")
+unfolding escape_byte
+an_object = record { members = two_members; text = refl; ordered = (refl, tt, (tt, tt, tt)); whole = refl }
+
+-- an array is none
+no_array : IsObjectBody (codes "[]") → ⊥
+no_array body = let first : true ≡ false = ap (λ text. bytes_eq (take 1 text) (codes "[")) body.text in true≢false first
+
+-- a name that comes twice, or before its place
+no_name_twice : IsInByteOrder (object (member (codes "state") null (member (codes "state") null no_members))) → ⊥
+no_name_twice ordered = cc
+
+no_name_before_its_place : IsInByteOrder (object (member (codes "state") null (member (codes "description") null no_members))) → ⊥
+no_name_before_its_place ordered = cc

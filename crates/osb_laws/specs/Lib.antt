@@ -7,3 +7,4 @@ pub mod OpenedStays
 pub mod Reported
 pub mod Apart
 pub mod Failures
+pub mod Bodies

@@ -6,6 +6,7 @@ ghost use Rattle.osb_laws.specs.Statuses.{StatusesSay, ErrorsChangeNothing, Poll
 ghost use Rattle.osb_laws.specs.AskedAgain.{AskedAgainStays};
 ghost use Rattle.osb_laws.specs.OpenedStays.{OpenedStays, CreatedOnce, BoundOnce};
 ghost use Rattle.osb_laws.specs.Reported.{ReportedOnce};
+ghost use Rattle.osb_laws.specs.Bodies.{BodiesAreObjects, ErrorsAreObjects, CatalogsAreObjects};
 ghost use Rattle.osb_laws.specs.Failures.{NoAnswerIs500};
 ghost use Rattle.osb_laws.specs.Apart.{AnsweredByOneLife, OthersStay, UnnamedStay};
 
@@ -73,4 +74,12 @@ pub fn apart()
 /// table refuses nothing so.
 pub fn never_500()
     ensures { NoAnswerIs500 }
+{}
+
+/// The body of each answer is a JSON object (RFC 8259, section 4), from well-formed lives, by sound
+/// settings whose catalog is one. So is that of each error, and the catalog of each settings file.
+pub fn bodies()
+    ensures objects { BodiesAreObjects }
+    ensures errors { ErrorsAreObjects }
+    ensures catalogs { CatalogsAreObjects }
 {}

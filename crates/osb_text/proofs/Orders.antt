@@ -40,7 +40,7 @@ any_number : (o : Option Num) → IfFound (λ n. IsInByteOrder (number n)) o
 any_number None = tt
 any_number (Some n) = tt
 
-order-read : (text : List ℕ) (v : Data) → read text ≡ Some v → IsInByteOrder v
+pub order-read : (text : List ℕ) (v : Data) → read text ≡ Some v → IsInByteOrder v
 order-read = kept-read IsInByteOrder ItemsInByteOrder MembersInByteOrder (record {
   at_null = tt;
   at_boolean = λ b. tt;
