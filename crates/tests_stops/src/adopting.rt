@@ -4,7 +4,7 @@ use osb_audit::Counts;
 use osb_records::{Cause, Records, StoreFault, open_memory};
 use osb_text::Text;
 use sqlite::{Alter, Connection, MemStore};
-use std::alloc::Global;
+use std::alloc::{AllocError, Global};
 use std::test::Fail;
 
 pub(crate) const ORDER: &str =
@@ -62,24 +62,34 @@ pub(crate) fn run<S: Alter>(
     Ok(())
 }
 
+/// The database after these statements.
+pub(crate) fn after<S: Alter + Drop>(
+    mut conn: Connection<S>,
+    statements: &[&str],
+) -> Result<Connection<S>, StoreFault> {
+    run(&mut conn, statements)?;
+    Ok(conn)
+}
+
 /// A new database after these statements.
 pub(crate) fn changed(
     alloc: Global,
     statements: &[&str],
 ) -> Result<Connection<MemStore>, StoreFault> {
-    let mut conn = open_memory(alloc)?.into_connection();
-    run(&mut conn, statements)?;
-    Ok(conn)
+    after(open_memory(alloc)?.into_connection(), statements)
 }
 
-fn adopted(alloc: Global, conn: Connection<MemStore>) -> Result<Records<MemStore>, StoreFault> {
+fn adopted<S: Alter + Drop>(alloc: Global, conn: Connection<S>) -> Result<Records<S>, StoreFault> {
     match Records::adopt(alloc, conn) {
         Ok(records) => Ok(records),
-        Err((fault, _)) => Err(fault),
+        Err((fault, conn)) => {
+            drop(conn);
+            Err(fault)
+        }
     }
 }
 
-fn plans_in(alloc: Global, records: &mut Records<MemStore>) -> Result<usize, StoreFault> {
+fn plans_in<S: Alter>(alloc: Global, records: &mut Records<S>) -> Result<usize, StoreFault> {
     let plans = records.plans_in_use(alloc)?;
     Ok(plans.len())
 }
@@ -100,26 +110,37 @@ fn counts_after(alloc: Global, statements: &[&str]) -> Result<Counts, StoreFault
     counts
 }
 
-/// The ids of the instances, one after the other, each with a comma behind it.
-fn ids_after(alloc: Global, statements: &[&str]) -> Result<String, StoreFault> {
-    let mut records = adopted(alloc, changed(alloc, statements)?)?;
-    let ids = ids_in(alloc, &mut records);
-    drop(records);
-    ids
+/// Appends an id with a comma behind it.
+fn push_id(ids: &mut String, id: &str) -> Result<(), AllocError> {
+    ids.push_str(id)?;
+    ids.push_str(",")
 }
 
-fn ids_in(alloc: Global, records: &mut Records<MemStore>) -> Result<String, StoreFault> {
-    let mut ids = String::new(alloc);
+/// Appends the ids of the instances, one after the other.
+fn push_ids<S: Alter>(
+    alloc: Global,
+    records: &mut Records<S>,
+    ids: &mut String,
+) -> Result<(), StoreFault> {
     let mut after = Text::new(alloc);
     for _ in 0..9u8 {
         let Some(id) = records.next_id(after.as_str())? else {
-            return Ok(ids);
+            return Ok(());
         };
-        ids.push_str(id.as_str())?;
-        ids.push_str(",")?;
+        push_id(ids, id.as_str())?;
         after = id;
     }
     Err(StoreFault::Refused(Cause::Other))
+}
+
+/// Whether the instances after these statements have these ids, one after the other, each with a comma behind it.
+fn has_ids(alloc: Global, statements: &[&str], expected: &str) -> Result<bool, StoreFault> {
+    let mut records = adopted(alloc, changed(alloc, statements)?)?;
+    let mut ids = String::new(alloc);
+    let pushed = push_ids(alloc, &mut records, &mut ids);
+    drop(records);
+    pushed?;
+    Ok(ids.as_str() == expected)
 }
 
 /// Two more instances with an order each, with the ids `h` and `j`.
@@ -138,9 +159,9 @@ static NEIGHBOURS: [&str; 10] = [
 
 #[test]
 fn instances_are_found_one_after_the_other(rt: HostRuntime) -> Result<(), Fail> {
-    assert!(rt; ids_after(rt.alloc(), &[])?.as_str() == "");
-    assert!(rt; ids_after(rt.alloc(), &WHOLE)?.as_str() == "i,");
-    assert!(rt; ids_after(rt.alloc(), &NEIGHBOURS)?.as_str() == "h,i,j,");
+    assert!(rt; has_ids(rt.alloc(), &[], "")?);
+    assert!(rt; has_ids(rt.alloc(), &WHOLE, "i,")?);
+    assert!(rt; has_ids(rt.alloc(), &NEIGHBOURS, "h,i,j,")?);
     Ok(())
 }
 
@@ -238,9 +259,7 @@ pub(crate) fn first(
     alloc: Global,
     statements: &[&str],
 ) -> Result<Connection<MemStore>, StoreFault> {
-    let mut conn = changed(alloc, &TO_FIRST)?;
-    run(&mut conn, statements)?;
-    Ok(conn)
+    after(changed(alloc, &TO_FIRST)?, statements)
 }
 
 /// How many plans are in use in it, where it is taken over.

@@ -3,8 +3,8 @@
 use crate::adopting::{GONE, WHOLE, count_orders, run};
 use osb_audit::Counts;
 use osb_file::{
-    AtPath, Copied, DatabaseFile, FileFault, OneFile, Origin, Seen, Unseen, Unwritten, hold,
-    open_file, replace,
+    AtPath, Copied, Database, DatabaseFile, FileFault, OneFile, Origin, Seen, Unseen, Unwritten,
+    hold, open_file, replace,
 };
 use osb_records::{Records, StoreFault};
 use osb_text::Text;
@@ -28,45 +28,52 @@ fn count_and_run<S: Alter + Drop>(
     count
 }
 
-/// The same over a file of which `start` stands for what it holds.
-fn open_and_run_from<S: Start>(
-    rt: &HostRuntime,
-    path: &str,
-    statements: &[&str],
-    start: S,
-) -> Result<usize, FileFault> {
-    let file = DatabaseFile::at(rt, path, false)?;
-    match open_file(rt, &file, AtPath::new(start)) {
-        Ok((records, _)) => Ok(count_and_run(rt.alloc(), records, statements)?),
-        Err((fault, _)) => Err(fault),
-    }
-}
-
-/// The same over a file.
-fn open_and_run(rt: &HostRuntime, path: &str, statements: &[&str]) -> Result<usize, FileFault> {
-    open_and_run_from(rt, path, statements, Unknown)
-}
-
-/// Whether the database of a file was there before, where one has to be or may be begun.
-fn origin_from<S: Start>(
+/// Whether the database of a file was there before, and how many orders the instance `i` has in it, before these
+/// statements are run.
+fn found_in<D: Database>(
     rt: &HostRuntime,
     path: &str,
     existing: bool,
-    start: S,
-) -> Result<Origin, FileFault> {
+    statements: &[&str],
+    database: D,
+) -> Result<(Origin, usize), FileFault>
+where
+    D::Store: Drop,
+{
     let file = DatabaseFile::at(rt, path, existing)?;
-    match open_file(rt, &file, AtPath::new(start)) {
+    match open_file(rt, &file, database) {
         Ok((records, origin)) => {
-            drop(records);
-            Ok(origin)
+            let count = count_and_run(rt.alloc(), records, statements)?;
+            Ok((origin, count))
         }
-        Err((fault, _)) => Err(fault),
+        Err((fault, conn)) => {
+            drop(conn);
+            Err(fault)
+        }
     }
 }
 
-/// The same over a file of which nothing is known.
+/// The same where `start` stands for what the file holds.
+fn found_from<S: Start>(
+    rt: &HostRuntime,
+    path: &str,
+    existing: bool,
+    statements: &[&str],
+    start: S,
+) -> Result<(Origin, usize), FileFault> {
+    found_in(rt, path, existing, statements, AtPath::new(start))
+}
+
+/// How many orders the instance `i` has in a file, before these statements are run.
+fn open_and_run(rt: &HostRuntime, path: &str, statements: &[&str]) -> Result<usize, FileFault> {
+    let (_, count) = found_from(rt, path, false, statements, Unknown)?;
+    Ok(count)
+}
+
+/// Whether the database of a file was there before, where one has to be or may be begun.
 fn origin_at(rt: &HostRuntime, path: &str, existing: bool) -> Result<Origin, FileFault> {
-    origin_from(rt, path, existing, Unknown)
+    let (origin, _) = found_from(rt, path, existing, &[], Unknown)?;
+    Ok(origin)
 }
 
 /// The path of a file in the folder for such, where neither it nor its log is.
@@ -197,11 +204,14 @@ fn one_file_of(rt: &HostRuntime, path: &str) -> Result<OneFile, Unseen> {
     OneFile::of(rt.alloc(), Copied::read(rt, path)?)
 }
 
-/// Whether the file was made that has so much of everything, and can't be made again.
-fn is_made(rt: &HostRuntime, one: &OneFile, path: &str, counts: Counts) -> bool {
-    one.counts() == counts
-        && one.write(rt, path) == Ok(())
-        && one.write(rt, path) == Err(Unwritten::Exists)
+/// Whether the one file of a database has so much of everything, is made, and can't be made again.
+fn is_made(rt: &HostRuntime, path: &str, to: &str, counts: Counts) -> Result<bool, Unseen> {
+    let one = one_file_of(rt, path)?;
+    Ok(
+        one.counts() == counts
+            && one.write(rt, to) == Ok(())
+            && one.write(rt, to) == Err(Unwritten::Exists),
+    )
 }
 
 #[test]
@@ -216,9 +226,7 @@ fn a_file_is_backed_up(rt: HostRuntime) -> Result<(), Fail> {
         bindings: 0,
         running: 0,
     };
-    let made = one_file_of(&rt, path.as_str())?;
-    assert!(rt; is_made(&rt, &made, to.as_str(), one));
-    drop(made);
+    assert!(rt; is_made(&rt, path.as_str(), to.as_str(), one)?);
     assert!(rt; has(&rt, to.as_str(), one, &[("s", "p")]));
     assert!(rt; open_and_run(&rt, to.as_str(), &[])? == 1);
     Ok(())
@@ -232,9 +240,18 @@ fn trimmed_of(rt: &HostRuntime, path: &str) -> Result<(OneFile, usize), Unseen> 
 /// Trims a file, and gives how many orders that changed.
 fn trim(rt: &HostRuntime, path: &str) -> Result<usize, Fail> {
     let held = hold(rt, path)?;
-    let (one, count) = trimmed_of(rt, path)?;
-    replace(rt, held, path, &one)?;
-    Ok(count)
+    match trimmed_of(rt, path) {
+        Ok((one, count)) => {
+            let replaced = replace(rt, held, path, &one);
+            drop(one);
+            replaced?;
+            Ok(count)
+        }
+        Err(unseen) => {
+            drop(held);
+            Err(unseen)?
+        }
+    }
 }
 
 /// Whether a file can't be locked, since it is.

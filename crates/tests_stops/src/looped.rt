@@ -4,6 +4,7 @@
 use crate::queue::{Client, Queue};
 use crate::stops::{OPTIONS, Stopping, empty_files, fused};
 use osb_catalog::Settings;
+use osb_file::Database;
 use osb_frames::Counted;
 use osb_listen::{ListenFault, ListenOptions, serve_file};
 use osb_restart::AtRest;
@@ -45,17 +46,28 @@ struct Outcome {
     errors: Vec<u8>,
 }
 
-/// How serving so many clients over these files ends, and what is written on standard error.
-fn ended_over<D: Crash + Drop>(
+/// These files, before a run.
+pub(crate) fn at_rest<D: Crash + Drop>(files: Files<D>) -> Result<AtRest<D>, Fail> {
+    match AtRest::new(files, OPTIONS) {
+        Ok(files) => Ok(files),
+        Err(files) => {
+            drop(files);
+            Err("files that may not be used")?
+        }
+    }
+}
+
+/// How serving so many clients over a database ends, and what is written on standard error.
+fn ended_by<D: Database>(
     rt: &HostRuntime,
     settings: &Settings,
-    files: Files<D>,
+    database: D,
     queue: &mut Queue<'_>,
     connections: u32,
-) -> Result<(Result<(), ListenFault>, Vec<u8>), Fail> {
-    let Ok(files) = AtRest::new(files, OPTIONS) else {
-        return Err("files that may not be used")?;
-    };
+) -> (Result<(), ListenFault>, Vec<u8>)
+where
+    D::Store: Drop,
+{
     let mut output = Counted::new(Vec::new(rt.alloc()));
     let mut errors = Counted::new(Vec::new(rt.alloc()));
     let (ended, conn) = serve_file(
@@ -63,13 +75,26 @@ fn ended_over<D: Crash + Drop>(
         settings,
         &place(connections),
         1,
-        files,
+        database,
         queue,
         &mut output,
         &mut errors,
     );
     drop(conn);
-    Ok((ended, errors.into_inner()))
+    drop(output);
+    (ended, errors.into_inner())
+}
+
+/// The same over these files.
+fn ended_over<D: Crash + Drop>(
+    rt: &HostRuntime,
+    settings: &Settings,
+    files: Files<D>,
+    queue: &mut Queue<'_>,
+    connections: u32,
+) -> Result<(Result<(), ListenFault>, Vec<u8>), Fail> {
+    let files = at_rest(files)?;
+    Ok(ended_by(rt, settings, files, queue, connections))
 }
 
 /// Serves so many of the clients of a queue over a new database.
@@ -133,7 +158,7 @@ fn was_sent(alloc: Global, sent: &[u8], status: &str, most: usize) -> Result<boo
 }
 
 /// Fails where clients were sent other replies than those of these statuses.
-fn were_sent(alloc: Global, sent: &[Vec<u8>], statuses: &[&str]) -> Result<(), Fail> {
+pub(crate) fn were_sent(alloc: Global, sent: &[Vec<u8>], statuses: &[&str]) -> Result<(), Fail> {
     if sent.len() != statuses.len() {
         return Err("another number of clients")?;
     }
@@ -178,15 +203,14 @@ fn with_two_faults(rt: &HostRuntime, together: bool) -> Result<Outcome, Fail> {
     served(rt, Queue::of(rt.alloc(), &clients, true, together), 3)
 }
 
-/// Fails where one of these three fares otherwise than by its own fault.
-fn fare_apart(rt: &HostRuntime, together: bool) -> Result<(), Fail> {
-    let served = with_two_faults(rt, together)?;
+/// Fails where one of these three fared otherwise than by its own fault.
+fn fared_apart(alloc: Global, served: &Outcome) -> Result<(), Fail> {
     let [silent, cut, whole] = served.sent.as_slice() else {
         return Err("another number of clients")?;
     };
     if !silent.is_empty()
-        || !was_sent(rt.alloc(), cut.as_slice(), "201 Created", 20)?
-        || !was_sent(rt.alloc(), whole.as_slice(), "201 Created", usize::MAX)?
+        || !was_sent(alloc, cut.as_slice(), "201 Created", 20)?
+        || !was_sent(alloc, whole.as_slice(), "201 Created", usize::MAX)?
     {
         return Err("another reply")?;
     }
@@ -197,21 +221,33 @@ fn fare_apart(rt: &HostRuntime, together: bool) -> Result<(), Fail> {
     Ok(())
 }
 
-#[test]
-fn a_refused_request_is_reported(rt: HostRuntime) -> Result<(), Fail> {
-    let settings = built_in(rt.alloc())?;
-    let put = put(rt.alloc(), "a")?;
-    let clients = [client(put.as_slice(), 50), client(put.as_slice(), 50)];
+/// The same as they are served.
+fn fare_apart(rt: &HostRuntime, together: bool) -> Result<(), Fail> {
+    let served = with_two_faults(rt, together)?;
+    let fared = fared_apart(rt.alloc(), &served);
+    drop(served);
+    fared
+}
+
+/// Fails where no disk that failed is reported. It stops before the first client, or as the change of it is written.
+fn are_reported(rt: &HostRuntime, settings: &Settings, clients: &[Client<'_>]) -> Result<(), Fail> {
     let lines = b"database: new\nrequest: 500 database: disk failed\nrequest: 500 database: shut\n";
-    // The disk stops before the first client, or as the change of it is written.
     for calls in 0..100 {
-        if let Some(errors) = reported_after(&rt, &settings, &clients, calls)? {
+        if let Some(errors) = reported_after(rt, settings, clients, calls)? {
             if errors.as_slice() == lines.as_slice() {
                 return Ok(());
             }
         }
     }
     Err("no disk that failed was reported")?
+}
+
+#[test]
+fn a_refused_request_is_reported(rt: HostRuntime) -> Result<(), Fail> {
+    let settings = built_in(rt.alloc())?;
+    let put = put(rt.alloc(), "a")?;
+    let clients = [client(put.as_slice(), 50), client(put.as_slice(), 50)];
+    are_reported(&rt, &settings, &clients)
 }
 
 #[test]

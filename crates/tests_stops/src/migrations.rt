@@ -1,14 +1,12 @@
 //! A database of version 1 that is taken over, over two disks, one of which stops at some call: each call
 //! in turn. What is left is of version 1 or 2, and the next start takes it over with the same lives.
 
-use crate::stops::{MANY, Stopping, empty_files, fused, opened};
+use crate::stops::{MANY, Stopping, StoreFiles, empty_files, files_of, fused, opened, reopened};
 use osb_catalog::Settings;
 use osb_orders::OrderKind::Create;
 use osb_orders::OrderState::{Running, Succeeded};
 use osb_records::Records;
-use osb_restart::restarted;
-use sqlite::{Alter, Connection, Error, FileStore, Files, Options};
-use sqlite_disk::{Crash, Memory};
+use sqlite::{Alter, Connection, Error, Options};
 use std::alloc::Global;
 use std::test::Fail;
 use tests_support::asks::{ASYNC, CREATE_1, IN_PROGRESS, POLL, PUT_LATER, REPORT_1, SUCCEEDED};
@@ -64,17 +62,18 @@ fn make<S: Alter>(alloc: Global, conn: &mut Connection<S>, indexes: &[&str]) -> 
     Ok(())
 }
 
-/// Files that hold it.
-fn first_files(alloc: Global, indexes: &[&str]) -> Result<Files<Memory>, Fail> {
-    let files = empty_files(alloc);
-    if !files.may_be_used() {
-        return Err("no files")?;
+/// These files with it.
+fn made_in<F: StoreFiles>(alloc: Global, files: F, indexes: &[&str]) -> Result<F, Fail> {
+    match files.connected(alloc, OPTIONS) {
+        Ok(mut conn) => {
+            make(alloc, &mut conn, indexes)?;
+            Ok(F::closed(conn.into_store()))
+        }
+        Err(files) => {
+            drop(files);
+            Err("not opened")?
+        }
     }
-    let Ok(mut conn) = Connection::open_files(alloc, files, OPTIONS) else {
-        return Err("not opened")?;
-    };
-    make(alloc, &mut conn, indexes)?;
-    Ok(conn.into_store().close())
 }
 
 /// Fails where the instance `i` has another life, or a context.
@@ -115,20 +114,33 @@ fn goes_on<S: Alter + Drop>(
     is_second(&mut conn)
 }
 
-/// The version that a stop has left, and the records that the next start takes over.
-fn taken_again<D: Crash + Drop>(
+/// The version of a database that a stop has left, and the records that the next start takes over.
+fn taken_over<S: Alter + Drop>(
     alloc: Global,
-    mut files: Files<D>,
-) -> Result<(u32, Records<FileStore<D>>), Fail> {
-    files.log.crash();
-    files.db.crash();
-    let Ok(mut conn) = Connection::open_files(alloc, files, OPTIONS) else {
-        return Err("not opened again")?;
-    };
+    mut conn: Connection<S>,
+) -> Result<(u32, Records<S>), Fail> {
     let version = number_in(&mut conn, "SELECT version FROM format")?;
     match Records::adopt(alloc, conn) {
         Ok(records) => Ok((version, records)),
-        Err(_) => Err("not taken over again")?,
+        Err((_, conn)) => {
+            drop(conn);
+            Err("not taken over again")?
+        }
+    }
+}
+
+/// The same of these files.
+fn taken_again<F: StoreFiles>(
+    alloc: Global,
+    mut files: F,
+) -> Result<(u32, Records<F::Store>), Fail> {
+    files.crash();
+    match files.connected(alloc, OPTIONS) {
+        Ok(conn) => taken_over(alloc, conn),
+        Err(files) => {
+            drop(files);
+            Err("not opened again")?
+        }
     }
 }
 
@@ -137,33 +149,55 @@ fn is_shut<S: Alter>(alloc: Global, records: &mut Records<S>) -> bool {
     records.life(alloc, "i").is_err()
 }
 
-/// The version that is left where a disk of these files stops as they are taken over. None where none does.
-fn version_left<D: Crash + Drop>(
+/// The version that a stop has left of these files. Fails where the next start doesn't go on from there.
+fn version_in<F: StoreFiles>(
     alloc: Global,
     settings: &Settings,
-    files: Files<D>,
+    files: F,
+) -> Result<Option<u32>, Fail> {
+    let (version, again) = taken_again(alloc, files)?;
+    goes_on(alloc, settings, again)?;
+    Ok(Some(version))
+}
+
+/// The same behind a start: version 2 where the store was shut. Fails where the records of the next start don't go on.
+fn version_behind<S: Alter + Drop>(
+    alloc: Global,
+    settings: &Settings,
+    again: Option<Records<S>>,
+    stopped: bool,
+) -> Result<Option<u32>, Fail> {
+    goes_on(alloc, settings, again.ok_or("not restarted")?)?;
+    Ok(if stopped { Some(2) } else { None })
+}
+
+/// The version that is left where a disk of these files stops as they are taken over. None where none does.
+fn version_left<F: StoreFiles>(
+    alloc: Global,
+    settings: &Settings,
+    files: F,
 ) -> Result<Option<u32>, Fail> {
     match opened(alloc, files, OPTIONS) {
         Ok(mut records) => {
             let stopped = is_shut(alloc, &mut records);
-            let again = restarted(alloc, records, OPTIONS).ok_or("not restarted")?;
-            goes_on(alloc, settings, again)?;
-            Ok(if stopped { Some(2) } else { None })
+            let again = reopened(alloc, files_of::<F>(records), OPTIONS);
+            version_behind(alloc, settings, again, stopped)
         }
-        Err(files) => {
-            let (version, again) = taken_again(alloc, files)?;
-            goes_on(alloc, settings, again)?;
-            Ok(Some(version))
-        }
+        Err(files) => version_in(alloc, settings, files),
     }
 }
 
 /// Stops the disk at each of its calls in turn, up to a start without a stop: how many calls that one made.
-fn stops_at_each_call(alloc: Global, indexes: &[&str], stopping: Stopping) -> Result<u64, Fail> {
-    let settings = built_in(alloc)?;
+fn stops_at_each_call(
+    alloc: Global,
+    settings: &Settings,
+    indexes: &[&str],
+    stopping: Stopping,
+) -> Result<u64, Fail> {
     for calls in 0..MANY {
-        let files = fused(first_files(alloc, indexes)?, stopping, calls);
-        match version_left(alloc, &settings, files)? {
+        let files = made_in(alloc, empty_files(alloc), indexes)?;
+        let files = fused(files, stopping, calls);
+        match version_left(alloc, settings, files)? {
             None => return Ok(calls),
             Some(1) | Some(2) => {}
             Some(_) => Err("another version")?,
@@ -173,24 +207,30 @@ fn stops_at_each_call(alloc: Global, indexes: &[&str], stopping: Stopping) -> Re
 }
 
 /// The same for each form of version 1.
-fn stops_in_each_form(alloc: Global, stopping: Stopping) -> Result<[u64; 3], Fail> {
+fn stops_in_each_form(
+    alloc: Global,
+    settings: &Settings,
+    stopping: Stopping,
+) -> Result<[u64; 3], Fail> {
     Ok([
-        stops_at_each_call(alloc, &[], stopping)?,
-        stops_at_each_call(alloc, &INDEXES[..1], stopping)?,
-        stops_at_each_call(alloc, &INDEXES, stopping)?,
+        stops_at_each_call(alloc, settings, &[], stopping)?,
+        stops_at_each_call(alloc, settings, &INDEXES[..1], stopping)?,
+        stops_at_each_call(alloc, settings, &INDEXES, stopping)?,
     ])
 }
 
 #[test]
 fn the_log_may_stop_at_any_call(rt: HostRuntime) -> Result<(), Fail> {
-    let calls = stops_in_each_form(rt.alloc(), Stopping::Log)?;
+    let settings = built_in(rt.alloc())?;
+    let calls = stops_in_each_form(rt.alloc(), &settings, Stopping::Log)?;
     assert!(rt; calls[0] > 40 && calls[1] > 40 && calls[2] > 40);
     Ok(())
 }
 
 #[test]
 fn the_database_file_may_stop_at_any_call(rt: HostRuntime) -> Result<(), Fail> {
-    let calls = stops_in_each_form(rt.alloc(), Stopping::Database)?;
+    let settings = built_in(rt.alloc())?;
+    let calls = stops_in_each_form(rt.alloc(), &settings, Stopping::Database)?;
     assert!(rt; calls[0] > 20 && calls[1] > 20 && calls[2] > 20);
     Ok(())
 }

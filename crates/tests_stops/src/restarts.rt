@@ -1,15 +1,15 @@
 //! Each call once, over files in memory. A stop at each call of a disk is in `stops`.
 
 use crate::orders::{CREATING, are_orders};
-use crate::stops::{OPTIONS, empty_files, opened};
+use crate::stops::{OPTIONS, StoreFiles, empty_files, files_of, opened};
 use osb_catalog::Settings;
-use osb_frames::{Limits, NO_LINES, Step, next};
-use osb_orders::Change;
+use osb_frames::{Limits, NO_LINES, Request, Step, next};
+use osb_orders::{Change, Order};
 use osb_records::Records;
 use osb_replies::Status;
 use osb_restart::{committed_and_restarted, handled_and_restarted, restarted};
-use sqlite::{Alter, FileStore};
-use sqlite_disk::{Crash, Memory};
+use sqlite::{Alter, FileStore, Files};
+use sqlite_disk::Crash;
 use std::alloc::Global;
 use std::test::Fail;
 use tests_support::asks::{ASYNC, CREATE_1, IN_PROGRESS, POLL, PUT_LATER};
@@ -19,30 +19,54 @@ use tests_support::replies::{ACCEPTED, OK};
 use tests_support::serving::{after_all, broker_over};
 use tests_support::whole::PUT_I;
 
-/// The records of a new database.
-fn new_records(alloc: Global) -> Option<Records<FileStore<Memory>>> {
-    opened(alloc, empty_files(alloc), OPTIONS).ok()
+/// The records of these files.
+fn records_of<F: StoreFiles>(alloc: Global, files: F) -> Result<Records<F::Store>, Fail> {
+    match opened(alloc, files, OPTIONS) {
+        Ok(records) => Ok(records),
+        Err(files) => {
+            drop(files);
+            Err("not opened")?
+        }
+    }
 }
 
-/// The records after a request, a stop and the next run, and what it was answered with.
+/// The records after this request, a stop and the next run, and what it was answered with.
+fn handled_over<D: Crash + Drop>(
+    alloc: Global,
+    settings: &Settings,
+    records: Records<FileStore<D>>,
+    request: &Request<'_>,
+) -> Result<(Status, Records<FileStore<D>>), Fail> {
+    let broker = broker_over(alloc, settings, records, 1)?;
+    Ok(handled_and_restarted(alloc, broker, request, true, OPTIONS).ok_or("not restarted")?)
+}
+
+/// The same of a request for the instance.
 fn created_over<D: Crash + Drop>(
     alloc: Global,
     settings: &Settings,
     records: Records<FileStore<D>>,
 ) -> Result<(Status, Records<FileStore<D>>), Fail> {
-    let broker = broker_over(alloc, settings, records, 1)?;
     let mut lines = NO_LINES;
-    let Step::Whole(request, _) = next(PUT_I, true, &Limits::STANDARD, &mut lines) else {
-        return Err("no request")?;
-    };
-    Ok(handled_and_restarted(alloc, broker, &request, true, OPTIONS).ok_or("not restarted")?)
+    match next(PUT_I, true, &Limits::STANDARD, &mut lines) {
+        Step::Whole(request, _) => handled_over(alloc, settings, records, &request),
+        Step::Stop(_) | Step::Ended | Step::More => {
+            drop(records);
+            Err("no request")?
+        }
+    }
 }
 
-/// The same over a new database.
-fn created(alloc: Global) -> Result<(Status, Records<FileStore<Memory>>), Fail> {
+/// The same over these files.
+fn created<D: Crash + Drop>(
+    alloc: Global,
+    files: Files<D>,
+) -> Result<(Status, Records<FileStore<D>>), Fail> {
+    let records = records_of(alloc, files)?;
     let settings = built_in(alloc)?;
-    let records = new_records(alloc).ok_or("not opened")?;
-    created_over(alloc, &settings, records)
+    let created = created_over(alloc, &settings, records);
+    drop(settings);
+    created
 }
 
 /// The same after a change of nothing, and whether it was acknowledged.
@@ -70,15 +94,6 @@ const GOES_ON: [Exchange; 2] = [
     (PUT_LATER, ASYNC, ACCEPTED, CREATE_1),
 ];
 
-/// The records of these files once they are opened again.
-fn opened_again<D: Crash + Drop>(
-    alloc: Global,
-    records: Records<FileStore<D>>,
-) -> Option<Records<FileStore<D>>> {
-    let files = records.into_connection().into_store().close();
-    opened(alloc, files, OPTIONS).ok()
-}
-
 /// The records after these exchanges over these records.
 fn after_these<S: Alter + Drop>(
     alloc: Global,
@@ -89,39 +104,57 @@ fn after_these<S: Alter + Drop>(
     after_all(alloc, &settings, records, exchanges)
 }
 
+/// The life of `i` in these files once its creation was begun, and went on after they were closed and opened.
+fn life_reopened<F: StoreFiles>(alloc: Global, files: F) -> Result<Vec<Order>, Fail> {
+    let begun = after_these(alloc, records_of(alloc, files)?, &BEGUN)?;
+    let again = records_of(alloc, files_of::<F>(begun))?;
+    let mut records = after_these(alloc, again, &GOES_ON)?;
+    Ok(records.life(alloc, "i")?)
+}
+
 #[test]
 fn file_reopened(rt: HostRuntime) -> Result<(), Fail> {
-    let alloc = rt.alloc();
-    let records = new_records(alloc).ok_or("not opened")?;
-    let records = after_these(alloc, records, &BEGUN)?;
-    let again = opened_again(alloc, records).ok_or("not opened again")?;
-    let mut again = after_these(alloc, again, &GOES_ON)?;
-    let life = again.life(alloc, "i")?;
+    let life = life_reopened(rt.alloc(), empty_files(rt.alloc()))?;
     assert!(rt; are_orders(life.as_slice(), &[CREATING]));
     Ok(())
 }
 
+/// What the request was answered with, and how many orders are found again.
+fn answered_in<D: Crash + Drop>(alloc: Global, files: Files<D>) -> Result<(Status, usize), Fail> {
+    let (status, records) = created(alloc, files)?;
+    Ok((status, orders_in(alloc, records)?))
+}
+
 #[test]
 fn what_was_answered_is_found_again(rt: HostRuntime) -> Result<(), Fail> {
-    let (status, records) = created(rt.alloc())?;
-    let orders = orders_in(rt.alloc(), records)?;
+    let (status, orders) = answered_in(rt.alloc(), empty_files(rt.alloc()))?;
     assert!(rt; status == Status::Created && orders == 1);
     Ok(())
 }
 
+/// How many orders are found again after one more stop.
+fn committed_in<D: Crash + Drop>(alloc: Global, files: Files<D>) -> Result<usize, Fail> {
+    let (_, records) = created(alloc, files)?;
+    let again = restarted(alloc, records, OPTIONS).ok_or("not restarted")?;
+    orders_in(alloc, again)
+}
+
 #[test]
 fn what_is_committed_is_found_again(rt: HostRuntime) -> Result<(), Fail> {
-    let (_, records) = created(rt.alloc())?;
-    let again = restarted(rt.alloc(), records, OPTIONS).ok_or("not restarted")?;
-    assert!(rt; orders_in(rt.alloc(), again)? == 1);
+    assert!(rt; committed_in(rt.alloc(), empty_files(rt.alloc()))? == 1);
     Ok(())
+}
+
+/// Whether a change of nothing is acknowledged, and how many orders are found again.
+fn acknowledged_in<D: Crash + Drop>(alloc: Global, files: Files<D>) -> Result<(bool, usize), Fail> {
+    let (_, records) = created(alloc, files)?;
+    let (acknowledged, again) = acknowledged_over(alloc, records)?;
+    Ok((acknowledged, orders_in(alloc, again)?))
 }
 
 #[test]
 fn what_is_acknowledged_is_found_again(rt: HostRuntime) -> Result<(), Fail> {
-    let (_, records) = created(rt.alloc())?;
-    let (acknowledged, again) = acknowledged_over(rt.alloc(), records)?;
-    let orders = orders_in(rt.alloc(), again)?;
+    let (acknowledged, orders) = acknowledged_in(rt.alloc(), empty_files(rt.alloc()))?;
     assert!(rt; acknowledged && orders == 1);
     Ok(())
 }

@@ -1,12 +1,12 @@
 //! Two runs of the program over two disks, one of which stops at some call of the first run: each call in
 //! turn, until none stops. The clients of the first run come again to the second.
 
-use crate::looped::{client, place};
+use crate::looped::{at_rest, client, place, were_sent};
 use crate::queue::{Client, Queue};
-use crate::stops::{MANY, OPTIONS, Stopping, empty_files, fused};
+use crate::stops::{MANY, Stopping, empty_files, fused};
 use osb_catalog::Settings;
 use osb_frames::Counted;
-use osb_restart::{AtRest, serve_runs};
+use osb_restart::serve_runs;
 use sqlite::Files;
 use sqlite_disk::Crash;
 use std::alloc::{AllocError, Global};
@@ -90,9 +90,7 @@ fn sent_in<D: Crash + Drop>(
     each: u32,
     clients: &[Client<'_>],
 ) -> Result<Option<Vec<Vec<u8>>>, Fail> {
-    let Ok(files) = AtRest::new(files, OPTIONS) else {
-        return Err("files that may not be used")?;
-    };
+    let files = at_rest(files)?;
     let mut queue = Queue::of(rt.alloc(), clients, true, false);
     let left = serve_runs(
         rt,
@@ -144,18 +142,35 @@ fn clients_with(alloc: Global, requests: &[Vec<u8>]) -> Result<Vec<Client<'_>>, 
         .collect(alloc)
 }
 
-/// Stops a disk at each of its calls in turn, up to two runs without a stop.
-fn stops_at_each_call(rt: &HostRuntime, stopping: Stopping) -> Result<(), Fail> {
-    let requests = requests(rt.alloc())?;
-    let clients = clients_with(rt.alloc(), requests.as_slice())?;
-    let settings = built_in(rt.alloc())?;
-    let allowed = allowed(rt.alloc(), &settings)?;
+/// The same with the built-in settings.
+fn allowed_at_all(alloc: Global) -> Result<Vec<Vec<Vec<u8>>>, Fail> {
+    let settings = built_in(alloc)?;
+    let allowed = allowed(alloc, &settings);
+    drop(settings);
+    allowed
+}
+
+/// Stops a disk at each of its calls in turn, up to two runs of these clients without a stop.
+fn stops_with(
+    rt: &HostRuntime,
+    allowed: &[Vec<Vec<u8>>],
+    clients: &[Client<'_>],
+    stopping: Stopping,
+) -> Result<(), Fail> {
     for calls in 0..MANY {
-        if answer_all(rt, allowed.as_slice(), clients.as_slice(), stopping, calls)? {
+        if answer_all(rt, allowed, clients, stopping, calls)? {
             return Ok(());
         }
     }
     Err("a stop at each call")?
+}
+
+/// The same of all clients.
+fn stops_at_each_call(rt: &HostRuntime, stopping: Stopping) -> Result<(), Fail> {
+    let requests = requests(rt.alloc())?;
+    let clients = clients_with(rt.alloc(), requests.as_slice())?;
+    let allowed = allowed_at_all(rt.alloc())?;
+    stops_with(rt, allowed.as_slice(), clients.as_slice(), stopping)
 }
 
 #[test]
@@ -173,23 +188,19 @@ const PUT: &str = "PUT /v2/service_instances/i";
 const BODY: &str =
     "{\"service_id\":\"svc\",\"plan_id\":\"p-sync\",\"organization_guid\":\"o\",\"space_guid\":\"s\"}";
 
-/// Whether a client was sent a reply of that status.
-fn has_status(alloc: Global, sent: Option<&Vec<u8>>, status: &str) -> Result<bool, Fail> {
-    let reply = last_reply(alloc, status, "{}")?;
-    Ok(sent.is_some_and(|sent| sent.as_slice() == reply.as_slice()))
+/// What clients are sent in three runs, one each, that ask for the same instance.
+fn sent_in_three(rt: &HostRuntime) -> Result<Option<Vec<Vec<u8>>>, Fail> {
+    let put = request(rt.alloc(), PUT, BODY)?;
+    let clients = [client(put.as_slice(), 50); 3];
+    let settings = built_in(rt.alloc())?;
+    let sent = sent_in(rt, &settings, empty_files(rt.alloc()), 3, 1, &clients);
+    drop(settings);
+    sent
 }
 
 #[test]
 fn what_each_run_is_asked_for_acts_once(rt: HostRuntime) -> Result<(), Fail> {
-    let put = request(rt.alloc(), PUT, BODY)?;
-    let clients = [client(put.as_slice(), 50); 3];
-    let settings = built_in(rt.alloc())?;
-    let Some(sent) = sent_in(&rt, &settings, empty_files(rt.alloc()), 3, 1, &clients)? else {
-        return Err("files that can't be opened")?;
-    };
-    assert_eq!(rt; sent.len(), 3);
-    assert!(rt; has_status(rt.alloc(), sent.get(0), "201 Created")?);
-    assert!(rt; has_status(rt.alloc(), sent.get(1), "200 OK")?);
-    assert!(rt; has_status(rt.alloc(), sent.get(2), "200 OK")?);
-    Ok(())
+    let sent = sent_in_three(&rt)?.ok_or("files that can't be opened")?;
+    let statuses = ["201 Created", "200 OK", "200 OK"];
+    were_sent(rt.alloc(), sent.as_slice(), &statuses)
 }

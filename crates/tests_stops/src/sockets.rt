@@ -1,6 +1,9 @@
 //! Connections over a socket, with the client and the program in one thread.
 
+ghost use Rattle.std.specs.Prelude.{◌≤◌};
+
 use osb_broker::{Broker, Buffer};
+use osb_catalog::Settings;
 use osb_file::{DatabaseFile, WatchedFile};
 use osb_frames::{Counted, Limits};
 use osb_listen::{ListenFault, Seat, TcpEntrance, serve_listener};
@@ -27,18 +30,84 @@ fn connected(rt: &HostRuntime, bytes: &[u8]) -> io::Result<(TcpStream, TcpListen
     Ok((client, listener))
 }
 
+/// How serving ends, and what is written on standard error.
+type Served = (Result<(), ListenFault>, Vec<u8>);
+
 /// How the loop over one client ends, as long as this file is there, and what is written on standard error.
 fn looped_over<S: Alter>(
     rt: &HostRuntime,
     broker: &mut Broker<'_, S>,
     entrance: &mut TcpEntrance<'_>,
-    file: &DatabaseFile<'_>,
-) -> Result<(Result<(), ListenFault>, Vec<u8>), Fail> {
-    let watched = file.watched(rt);
+    file: &WatchedFile<'_>,
+) -> Result<Served, Fail> {
     let mut buffer = Buffer::new(rt.alloc(), &Limits::STANDARD)?;
     let mut errors = Counted::new(Vec::new(rt.alloc()));
-    let ended = serve_listener(rt, broker, &mut buffer, entrance, &watched, 1, &mut errors);
+    let ended = serve_listener(rt, broker, &mut buffer, entrance, file, 1, &mut errors);
+    drop(buffer);
     Ok((ended, errors.into_inner()))
+}
+
+/// The same at this listener, whose client has so much time.
+fn looped_at<S: Alter>(
+    rt: &HostRuntime,
+    broker: &mut Broker<'_, S>,
+    listener: TcpListener,
+    limit: Duration,
+    file: &WatchedFile<'_>,
+) -> Result<Served, Fail> {
+    let seat = Seat::empty();
+    let mut entrance = TcpEntrance::at(rt, &seat, listener, limit);
+    let looped = looped_over(rt, broker, &mut entrance, file);
+    drop(entrance);
+    drop(seat);
+    looped
+}
+
+/// The same of a new broker, which takes so many requests of a connection.
+fn served_with(
+    rt: &HostRuntime,
+    settings: &Settings,
+    per_connection: u32,
+    listener: TcpListener,
+    limit: Duration,
+    file: &WatchedFile<'_>,
+) -> Result<Served, Fail>
+    requires some { 1 ≤ per_connection }
+    requires few { per_connection ≤ 1000 }
+{
+    let mut broker = new_broker(rt.alloc(), settings, per_connection)?;
+    let looped = looped_at(rt, &mut broker, listener, limit, file);
+    drop(broker);
+    looped
+}
+
+/// The same with the built-in settings.
+fn served(
+    rt: &HostRuntime,
+    per_connection: u32,
+    listener: TcpListener,
+    limit: Duration,
+    file: &WatchedFile<'_>,
+) -> Result<Served, Fail>
+    requires some { 1 ≤ per_connection }
+    requires few { per_connection ≤ 1000 }
+{
+    let settings = built_in(rt.alloc())?;
+    let served = served_with(rt, &settings, per_connection, listener, limit, file);
+    drop(settings);
+    served
+}
+
+/// Makes an empty log beside a file.
+fn make_log(rt: &HostRuntime, path: &str) -> Result<(), Fail> {
+    let log = format!(in rt.alloc(); "{path}-wal")?;
+    Ok(fs::write(rt, log.as_str(), "")?)
+}
+
+/// The path of the file of that name.
+fn path_of(rt: &HostRuntime, name: &str) -> Result<String, Fail> {
+    let folder = env::temp_dir(rt)?;
+    Ok(format!(in rt.alloc(); "{}/{name}", folder.display())?)
 }
 
 /// What is written on standard error for a client that a broker serves, which takes two requests of a
@@ -49,18 +118,20 @@ fn reported(
     milliseconds: u64,
     name: &str,
 ) -> Result<Vec<u8>, Fail> {
-    let path = format!(in rt.alloc(); "{}/{name}", env::temp_dir(rt)?.display())?;
-    let log = format!(in rt.alloc(); "{path}-wal")?;
+    let path = path_of(rt, name)?;
     let file = DatabaseFile::at(rt, path.as_str(), false)?;
-    fs::write(rt, log.as_str(), "")?;
-    let settings = built_in(rt.alloc())?;
-    let mut broker = new_broker(rt.alloc(), &settings, 2)?;
-    let seat = Seat::empty();
+    make_log(rt, path.as_str())?;
     let limit = Duration::from_millis(milliseconds);
-    let mut entrance = TcpEntrance::at(rt, &seat, listener, limit);
-    match looped_over(rt, &mut broker, &mut entrance, &file)? {
-        (Ok(()), errors) => Ok(errors),
-        (Err(_), _) => Err("a fault")?,
+    let served = served(rt, 2, listener, limit, &file.watched(rt));
+    drop(file);
+    let (ended, errors) = served?;
+    match ended {
+        Ok(()) => Ok(errors),
+        Err(fault) => {
+            drop(fault);
+            drop(errors);
+            Err("a fault")?
+        }
     }
 }
 
@@ -100,21 +171,9 @@ fn ended(
     listener: TcpListener,
     file: &WatchedFile<'_>,
 ) -> Result<Result<(), ListenFault>, Fail> {
-    let settings = built_in(rt.alloc())?;
-    let mut broker = new_broker(rt.alloc(), &settings, 1)?;
-    let seat = Seat::empty();
-    let mut entrance = TcpEntrance::at(rt, &seat, listener, Duration::from_secs(10));
-    let mut buffer = Buffer::new(rt.alloc(), &Limits::STANDARD)?;
-    let mut errors = Counted::new(Vec::new(rt.alloc()));
-    Ok(serve_listener(
-        rt,
-        &mut broker,
-        &mut buffer,
-        &mut entrance,
-        file,
-        1,
-        &mut errors,
-    ))
+    let (ended, errors) = served(rt, 1, listener, Duration::from_secs(10), file)?;
+    drop(errors);
+    Ok(ended)
 }
 
 #[test]
@@ -128,18 +187,32 @@ fn no_connection_can_be_accepted(rt: HostRuntime) -> Result<(), Fail> {
     Ok(())
 }
 
-/// How a broker ends whose file, or the log of it, is removed before its first connection, and what that
-/// is sent.
-fn ended_without(rt: &HostRuntime, path: &str, ending: &str) -> Result<(bool, Vec<u8>), Fail> {
-    let log = format!(in rt.alloc(); "{path}-wal")?;
+/// Removes a file, or the log of it.
+fn remove(rt: &HostRuntime, path: &str, ending: &str) -> Result<(), Fail> {
     let taken = format!(in rt.alloc(); "{path}{ending}")?;
-    let listener = TcpListener::bind(rt, "127.0.0.1:0")?;
-    let client = TcpStream::connect(rt, listener.local_addr()?)?;
+    Ok(fs::remove_file(rt, taken.as_str())?)
+}
+
+/// Whether a broker ends for its file where that, or the log of it, is removed before its first connection.
+fn is_missed(
+    rt: &HostRuntime,
+    listener: TcpListener,
+    path: &str,
+    ending: &str,
+) -> Result<bool, Fail> {
     let file = DatabaseFile::at(rt, path, false)?;
-    fs::write(rt, log.as_str(), "")?;
+    make_log(rt, path)?;
     let watched = file.watched(rt);
-    fs::remove_file(rt, taken.as_str())?;
-    let is_taken = ended(rt, listener, &watched)? == Err(ListenFault::FileTaken);
+    remove(rt, path, ending)?;
+    let ended = ended(rt, listener, &watched);
+    drop(file);
+    Ok(ended? == Err(ListenFault::FileTaken))
+}
+
+/// The same, and what the connection is sent.
+fn ended_without(rt: &HostRuntime, path: &str, ending: &str) -> Result<(bool, Vec<u8>), Fail> {
+    let (client, listener) = connected(rt, b"")?;
+    let is_taken = is_missed(rt, listener, path, ending)?;
     let mut text = Vec::new(rt.alloc());
     (&mut &client).read_to_end(&mut text)?;
     Ok((is_taken, text))
@@ -147,8 +220,7 @@ fn ended_without(rt: &HostRuntime, path: &str, ending: &str) -> Result<(bool, Ve
 
 #[test]
 fn a_file_that_is_taken_away_ends_the_broker(rt: HostRuntime) -> Result<(), Fail> {
-    let folder = env::temp_dir(&rt)?;
-    let path = format!(in rt.alloc(); "{}/osb_listen_gone.db", folder.display())?;
+    let path = path_of(&rt, "osb_listen_gone.db")?;
     for ending in ["", "-wal"] {
         let (is_taken, text) = ended_without(&rt, path.as_str(), ending)?;
         assert!(rt; is_taken);

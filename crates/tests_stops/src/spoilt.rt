@@ -2,7 +2,7 @@
 
 use crate::adopting::{
     ABSENT, DELETION, FAILED, LISTING, NO_LISTING, NO_SUBJECTS, OF_DELETION, OF_ORDER, ORDER,
-    READY, STANDING, SUBJECTS, WHOLE, changed, first, run,
+    READY, STANDING, SUBJECTS, WHOLE, after, changed, first,
 };
 use osb_records::{Records, StoreFault};
 use osb_tables::{FoundSchema, find};
@@ -114,9 +114,7 @@ fn first_taken(alloc: Global) -> Result<Option<usize>, StoreFault> {
 
 /// A database with an instance that is ready, after this statement.
 fn whole_and(alloc: Global, statement: &str) -> Result<Connection<MemStore>, StoreFault> {
-    let mut conn = changed(alloc, &WHOLE)?;
-    run(&mut conn, &[statement])?;
-    Ok(conn)
+    after(changed(alloc, &WHOLE)?, &[statement])
 }
 
 /// The same of contexts.

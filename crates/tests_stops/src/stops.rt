@@ -8,7 +8,7 @@ use osb_broker::Broker;
 use osb_catalog::Settings;
 use osb_records::Records;
 use sqlite::{Alter, Connection, FileStore, Files, Options};
-use sqlite_disk::{Crash, Disk, Fuse, Memory};
+use sqlite_disk::{Crash, Fuse, Memory};
 use std::alloc::Global;
 use std::test::Fail;
 use tests_support::catalogs::built_in;
@@ -83,41 +83,88 @@ pub(crate) fn fused(files: Files<Memory>, stopping: Stopping, calls: u64) -> Fil
     }
 }
 
-fn adopted<D: Crash + Drop>(
-    alloc: Global,
-    conn: Connection<FileStore<D>>,
-) -> Result<Records<FileStore<D>>, Files<D>> {
-    match Records::adopt(alloc, conn) {
-        Ok(records) => Ok(records),
-        Err((_, conn)) => Err(conn.into_store().close()),
+/// The files of a store, which outlive it.
+pub(crate) trait StoreFiles: Drop {
+    /// The store over them.
+    type Store: Alter + Drop;
+
+    /// A connection to a store over these files, or the files where a disk stops.
+    fn connected(self, alloc: Global, options: Options) -> Result<Connection<Self::Store>, Self>;
+
+    /// The files of this store.
+    fn closed(store: Self::Store) -> Self;
+
+    /// The machine stops.
+    fn crash(&mut self);
+
+    /// Whether a disk has stopped, or stops at its next call.
+    fn has_stopped(&mut self) -> bool;
+}
+
+impl<D: Crash + Drop> StoreFiles for Files<D> {
+    type Store = FileStore<D>;
+
+    fn connected(
+        self,
+        alloc: Global,
+        options: Options,
+    ) -> Result<Connection<FileStore<D>>, Files<D>> {
+        if !self.may_be_used() {
+            return Err(self);
+        }
+        match Connection::open_files(alloc, self, options) {
+            Ok(conn) => Ok(conn),
+            Err((_, left)) => Err(left.into_files()),
+        }
+    }
+
+    fn closed(store: FileStore<D>) -> Files<D> {
+        store.close()
+    }
+
+    fn crash(&mut self) {
+        self.log.crash();
+        self.db.crash();
+    }
+
+    fn has_stopped(&mut self) -> bool {
+        !self.may_be_used() || self.log.len().is_err() || self.db.len().is_err()
     }
 }
 
+/// The files of these records.
+pub(crate) fn files_of<F: StoreFiles>(records: Records<F::Store>) -> F {
+    F::closed(records.into_connection().into_store())
+}
+
 /// The records of these files, or the files where a disk stops.
-pub(crate) fn opened<D: Crash + Drop>(
+pub(crate) fn opened<F: StoreFiles>(
     alloc: Global,
-    files: Files<D>,
+    files: F,
     options: Options,
-) -> Result<Records<FileStore<D>>, Files<D>> {
-    if !files.may_be_used() {
-        return Err(files);
-    }
-    match Connection::open_files(alloc, files, options) {
-        Ok(conn) => adopted(alloc, conn),
-        Err((_, left)) => Err(left.into_files()),
+) -> Result<Records<F::Store>, F> {
+    match files.connected(alloc, options) {
+        Ok(conn) => match Records::adopt(alloc, conn) {
+            Ok(records) => Ok(records),
+            Err((_, conn)) => Err(F::closed(conn.into_store())),
+        },
+        Err(files) => Err(files),
     }
 }
 
 /// The same once the machine has come back.
-pub(crate) fn reopened<D: Crash + Drop>(
+pub(crate) fn reopened<F: StoreFiles>(
     alloc: Global,
-    mut files: Files<D>,
-) -> Option<Records<FileStore<D>>> {
-    files.log.crash();
-    files.db.crash();
-    match opened(alloc, files, OPTIONS) {
+    mut files: F,
+    options: Options,
+) -> Option<Records<F::Store>> {
+    files.crash();
+    match opened(alloc, files, options) {
         Ok(records) => Some(records),
-        Err(_) => None,
+        Err(files) => {
+            drop(files);
+            None
+        }
     }
 }
 
@@ -216,37 +263,32 @@ fn goes_on_with<S: Alter + Drop>(
     }
 }
 
-/// Whether a disk has stopped, or stops at its next call.
-pub(crate) fn has_stopped<D: Disk>(files: &mut Files<D>) -> bool {
-    !files.may_be_used() || files.log.len().is_err() || files.db.len().is_err()
-}
-
-/// Has the conversation up to a stop, and goes on after it. Whether a disk has stopped.
-fn stops_serving<D: Crash + Drop>(
+/// Goes on over what so many answers have left. Whether a disk has stopped.
+fn goes_on_over<F: StoreFiles>(
     alloc: Global,
     settings: &Settings,
-    records: Records<FileStore<D>>,
+    mut files: F,
+    answered: usize,
 ) -> Result<bool, Fail> {
-    let (answered, records) = served(alloc, settings, records)?;
-    let mut files = records.into_connection().into_store().close();
-    let stopped = has_stopped(&mut files);
+    let stopped = files.has_stopped();
     if answered < REQUESTS.len() && !stopped {
+        drop(files);
         return Err("refused without a stop")?;
     }
-    goes_on_with(alloc, settings, reopened(alloc, files), answered)?;
+    let again = reopened(alloc, files, OPTIONS);
+    goes_on_with(alloc, settings, again, answered)?;
     Ok(stopped)
 }
 
-/// Whether a disk of these files stops in the conversation or before it.
-fn stops<D: Crash + Drop>(
-    alloc: Global,
-    settings: &Settings,
-    files: Files<D>,
-) -> Result<bool, Fail> {
+/// Has the conversation up to a stop, and goes on after it. Whether a disk of these files stops in it or before it.
+fn stops<F: StoreFiles>(alloc: Global, settings: &Settings, files: F) -> Result<bool, Fail> {
     match opened(alloc, files, OPTIONS) {
-        Ok(records) => stops_serving(alloc, settings, records),
+        Ok(records) => {
+            let (answered, records) = served(alloc, settings, records)?;
+            goes_on_over(alloc, settings, files_of::<F>(records), answered)
+        }
         Err(files) => {
-            goes_on_with(alloc, settings, reopened(alloc, files), 0)?;
+            goes_on_with(alloc, settings, reopened(alloc, files, OPTIONS), 0)?;
             Ok(true)
         }
     }

@@ -1,12 +1,13 @@
 //! Requests for three instances that are made in one transaction, over two disks of which one stops at some
 //! call: each call in turn, until none stops. What is left has all of their orders, or none.
 
-use crate::stops::{MANY, OPTIONS, Stopping, empty_files, fused, has_stopped, opened, reopened};
+use crate::stops::{
+    MANY, OPTIONS, Stopping, StoreFiles, empty_files, files_of, fused, opened, reopened,
+};
 use osb_broker::Broker;
 use osb_catalog::Settings;
 use osb_records::Records;
-use sqlite::{Alter, FileStore, Files};
-use sqlite_disk::Crash;
+use sqlite::Alter;
 use std::alloc::Global;
 use std::test::Fail;
 use tests_support::asks::SYNC;
@@ -42,34 +43,46 @@ fn count_orders<S: Alter>(alloc: Global, records: &mut Records<S>) -> Result<usi
     Ok(count)
 }
 
-/// The files of these records.
-fn files_of<D: Crash + Drop>(records: Records<FileStore<D>>) -> Files<D> {
-    records.into_connection().into_store().close()
-}
-
-/// Whether the requests are answered over these records, and the files.
-fn served<D: Crash + Drop>(
+/// Whether the requests are answered over these records, and the records.
+fn served<S: Alter + Drop>(
     alloc: Global,
     settings: &Settings,
-    records: Records<FileStore<D>>,
-) -> Result<(bool, Files<D>), Fail> {
+    records: Records<S>,
+) -> Result<(bool, Records<S>), Fail> {
     match Broker::new(alloc, settings, records, 1) {
         Ok(mut broker) => {
             let answered = are_answered(alloc, &mut broker)?;
-            Ok((answered, files_of(broker.into_records())))
+            Ok((answered, broker.into_records()))
         }
-        Err((_, records)) => Ok((false, files_of(records))),
+        Err((_, records)) => Ok((false, records)),
+    }
+}
+
+/// The same over these files, and the files.
+fn served_over<F: StoreFiles>(
+    alloc: Global,
+    settings: &Settings,
+    files: F,
+) -> Result<(bool, F), Fail> {
+    match opened(alloc, files, OPTIONS) {
+        Ok(records) => {
+            let (answered, records) = served(alloc, settings, records)?;
+            Ok((answered, files_of::<F>(records)))
+        }
+        Err(files) => Ok((false, files)),
     }
 }
 
 /// Fails where some of the orders are left, or none although the requests were answered.
-fn has_all_or_none<D: Crash + Drop>(
+fn has_all_or_none<S: Alter + Drop>(
     alloc: Global,
-    files: Files<D>,
+    again: Option<Records<S>>,
     answered: bool,
 ) -> Result<(), Fail> {
-    let mut records = reopened(alloc, files).ok_or("not opened again")?;
-    match count_orders(alloc, &mut records)? {
+    let mut records = again.ok_or("not opened again")?;
+    let count = count_orders(alloc, &mut records);
+    drop(records);
+    match count? {
         3 => Ok(()),
         0 if !answered => Ok(()),
         _ => Err("a part of the group")?,
@@ -77,29 +90,22 @@ fn has_all_or_none<D: Crash + Drop>(
 }
 
 /// Whether a disk of these files stops.
-fn stops<D: Crash + Drop>(
-    alloc: Global,
-    settings: &Settings,
-    files: Files<D>,
-) -> Result<bool, Fail> {
-    let (answered, mut files) = match opened(alloc, files, OPTIONS) {
-        Ok(records) => served(alloc, settings, records)?,
-        Err(files) => (false, files),
-    };
-    let stopped = has_stopped(&mut files);
+fn stops<F: StoreFiles>(alloc: Global, settings: &Settings, files: F) -> Result<bool, Fail> {
+    let (answered, mut files) = served_over(alloc, settings, files)?;
+    let stopped = files.has_stopped();
     if !answered && !stopped {
+        drop(files);
         return Err("refused without a stop")?;
     }
-    has_all_or_none(alloc, files, answered)?;
+    has_all_or_none(alloc, reopened(alloc, files, OPTIONS), answered)?;
     Ok(stopped)
 }
 
 /// Stops the disk at each of its calls in turn, up to a group without a stop.
-fn stops_at_each_call(alloc: Global, stopping: Stopping) -> Result<(), Fail> {
-    let settings = built_in(alloc)?;
+fn stops_at_each_call(alloc: Global, settings: &Settings, stopping: Stopping) -> Result<(), Fail> {
     for calls in 0..MANY {
         let files = fused(empty_files(alloc), stopping, calls);
-        if !stops(alloc, &settings, files)? {
+        if !stops(alloc, settings, files)? {
             return Ok(());
         }
     }
@@ -108,10 +114,12 @@ fn stops_at_each_call(alloc: Global, stopping: Stopping) -> Result<(), Fail> {
 
 #[test]
 fn the_log_may_stop_in_a_group(rt: HostRuntime) -> Result<(), Fail> {
-    stops_at_each_call(rt.alloc(), Stopping::Log)
+    let settings = built_in(rt.alloc())?;
+    stops_at_each_call(rt.alloc(), &settings, Stopping::Log)
 }
 
 #[test]
 fn the_database_file_may_stop_in_a_group(rt: HostRuntime) -> Result<(), Fail> {
-    stops_at_each_call(rt.alloc(), Stopping::Database)
+    let settings = built_in(rt.alloc())?;
+    stops_at_each_call(rt.alloc(), &settings, Stopping::Database)
 }
