@@ -22,7 +22,7 @@ use Rattle.osb_text.specs.ObjectText.{is_text_of, is_object_text}
 use Rattle.osb_text.specs.Order.{IsBefore, IsInByteOrder, ItemsInByteOrder, MembersInByteOrder}
 use Rattle.osb_text.specs.Reading.{is_object, object_if}
 use Rattle.osb_text.specs.Whole.{is_whole, items_are_whole, members_are_whole}
-use Rattle.osb_machine.specs.Texts.{with_commas, object_text, only, in_quotes}
+use Rattle.osb_machine.specs.Texts.{with_commas, object_text, in_quotes}
 use Rattle.osb_laws.specs.Bodies.{IsObjectBody}
 use Rattle.osb_text.proofs.Orders.{order-read}
 
@@ -169,11 +169,6 @@ object_of_members ms is values = record {
   ordered = members_ordered ms values is;
   whole = members_whole ms values;
 }
-
--- members that are there only if a test holds
-pub only_values : (test : Bool) (name : String) (text : List ℕ) (ms : List Member) → (test ≡ true → IsValue text) → AllByRecursion HasValue ms → AllByRecursion HasValue (only test name text ++ ms)
-only_values true name text ms value values = (value refl, values)
-only_values false name text ms value values = values
 
 -- ---- arrays
 

@@ -53,7 +53,7 @@ where
     }
 }
 
-/// The same where `start` stands for what the file holds.
+/// The same with `start`, which says what the file holds.
 fn found_from<S: Start>(
     rt: &HostRuntime,
     path: &str,
