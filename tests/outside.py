@@ -1,50 +1,233 @@
 #!/usr/bin/env python3
 """Tries the built program from outside, by all scripts that do so, and beside it the one that `make try` serves.
 
-usage: tests/outside.py PROGRAM
+usage: tests/outside.py PROGRAM [TRIAL ..]
 
-The scripts run side by side, two for each processor, since most of them wait for files or for time; those that look
-how long somebody waits run behind them, one after the other. What one prints is shown whole once it has ended. Where
-one fails, so does this.
+The trials of tests/trials.txt, or those that are named, run side by side, two for each processor, since most of them
+wait for files or for time. Those that look how long somebody waits run behind them, one after the other. What one
+prints is shown once it has ended.
+
+Wrong bytes and long times are two things. A trial that ends with status 1 failed, and isn't tried again. One that ends
+with status 3 found only that something took too long (`tell` of tests/lib/serving.py). It is tried again by itself,
+behind all others, three times in all at most. A trial that isn't over at its limit is ended with all that it started.
+It failed if it printed a line `NAME: wrong: ..`, else it took too long.
+
+What is passed over isn't passed, so the last line names it. What lacks time is tried again, as often as what took too
+long, and doesn't fail. With CI=true the lack of a tool fails, unless OSB_PASS_OVER names that tool.
 """
 
+import contextlib
+import itertools
 import os
+import re
+import shlex
+import signal
 import subprocess
 import sys
+import tempfile
+import threading
+import time
 from concurrent.futures import ThreadPoolExecutor
+from dataclasses import dataclass
 
 sys.path.append(os.path.join(os.path.dirname(os.path.abspath(__file__)), "lib"))
 
-from serving import ROOT
+from serving import ONLY_LATE, ROOT, TIME
 
-# The longest first.
-SIDE_BY_SIDE = ["unproved", "refused", "packaged", "backends", "power", "killed", "shards", "database", "backup", "trim"]
-SIDE_BY_SIDE += ["groups", "begun", "examples", "served", "foreign", "program", "rotated", "imaged", "shown", "mistakes"]
-# These are tried with one client after the other, too.
-ONE_BY_ONE = ["power", "killed", "served"]
-ALONE = ["clients", "together", "proxied"]
+TABLE = os.path.join(ROOT, "tests", "trials.txt")
+# How often a trial is tried in all.
+MOST = 3
+# How many of its last lines are shown again at the end.
+LINES = 8
+PASSED_OVER = re.compile(r"^\w+: passed over (.*?), for lack of ([\w. -]+)(?:: .*)?$")
+# A variable of the environment of all that a trial starts, by which it is found.
+MARK = "OSB_TRIED_BY"
+NUMBERS = itertools.count(1)
+# Set once this is to end.
+ENDING = threading.Event()
 
 
-def tried(name, program, together=None):
-    """Whether a script passes, with so many clients at the same time where it doesn't say it itself."""
-    words = [sys.executable, os.path.join(ROOT, "tests", "trials", f"{name}.py"), program]
-    environment = {**os.environ, "TOGETHER": together} if together else None
-    how = {"stdin": subprocess.DEVNULL, "stdout": subprocess.PIPE, "stderr": subprocess.STDOUT, "env": environment}
-    ran = subprocess.run(words, **how)
-    sys.stdout.buffer.write(ran.stdout)
-    sys.stdout.flush()
-    return ran.returncode == 0
+@dataclass
+class Trial:
+    """A line of the table: a script, and its limit in seconds."""
+
+    name: str
+    seconds: float
+    is_alone: bool = False
+    together: str = ""
+
+    @property
+    def title(self):
+        return f"{self.name} together {self.together}" if self.together else self.name
+
+
+def listed():
+    """The trials of the table."""
+    with open(TABLE, encoding="utf-8") as file:
+        lines = [line.strip() for line in file if not line.startswith("#")]
+    for name, _, words in (line.partition(": ") for line in lines):
+        seconds, *more = words.split(", ")
+        yield Trial(name, float(seconds), "alone" in more)
+        if "one" in more:
+            yield Trial(name, float(seconds), "alone" in more, "1")
+
+
+def started_by(mark):
+    """The processes that have this mark: all that something started and that is still there."""
+    for process in filter(str.isdigit, os.listdir("/proc")):
+        with contextlib.suppress(OSError), open(f"/proc/{process}/environ", "rb") as file:
+            if any(it.startswith(f"{MARK}={mark}".encode()) for it in file.read().split(b"\0")):
+                yield int(process)
+
+
+def end_all(mark):
+    """Ends what has this mark, in sessions of its own too. What it starts meanwhile is ended in the next round."""
+    for _ in range(50):
+        found = list(started_by(mark))
+        for process in found:
+            with contextlib.suppress(ProcessLookupError):
+                os.kill(process, signal.SIGKILL)
+        if not found:
+            return
+        time.sleep(0.05)
+
+
+def end_ours(number, _):
+    """What this started ends with it."""
+    ENDING.set()
+    end_all(f"{os.getpid()}/")
+    os._exit(128 + number)
+
+
+def run(words, seconds, environment):
+    """The status of a script and what it printed, none if it was ended at its limit. Nothing that it started is left."""
+    mark = f"{os.getpid()}/{next(NUMBERS)}/"
+    environment = {**os.environ, **environment, "PYTHONUNBUFFERED": "1", MARK: mark}
+    with tempfile.TemporaryFile() as printed:
+        how = {"stdin": subprocess.DEVNULL, "stdout": printed, "stderr": subprocess.STDOUT, "start_new_session": True}
+        script = subprocess.Popen(words, env=environment, **how)
+        try:
+            status = script.wait(seconds)
+        except subprocess.TimeoutExpired:
+            status = None
+            os.killpg(script.pid, signal.SIGKILL)
+            script.wait()
+        end_all(mark)
+        printed.seek(0)
+        return status, printed.read().decode(errors="replace")
+
+
+class Tried:
+    """A trial, with what its last run found and why it was tried again."""
+
+    def __init__(self, trial, program):
+        self.trial, self.program = trial, program
+        self.runs, self.why = 0, []
+
+    def command(self):
+        """How it is tried by itself."""
+        together = f"TOGETHER={self.trial.together} " if self.trial.together else ""
+        return f"{together}python3 tests/trials/{self.trial.name}.py {shlex.quote(self.program)}"
+
+    def run(self):
+        if ENDING.is_set():
+            return
+        trial, begun = self.trial, time.monotonic()
+        words = [sys.executable, os.path.join(ROOT, "tests", "trials", f"{trial.name}.py"), self.program]
+        self.runs += 1
+        self.status, said = run(words, trial.seconds, {"TOGETHER": trial.together} if trial.together else {})
+        said += "\n" if said and not said.endswith("\n") else ""
+        if self.status is None:
+            is_wrong = re.search(rf"^{trial.name}: wrong: ", said, re.MULTILINE)
+            self.status = 1 if is_wrong else ONLY_LATE
+            said += f"{trial.name}: late: it isn't over after {trial.seconds:g} s\n"
+        self.lines = said.splitlines()
+        took = f"{time.monotonic() - begun:.0f} s, status {self.status}, load {os.getloadavg()[0]:.1f}"
+        sys.stdout.buffer.write(f"{said}outside: {trial.title}: {took}\n".encode())
+        sys.stdout.flush()
+
+    def late(self):
+        """The first that took too long."""
+        begins = f"{self.trial.name}: late: "
+        return next((it.removeprefix(begins)[:200] for it in self.lines if it.startswith(begins)), "it doesn't say what")
+
+    def passed_over(self):
+        """What it passed over, and what was lacking for each."""
+        return [(it[1], it[2].split(" and ")) for it in map(PASSED_OVER.match, self.lines) if it]
+
+    def lacks_time(self):
+        return any(TIME in lacking for _, lacking in self.passed_over())
+
+    def refused_lacks(self):
+        """The tools that it lacks and may not lack here."""
+        if os.environ.get("CI") != "true":
+            return []
+        allowed = {TIME, *re.split(r"[\s,]+", os.environ.get("OSB_PASS_OVER", ""))}
+        return sorted({it for _, lacking in self.passed_over() for it in lacking} - allowed)
+
+    def has_failed(self):
+        return self.status != 0 or bool(self.refused_lacks())
+
+    def is_tried_again(self):
+        """Whether its last run found nothing wrong, and took too long or lacked time."""
+        if self.runs == MOST or self.status not in (0, ONLY_LATE):
+            return False
+        return self.status == ONLY_LATE or self.lacks_time()
+
+    def try_again(self):
+        lacked = [what for what, lacking in self.passed_over() if TIME in lacking]
+        self.why.append(self.late() if self.status == ONLY_LATE else f"no time for {' and '.join(lacked)}")
+        self.run()
+
+
+def print_failed(tried):
+    """The last lines of one that failed, and how it is tried by itself."""
+    lacks = tried.refused_lacks()
+    print(f"outside: {tried.trial.title} failed{', since it may not lack ' + ' and '.join(lacks) if lacks else ''}:")
+    for line in tried.lines[-LINES:]:
+        print(f"    {line}")
+    print(f"    by itself: {tried.command()}")
+
+
+def last_line(tried):
+    """How many passed, and which didn't; which were tried again, and why; what was passed over."""
+    failed = [it.trial.title for it in tried if it.has_failed()]
+    again = [f"{it.trial.title} {len(it.why)} times ({'; '.join(it.why)})" for it in tried if it.why]
+    over = [
+        f"{it.trial.title}: {what}, for lack of {' and '.join(lacking)}" for it in tried for what, lacking in it.passed_over()
+    ]
+    parts = [f"{len(tried) - len(failed)} of {len(tried)} passed" + (f", not {', '.join(failed)}" if failed else "")]
+    parts += [f"tried again: {', '.join(again)}"] if again else []
+    parts += [f"passed over: {'; '.join(over)}"] if over else []
+    return f"outside: {' | '.join(parts)}"
+
+
+def try_all(tried):
+    beside = [it for it in tried if not it.trial.is_alone]
+    with ThreadPoolExecutor(2 * len(os.sched_getaffinity(0))) as pool:
+        list(pool.map(Tried.run, beside))
+    for each in (it for it in tried if it.trial.is_alone):
+        each.run()
+    for each in (it for _ in range(1, MOST) for it in tried):
+        if each.is_tried_again():
+            each.try_again()
 
 
 def main():
-    program = os.path.abspath(sys.argv[1])
-    beside = [(name,) for name in SIDE_BY_SIDE] + [(name, "1") for name in ONE_BY_ONE]
-    with ThreadPoolExecutor(2 * len(os.sched_getaffinity(0))) as pool:
-        passed = list(pool.map(lambda it: tried(it[0], program, *it[1:]), beside))
-    passed += [tried(name, program) for name in ALONE]
-    names = [*map(" together ".join, beside), *ALONE]
-    failed = [name for name, right in zip(names, passed) if not right]
-    print(f"outside: {passed.count(True)} of {len(passed)} passed{', not ' if failed else ''}{', '.join(failed)}")
+    program, names = os.path.abspath(sys.argv[1]), set(sys.argv[2:])
+    trials = list(listed())
+    unknown = names - {it.name for it in trials}
+    if unknown:
+        print(f"outside: there is no trial {', '.join(sorted(unknown))}")
+        return 2
+    for number in (signal.SIGTERM, signal.SIGINT, signal.SIGHUP):
+        signal.signal(number, end_ours)
+    tried = [Tried(it, program) for it in trials if not names or it.name in names]
+    try_all(tried)
+    failed = [it for it in tried if it.has_failed()]
+    for each in failed:
+        print_failed(each)
+    print(last_line(tried))
     return 1 if failed else 0
 
 

@@ -4,6 +4,8 @@ import os
 import threading
 import time
 
+from serving import taken
+
 PAUSE = 0.005
 # What such a pause takes at most where the machine goes on.
 LONGEST = 0.006
@@ -36,12 +38,14 @@ class Watch:
         return still + max(time.monotonic() - begun - LONGEST, 0)
 
     def calmly(self, trial):
-        """What a trial finds. Where that isn't as expected and the machine stood still, it is made again."""
+        """What a trial finds. If that isn't as expected and the machine stood still, it is made again."""
         for attempt in range(ATTEMPTS):
             before = self.stood_still()
-            found = list(trial())
-            right = all(got == expected for _, got, expected in found)
+            found, wait = taken(trial())
+            right = not wait and all(got == expected for _, got, expected in found)
             if right or self.stood_still() - before < STILL:
                 break
         self.again += attempt
-        return found
+        yield from found
+        if wait:
+            raise wait

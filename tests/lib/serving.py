@@ -1,11 +1,14 @@
-"""The built program as a server on loopback, and how a trial tells what it found."""
+"""The built program as a server on loopback, and how a trial says what it found."""
 
 import json
 import os
 import re
 import socket
 import subprocess
+import sys
 import tempfile
+import time
+import traceback
 
 ROOT = os.path.join(os.path.dirname(os.path.abspath(__file__)), "..", "..")
 EXAMPLES = os.path.join(ROOT, "examples")
@@ -103,6 +106,8 @@ class Serving:
 
     def __enter__(self):
         if not self.listens():
+            if self.first:
+                self.process.kill()
             raise RuntimeError(f"it doesn't serve: {self.ended()}")
         return self
 
@@ -134,14 +139,107 @@ def read_to_end(client):
     return read
 
 
+# The status of a script that found nothing wrong except that something took too long.
+ONLY_LATE = 3
+# How much of two texts that differ is shown, and how much of that is before the first difference.
+SHOWN, BEFORE = 300, 60
+
+
+class Late:
+    """What is found if something only took too long. It equals nothing, and is false."""
+
+    def __init__(self, found):
+        self.found = found
+
+    def __bool__(self):
+        return False
+
+    def __repr__(self):
+        return self.found
+
+
+def in_time(seconds, most, least=0):
+    """What is found of a time, and what is expected of it. Only too long a time is `Late`. One that is too short isn't,
+    nor is one without end, which is that of a wrong reply."""
+    expected = f"{least:g} to {most:g} s"
+    if least <= seconds <= most:
+        return expected, expected
+    found = f"{seconds:.2f} s"
+    return Late(found) if most < seconds < float("inf") else found, expected
+
+
+def wait_until(what, is_so, seconds):
+    """Waits until something is so. If that takes longer, it ends the trial."""
+    until = time.monotonic() + seconds
+    while not is_so():
+        if time.monotonic() > until:
+            raise TimeoutError(f"{what}: not within {seconds:g} s")
+        time.sleep(0.05)
+
+
+# What is raised if a wait takes too long.
+WAITS = (subprocess.TimeoutExpired, TimeoutError)
+
+
+def taken(tries):
+    """What is found until a wait ends the trial, and that wait, or none."""
+    found = []
+    try:
+        for each in tries:
+            found.append(each)
+    except WAITS as wait:
+        return found, wait
+    return found, None
+
+
+def side_by_side(pool, parts):
+    """What parts find that are tried at the same time. If waits ended some, the last is raised behind all findings."""
+    ended = None
+    for part in [pool.submit(lambda part=part: taken(part())) for part in parts]:
+        found, wait = part.result()
+        yield from found
+        ended = wait or ended
+    if ended:
+        raise ended
+
+
+# What is lacking if something isn't tried since it would take too long here.
+TIME = "time"
+
+
+def passed_over(name, what, *lacking, why=""):
+    """Says what a trial passes over, and for lack of which tools, or of time. tests/outside.py reads this line."""
+    because = f": {' '.join(why.split())}" if why else ""
+    print(f"{name}: passed over {what}, for lack of {' and '.join(lacking)}{because}", flush=True)
+
+
+def apart(found, expected):
+    """Two texts, from a little before the first place where they differ."""
+    first = len(os.path.commonprefix([found, expected]))
+    begin = max(0, first - BEFORE) if max(len(found), len(expected)) > SHOWN else 0
+    place = f"from character {begin} on: " if begin else ""
+    return f"{place}{found[begin : begin + SHOWN]}, expected {expected[begin : begin + SHOWN]}"
+
+
 def tell(name, tries):
-    """Prints what wasn't found as expected, and gives the status to end with."""
-    passed = failed = 0
-    for trial, found, expected in tries:
-        if found == expected:
-            passed += 1
-        else:
-            failed += 1
-            print(f"{name}: {trial}: {found!r:.300}, expected {expected!r:.300}")
-    print(f"{name}: {passed} passed, {failed} failed")
-    return 1 if failed or not passed else 0
+    """Prints what wasn't found as expected, and gives the status to end with: 1 if anything is wrong, ONLY_LATE if
+    something only took too long. A wait that ends the trial is late, too."""
+    passed = wrong = late = 0
+    trial = "the beginning"
+    try:
+        for trial, found, expected in tries:
+            if found == expected:
+                passed += 1
+                continue
+            is_late = isinstance(found, Late)
+            late, wrong = late + is_late, wrong + (not is_late)
+            how = "late" if is_late else "wrong"
+            print(f"{name}: {how}: {trial}: {apart(repr(found), repr(expected))}", flush=True)
+    except WAITS as wait:
+        late += 1
+        traceback.print_exc(limit=-3, file=sys.stdout)
+        print(f"{name}: late: behind {trial}: {wait!s:.{SHOWN}}", flush=True)
+    print(f"{name}: {passed} passed, {wrong + late} failed{f', {late} of them late' if late else ''}", flush=True)
+    if wrong or not (passed or late):
+        return 1
+    return ONLY_LATE if late else 0

@@ -213,13 +213,17 @@ def copied(path, folder):
 
 
 def starts(program, database, settings=SETTINGS, listen="127.0.0.1:0", cwd=None, more=()):
-    """How the program ends that can't serve over this database."""
+    """How the program ends that can't serve over this database. One that serves says so in its first line."""
     words = ["--settings", settings, "--database", database, "--listen", listen, *more]
-    try:
-        ended = subprocess.run([program, "serve", *words], capture_output=True, timeout=10, cwd=cwd)
-        return ended.returncode, ended.stdout, ended.stderr
-    except subprocess.TimeoutExpired:
-        return "it serves"
+    with subprocess.Popen([program, "serve", *words], stdout=subprocess.PIPE, stderr=subprocess.PIPE, cwd=cwd) as process:
+        try:
+            first = process.stdout.readline()
+            if first.startswith(b"listening on "):
+                return "it serves"
+            output, errors = process.communicate(timeout=60)
+            return process.returncode, first + output, errors
+        finally:
+            process.kill()
 
 
 REFUSED = (1, b"", b"database: 1 Refused\n")

@@ -3,11 +3,13 @@
 
 usage: tests/trials/worker.py [--login FILE] [--most N] [--once] URL
 
-By variables of the environment: DIES is the chance with which it kills itself before each of its steps, and after it.
+By variables of the environment: DIES is the chance with which it kills itself before each of its steps, and behind it,
+drawn from the seed SEED. DIES_AT is the number of such a moment, counted from 1, at which it kills itself for certain.
 With LATE it hangs before the lock of an order, or with HELD behind it: it makes the file that this names, and goes on once
 that is gone. With BLIND it doesn't look whether an order still runs.
 """
 
+import itertools
 import os
 import random
 import signal
@@ -20,10 +22,13 @@ import backend
 import postgresql
 
 DIES = float(os.environ.get("DIES", 0))
+DIES_AT = int(os.environ.get("DIES_AT", 0))
+CHANCE = random.Random(os.environ.get("SEED"))
+MOMENTS = itertools.count(1)
 
 
 def may_die():
-    if random.random() < DIES:
+    if CHANCE.random() < DIES or next(MOMENTS) == DIES_AT:
         os.kill(os.getpid(), signal.SIGKILL)
 
 
