@@ -85,6 +85,11 @@ class Platform:
             elif reply[0] != 422:
                 raise RuntimeError(f"{target}: {reply}")
 
+    def may_repeat(self, target, reply):
+        """An update or a deletion is asked for again behind no reply, an order that failed, or one that runs."""
+        if reply and reply[0] not in (202, 422):
+            raise RuntimeError(f"{target}: {reply}")
+
     def lost(self, target):
         """What is asked for after no reply to a creation was heard; none is another one."""
         raise NotImplementedError
@@ -96,6 +101,7 @@ class Platform:
             if reply and (reply[0] == 200 or reply[0] == 202 and self.ends(self.instance, reply[1]) == "succeeded"):
                 self.plan = plan
                 return
+            self.may_repeat(self.instance, reply)
 
     def removes(self, target):
         """Deletes an instance or a binding until it is gone."""
@@ -104,6 +110,7 @@ class Platform:
             reply = self.asks("DELETE", f"{target}?{asked}")
             if reply and (reply[0] in (200, 410) or reply[0] == 202 and self.ends(target, reply[1]) == "gone"):
                 return
+            self.may_repeat(target, reply)
 
     def makes_all(self, bindings):
         self.plan = SMALL

@@ -9,6 +9,7 @@ import sys
 import tempfile
 import time
 import traceback
+from concurrent.futures import as_completed
 
 ROOT = os.path.join(os.path.dirname(os.path.abspath(__file__)), "..", "..")
 EXAMPLES = os.path.join(ROOT, "examples")
@@ -195,7 +196,7 @@ def taken(tries):
 def side_by_side(pool, parts):
     """What parts find that are tried at the same time. If waits ended some, the last is raised behind all findings."""
     ended = None
-    for part in [pool.submit(lambda part=part: taken(part())) for part in parts]:
+    for part in as_completed([pool.submit(lambda part=part: taken(part())) for part in parts]):
         found, wait = part.result()
         yield from found
         ended = wait or ended

@@ -8,12 +8,13 @@ seconds, and each of two workers kills itself at some of its steps. PostgreSQL t
 nothing else. After a while only the workers go on so, that a slow machine comes to an end too. A worker that hangs before
 its lock, until what it was to make was made and deleted, makes nothing; one that doesn't look under its lock does, and is
 found out. A worker that loses its lock makes nothing either. Where something that this needs isn't there, it says what it
-passed over.
+passed over. The workers' deaths come from one seed, SEED or a new one, which is printed.
 """
 
 import hashlib
 import json
 import os
+import random
 import shutil
 import signal
 import subprocess
@@ -31,7 +32,7 @@ from conversations import CLOSE, LATER, at, replies, request
 from platforms import SERVICE, SMALL, WHOLE, Mitigates, Repeats
 from proxied import restarts
 from proxies import HAProxy
-from serving import EXAMPLES, ROOT, Serving, new_database, tell
+from serving import EXAMPLES, ROOT, Serving, new_database, passed_over, tell
 
 # (also the file that passwords are derived from)
 SETTINGS = os.path.join(EXAMPLES, "postgresql.json")
@@ -39,9 +40,10 @@ WORKER = os.path.join(ROOT, "tests", "trials", "worker.py")
 OF_EACH_KIND, BINDINGS = 10, 2
 # In seconds: how long the broker is there between two kills; for how long it is killed, and connections break, while all is
 # made and while half is removed; and how long both may take.
-BETWEEN, ROUGH, ROUGH_AGAIN, SECONDS = 4, 50, 25, 280
-# The chance with which a worker kills itself, before each of its steps and behind it.
-DIES = 0.01
+BETWEEN, ROUGH, ROUGH_AGAIN, SECONDS = 4, 50, 25, 500
+# The chance with which a worker kills itself, before each of its steps and behind it; and at which of these moments, at
+# the latest, it does so for certain once.
+DIES, DIES_AT = 0.01, 20
 # Databases and roles that a cluster doesn't have from the beginning.
 DATABASES = "SELECT datname, datconnlimit FROM pg_database WHERE datname !~ '^(postgres|template.)$' ORDER BY 1"
 ROLES = "SELECT rolname, rolcanlogin FROM pg_roles WHERE rolname !~ '^(postgres|pg_.*)$' ORDER BY 1"
@@ -87,15 +89,18 @@ class Kills(Repeated):
 
 
 class Worker(Repeated):
-    """A worker that kills itself and is started again."""
+    """A worker that kills itself, by a seed, and is started again."""
 
-    def __init__(self, cluster, serving):
+    def __init__(self, cluster, serving, seed):
         super().__init__()
         self.cluster, self.serving = cluster, serving
         self.statuses, self.process = Counter(), None
+        self.chance = random.Random(seed)
+        self.certain = self.chance.randint(1, DIES_AT)
 
     def turn(self):
-        self.process = worker(self.cluster, self.serving, DIES=str(DIES))
+        more = {} if self.statuses[-signal.SIGKILL] else {"DIES_AT": str(self.certain)}
+        self.process = worker(self.cluster, self.serving, DIES=str(DIES), SEED=str(self.chance.random()), **more)
         if self.ending.is_set():
             self.process.terminate()
         self.process.communicate()
@@ -138,13 +143,16 @@ def logins(cluster, bindings):
 
 def roughly(serving, platforms, seconds, step):
     """Has each platform take a step, side by side, while the broker is killed and connections break for so long. What kept
-    any of them from its step, and whether the broker was there after each kill."""
+    any of them from its step, and whether the broker was there after each kill. Nothing but waits ends the trial."""
     for it in platforms:
         it.calm = time.monotonic() + seconds
     with Kills(serving, platforms[0].calm) as kills, ThreadPoolExecutor(len(platforms)) as pool:
         taken = [pool.submit(step, it) for it in platforms]
-        kept = {it.name: repr(each.exception()) for it, each in zip(platforms, taken) if each.exception()}
-    return kept, kills.there
+        faults = {it.name: each.exception() for it, each in zip(platforms, taken) if each.exception()}
+    waits = [it for it in faults.values() if isinstance(it, TimeoutError)]
+    if waits and len(waits) == len(faults):
+        raise waits[0]
+    return {name: repr(fault) for name, fault in faults.items()}, kills.there
 
 
 def try_phases(program, cluster, serving, platforms):
@@ -161,7 +169,7 @@ def try_phases(program, cluster, serving, platforms):
     return there + more
 
 
-def try_platforms(program, folder, cluster):
+def try_platforms(program, folder, cluster, seed):
     begun = time.monotonic()
     database = new_database(folder)
     with Serving(program, database, settings=SETTINGS) as serving, HAProxy(folder, serving.address) as proxy:
@@ -170,7 +178,7 @@ def try_platforms(program, folder, cluster):
         platforms = [kind(proxy, f"{kind.__name__}-{number}", 20 + number) for number, kind in enumerate(kinds)]
         for it in platforms:
             it.until = begun + SECONDS
-        with Worker(cluster, serving) as one, Worker(cluster, serving) as other:
+        with Worker(cluster, serving, f"{seed} one") as one, Worker(cluster, serving, f"{seed} other") as other:
             there = yield from try_phases(program, cluster, serving, platforms)
     yield "the broker was killed, and starts again", (set(there), len(there) > 1), ({True}, True)
     deaths = [it.statuses.pop(-signal.SIGKILL, 0) for it in (one, other)]
@@ -309,11 +317,11 @@ def try_passwords(bench):
     yield "all is removed", (bench.works(), bench.left()), (["i delete 7 succeeded"], ([], []))
 
 
-def tries(program):
+def tries(program, seed):
     with tempfile.TemporaryDirectory() as folder:
         os.chmod(folder, 0o755)
         with postgresql.Cluster(folder) as cluster:
-            yield from try_platforms(program, folder, cluster)
+            yield from try_platforms(program, folder, cluster, seed)
         shutil.rmtree(cluster.folder)
         with postgresql.Cluster(folder) as cluster:
             for trial in (try_refusals, try_passwords, try_late_worker, try_lost_lock, try_blind_worker):
@@ -324,9 +332,14 @@ def tries(program):
 def main():
     missing = postgresql.missing() + [it for it in ("haproxy", "openssl") if not shutil.which(it)]
     if missing:
-        print(f"backends: passed over, for want of {' and '.join(missing)}")
+        passed_over("backends", "everything", *missing)
         return 0
-    return tell("backends", tries(os.path.abspath(sys.argv[1])))
+    seed = os.environ.get("SEED") or str(random.randrange(1_000_000))
+    print(f"backends: SEED={seed}", flush=True)
+    status = tell("backends", tries(os.path.abspath(sys.argv[1]), seed))
+    if status:
+        print(f"backends: with SEED={seed} in its environment it takes the same deaths", flush=True)
+    return status
 
 
 if __name__ == "__main__":

@@ -8,7 +8,7 @@ that takes many at the same time. One that is owed a reply has it whole, and the
 second of that reply or, where none is owed, of the time of a connection; where many are taken at the same time it
 doesn't wait at all, and the line of one that isn't done comes when its time is over. The kinds are tried side by side,
 over programs of their own, since most of it is waiting. What goes wrong while the machine stands still is tried again
-(`calm.py`).
+(`calm.py`). A reset behind a whole reply is one of a client that was too late with what it still sent.
 """
 
 import contextlib
@@ -29,7 +29,7 @@ sys.path.append(os.path.join(os.path.dirname(os.path.abspath(__file__)), "..", "
 from calm import Watch
 from conversations import CATALOG_REPLY, CLOSE, GET_CATALOG, I, LARGE_SYNC, NO_HEAD_REPLY, TOO_LARGE_REPLY
 from conversations import head_of, reply, request
-from serving import BEGUN_LINE, Serving, new_database, tell
+from serving import BEGUN_LINE, Late, Serving, in_time, new_database, side_by_side, tell
 
 TRIES = 40
 PROGRAMS = 4
@@ -41,6 +41,8 @@ TIME_LIMIT = 1
 PAUSE = 0.05
 # More than there are descriptors for, where that is tried.
 FEW = 10
+# For how long the line of a client is waited for.
+PATIENCE = 20
 # How much longer somebody waits beside others, where many are taken at the same time.
 BESIDE = 0.1
 
@@ -151,16 +153,18 @@ class Kind:
     acts: Callable
     owed: Optional[bytes] = None
     most: float = SOON
+    # Whether it may still send when its reply is there. The program waits for that, but not without end.
+    sends_on: bool = False
 
 
 KINDS = {
     "never closes": Kind(asks_once, CATALOG_REPLY, AT_ONCE),
     "pipelines": Kind(pipelines, CATALOG_REPLY),
-    "pipelines more than is read": Kind(pipelines_much, CATALOG_REPLY),
-    "sends too large a body at once": Kind(large_at_once, TOO_LARGE_REPLY),
-    "sends too large a body slowly": Kind(large_slowly, TOO_LARGE_REPLY),
-    "goes on after its reply": Kind(goes_on_after_a_reply, CATALOG_REPLY),
-    "goes on after a fault": Kind(goes_on_after_a_fault, TOO_LARGE_REPLY),
+    "pipelines more than is read": Kind(pipelines_much, CATALOG_REPLY, sends_on=True),
+    "sends too large a body at once": Kind(large_at_once, TOO_LARGE_REPLY, sends_on=True),
+    "sends too large a body slowly": Kind(large_slowly, TOO_LARGE_REPLY, sends_on=True),
+    "goes on after its reply": Kind(goes_on_after_a_reply, CATALOG_REPLY, sends_on=True),
+    "goes on after a fault": Kind(goes_on_after_a_fault, TOO_LARGE_REPLY, sends_on=True),
     "floods after a fault": Kind(floods_after_a_fault, TOO_LARGE_REPLY),
     "asks in pieces, within its time": Kind(asks_in_pieces, CATALOG_REPLY, AT_ONCE),
     "sends too many lines and waits": Kind(too_many_lines, NO_HEAD_REPLY),
@@ -189,13 +193,23 @@ def new_lines(serving):
     return serving.process.stderr.read() or b""
 
 
-def lines_in_time(serving, begun):
-    """The lines of a client that came then, and whether they came when its time was over."""
+def lines_behind(serving, begun):
+    """The lines of a client that came then, and how long they took."""
     lines = b""
-    while not lines and time.monotonic() - begun < TIME_LIMIT + SOON:
+    while not lines and time.monotonic() - begun < PATIENCE:
         time.sleep(PAUSE / 10)
         lines = new_lines(serving)
-    return lines, TIME_LIMIT <= time.monotonic() - begun < TIME_LIMIT + SOON
+    return lines, time.monotonic() - begun
+
+
+def as_owed(name, answer, kind):
+    """What a client of a kind heard, and how its connection ended."""
+    if not kind.owed:
+        yield name, answer, None
+        return
+    read, end = answer
+    yield name, read, kind.owed
+    yield f"{name}: its end", Late(end) if kind.sends_on and end == "reset" else end, "closed"
 
 
 def one_try(serving, name):
@@ -208,9 +222,9 @@ def one_try(serving, name):
             begun = time.monotonic()
         next_answer = heard_next(serving)
         waited = time.monotonic() - begun
-    yield f"one that {name}", answer, (kind.owed, "closed") if kind.owed else None
+    yield from as_owed(f"one that {name}", answer, kind)
     yield f"the next behind one that {name}", next_answer, SERVED
-    yield f"the wait behind one that {name}", max(waited, kind.most), kind.most
+    yield f"the wait behind one that {name}", *in_time(waited, kind.most)
     yield f"the lines of one that {name}", new_lines(serving), b"" if kind.owed else READ_LINE
 
 
@@ -223,11 +237,13 @@ def one_try_beside(serving, name):
         asked = time.monotonic()
         next_answer = heard_next(serving)
         waited = time.monotonic() - asked
-        lines = (new_lines(serving), True) if kind.owed else lines_in_time(serving, begun)
-    yield f"one that {name}, among many", answer, (kind.owed, "closed") if kind.owed else None
+        lines, took = (new_lines(serving), None) if kind.owed else lines_behind(serving, begun)
+    yield from as_owed(f"one that {name}, among many", answer, kind)
     yield f"the next beside one that {name}", next_answer, SERVED
-    yield f"the wait beside one that {name}", max(waited, BESIDE), BESIDE
-    yield f"the lines of one that {name}, among many", lines, (b"" if kind.owed else READ_LINE, True)
+    yield f"the wait beside one that {name}", *in_time(waited, BESIDE)
+    yield f"the lines of one that {name}, among many", lines, b"" if kind.owed else READ_LINE
+    if not kind.owed:
+        yield f"the time of these lines, of one that {name}", *in_time(took, TIME_LIMIT + SOON, TIME_LIMIT)
 
 
 def some_tries(serving, name, trial, watch):
@@ -247,7 +263,7 @@ def unread_replies(serving):
         next_answer = heard_next(serving, partial(asks_once, sent=asks))
         waited = time.monotonic() - begun
     yield "behind one that doesn't read", next_answer, SERVED
-    yield "the wait behind it", max(waited, TIME_LIMIT + SOON), TIME_LIMIT + SOON
+    yield "the wait behind it", *in_time(waited, TIME_LIMIT + SOON)
     yield "its line", new_lines(serving), WRITE_LINE
 
 
@@ -257,7 +273,7 @@ def default_limit(serving):
     with serving.connection():
         next_answer = heard_next(serving)
     yield "the next after the default time", next_answer, SERVED
-    yield "the default time", 9.5 <= time.monotonic() - begun <= 10 + SOON, True
+    yield "the default time", *in_time(time.monotonic() - begun, 10 + SOON, 9.5)
 
 
 def limit_descriptors(serving, most):
@@ -296,7 +312,7 @@ def few_descriptors(serving):
         yield "behind silent ones that have all descriptors", heard_next(serving), SERVED
         waited = time.monotonic() - begun
     # One is ended each tenth of a second.
-    yield "the wait behind them", max(waited, FEW / 10 + SOON), FEW / 10 + SOON
+    yield "the wait behind them", *in_time(waited, FEW / 10 + SOON)
 
 
 def shared_time(serving):
@@ -306,8 +322,10 @@ def shared_time(serving):
         # None comes just as the time ends, where its reply could be what fails.
         goes_on(client, GET_CATALOG, 0.3 * TIME_LIMIT)
         read = heard(client)[0]
-    yield "the time of many requests", TIME_LIMIT <= time.monotonic() - begun <= TIME_LIMIT + SOON, True
-    yield "replies in that time", 2 <= read.count(b"HTTP/1.1 200 OK") <= 6, True
+    yield "the time of many requests", *in_time(time.monotonic() - begun, TIME_LIMIT + SOON, TIME_LIMIT)
+    replies = read.count(b"HTTP/1.1 200 OK")
+    # (a client that waits for a processor sends fewer)
+    yield "replies in that time", Late(f"{replies} replies") if replies < 2 else replies <= 6, True
     yield "their line", new_lines(serving), READ_LINE
 
 
@@ -327,8 +345,8 @@ OTHERS = [
 def over_its_own(program, folder, words, trial):
     """What a trial finds over a program of its own, which begins a database."""
     with Serving(program, new_database(folder), *words) as serving:
-        begun = ("the line of a start", new_lines(serving), BEGUN_LINE)
-        return [begun, *trial(serving)]
+        yield "the line of a start", new_lines(serving), BEGUN_LINE
+        yield from trial(serving)
 
 
 def tries(program):
@@ -339,8 +357,7 @@ def tries(program):
         for (name, kind), (way, each) in itertools.product(KINDS.items(), WAYS):
             trial = partial(some_tries, name=name, trial=each, watch=watch)
             trials += [partial(over, [*way, *([] if kind.owed else LIMITED)], trial)] * PROGRAMS
-        for found in pool.map(lambda trial: trial(), trials):
-            yield from found
+        yield from side_by_side(pool, trials)
     print(f"clients: {watch.again} trials again, since the machine stood still")
 
 

@@ -18,10 +18,10 @@ import tempfile
 
 sys.path.append(os.path.join(os.path.dirname(os.path.abspath(__file__)), "..", "lib"))
 
-from conversations import ASYNC, B, BIND, I, LATER, LEAVE, REPORT, SUCCEEDED, SYNC, SYNC_LEAVE
+from conversations import ASYNC, B, BIND, GET_CATALOG, I, LATER, LEAVE, REPORT, SUCCEEDED, SYNC, SYNC_LEAVE
 from conversations import FETCHED_LARGE, LARGE, LARGE_PARAMETERS, MEMORY_1, SYNC_BIND, UPDATE, X, Y
 from conversations import REFUSED_REPLY, at, listed, operation, reply, request, with_context
-from serving import SETTINGS, Serving, new_database, refused_lines, tell
+from serving import SETTINGS, Serving, new_database, passed_over, refused_lines, tell
 
 VERSION_1 = os.path.join(os.path.dirname(os.path.abspath(__file__)), "version-1.sql")
 R = at("r")
@@ -775,12 +775,14 @@ def unanswered(serving, sent):
 
 
 def how_it_ended(serving):
-    """The status and the lines on standard error of a program that ends by itself."""
+    """The status and the lines on standard error of a program that ends by itself. One that still answers serves."""
     try:
-        status, _, errors = serving.ended(10)
+        status, _, errors = serving.ended()
         return status, errors
     except subprocess.TimeoutExpired:
-        return "it serves"
+        if unanswered(serving, GET_CATALOG):
+            return "it serves"
+        raise
 
 
 def try_taken_away(program, folder):
@@ -932,7 +934,7 @@ def try_full_disk(program, folder):
     """Changes are answered 500 while the disk is full, and are made once there is room."""
     with small_disk(folder) as (disk, lacking):
         if lacking:
-            print(f"database: a full disk is passed over, since no file system can be mounted: {lacking}")
+            passed_over("database", "a full disk", "mount", why=lacking)
             return
         path = os.path.join(disk, "broker.db")
         with Serving(program, path) as serving:
@@ -956,6 +958,7 @@ def try_full_disk_before(program, folder):
     """A file of version 1 stays one where the disk is full, and is brought to version 2 once there is room."""
     with small_disk(folder) as (disk, lacking):
         if lacking:
+            passed_over("database", "a full disk under version 1", "mount", why=lacking)
             return
         path = os.path.join(disk, "broker.db")
         shutil.copy(made_before(folder, 2), path)
@@ -1092,7 +1095,9 @@ def try_causes(program, folder, path):
     os.chmod(written, 0o444)
     os.chmod(os.path.dirname(written), 0o755)
     os.chmod(folder, 0o755)
-    if os.geteuid() == 0:
+    if os.geteuid():
+        passed_over("database", "files of another user", "root")
+    else:
         yield "a file that can't be written to", looked_at(program, written, given=lambda: os.setuid(65534)), unseen("it can't be written to")
         os.chmod(written, 0)
         yield "a file that can't be read", looked_at(program, written, given=lambda: os.setuid(65534)), unseen("it can't be read")

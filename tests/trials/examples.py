@@ -14,7 +14,7 @@ import time
 sys.path.append(os.path.join(os.path.dirname(os.path.abspath(__file__)), "..", "lib"))
 
 from conversations import ASYNC, BIND, LATER, at, replies, request
-from serving import EXAMPLES, ROOT, Serving, new_database, tell
+from serving import EXAMPLES, ROOT, Serving, in_time, new_database, tell, wait_until
 
 sys.path.insert(0, EXAMPLES)
 
@@ -26,6 +26,7 @@ LOGIN = "backend:worker"
 # For how long something is waited for that comes at once.
 SECONDS = 30
 MOST = 3
+RUNS, SUCCEEDED = {"state": "in progress"}, {"state": "succeeded"}
 
 
 def environment(**more):
@@ -53,16 +54,15 @@ def last_of(serving, instance, rest=""):
     return asks(serving, "GET", at(instance) + rest + "/last_operation")[1]
 
 
-def within(time_out, is_so):
-    """Whether something comes to be so."""
-    until = time.monotonic() + time_out
-    while not is_so() and time.monotonic() < until:
-        time.sleep(0.05)
-    return is_so()
+def ended(serving, instance, rest=""):
+    """How the last order is once it has ended."""
+    wait_until(f"the end of the order of {instance}{rest}", lambda: last_of(serving, instance, rest) != RUNS, SECONDS)
+    return last_of(serving, instance, rest)
 
 
-def have_ended(serving, *instances):
-    return within(SECONDS, lambda: all(last_of(serving, it) == {"state": "succeeded"} for it in instances))
+def have_succeeded(serving, *instances):
+    """Whether the last orders of these succeed."""
+    return [ended(serving, it) for it in instances] == [SUCCEEDED] * len(instances)
 
 
 class Working:
@@ -92,27 +92,26 @@ def try_broker_away(serving, working):
     away = "the broker is away: <urlopen error [Errno 111] Connection refused>"
     for times, name in enumerate(("a", "b"), start=1):
         serving.kill()
-        yield f"the broker is away, {name}", within(SECONDS, lambda: working.lines().count(away) == times), True
+        wait_until("the line of a broker that is away", lambda: working.lines().count(away) >= times, SECONDS)
+        yield f"the broker is away, {name}", working.lines().count(away), times
         serving.start(serving.address)
         yield f"the broker starts, {name}", serving.listens(), True
         creates(serving, name)
-        yield f"an order behind that, {name}", have_ended(serving, name), True
+        yield f"an order behind that, {name}", have_succeeded(serving, name), True
 
 
 def try_trouble(serving, working):
     """Orders that fail, that can't be reported, that raise, and that hang, beside others."""
     creates(serving, "hangs-1", "hangs-2", "raises", "fails", "half", *(f"well-{it}" for it in range(5)))
-    yield "beside orders that hang", have_ended(serving, "half", *(f"well-{it}" for it in range(5))), True
-    yield "an order that raises", have_ended(serving, "raises"), True
+    yield "beside orders that hang", have_succeeded(serving, "half", *(f"well-{it}" for it in range(5))), True
+    yield "an order that raises", have_succeeded(serving, "raises"), True
     left = "raises create 1 is left for later: OSError: the service is away"
     yield "what is said of it", working.lines().count(left), 2
-    shown = within(SECONDS, lambda: "description" in last_of(serving, "fails")) and last_of(serving, "fails")
-    yield "an order that fails", shown, {"state": "failed", "description": "no host has room " + "ü" * 491}
+    yield "an order that fails", ended(serving, "fails"), {"state": "failed", "description": "no host has room " + "ü" * 491}
     place = "/service_bindings/b"
     asks(serving, "PUT", at("half") + place + LATER, BIND)
-    shown = within(SECONDS, lambda: "description" in last_of(serving, "half", place)) and last_of(serving, "half", place)
-    yield "credentials that aren't taken", shown, {"state": "failed", "description": "The outcome can't be reported."}
-    yield "orders that hang", [last_of(serving, it) for it in ("hangs-1", "hangs-2")], [{"state": "in progress"}] * 2
+    yield "credentials that aren't taken", ended(serving, "half", place), {"state": "failed", "description": "The outcome can't be reported."}
+    yield "orders that hang", [last_of(serving, it) for it in ("hangs-1", "hangs-2")], [RUNS] * 2
 
 
 def try_its_end(serving, working):
@@ -125,8 +124,8 @@ def try_its_end(serving, working):
     yield "it waits for what is at hand", working.process.poll(), None
     open(working.go, "x").close()
     yield "it ends", working.process.wait(SECONDS), 0
-    yield "what was at hand", have_ended(serving, "hangs-1", "hangs-2", "hangs-3"), True
-    yield "what wasn't", last_of(serving, "well-more"), {"state": "in progress"}
+    yield "what was at hand", have_succeeded(serving, "hangs-1", "hangs-2", "hangs-3"), True
+    yield "what wasn't", last_of(serving, "well-more"), RUNS
 
 
 def try_statuses(serving, folder):
@@ -192,7 +191,8 @@ def try_watch(program, folder):
             json.dump({it: at - (600 if it == "1 b" else 0) for it, at in first.items()}, file)
         status, text = ran(*words, "--longest", "500")
         age = int(text.rpartition(" ")[2])
-        yield "one is old", (status, 600 <= age <= 700), (1, True)
+        yield "one is old", status, 1
+        yield "its age", *in_time(age, 700, 600)
         yield "the others' lines", text, metrics([f"osb_orders_running{labels} 2"], [f"osb_order_oldest_seconds{labels} {age}"])
         yield "it isn't too old", ran(*words, "--longest", "3600")[0], 0
         asks(serving, "PUT", "/backend/v1/orders/b/1", '{"state":"succeeded"}')

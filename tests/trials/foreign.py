@@ -18,7 +18,10 @@ import tempfile
 sys.path.append(os.path.join(os.path.dirname(os.path.abspath(__file__)), "..", "lib"))
 
 from conversations import ASYNC_BINDING, FAILED_CREATE, POLL_AND_REPORT, PUT_TWICE, request
-from serving import ROOT, Serving, new_database, tell
+from serving import ROOT, Serving, new_database, passed_over, tell
+
+# For how long a client is waited for, on a machine that is busy.
+SECONDS = 300
 
 CONVERSATIONS = {"put_twice": PUT_TWICE, "poll_and_report": POLL_AND_REPORT, "failed_create": FAILED_CREATE, "async_binding": ASYNC_BINDING}
 
@@ -35,8 +38,8 @@ def by_curl(address, asked):
     for it in asked:
         fields = [word for name, value in it["fields"].items() for word in ("-H", f"{name}: {value}")]
         body = ["--data-binary", it["body"]] if it["body"] else []
-        words = ["curl", "-s", "-m", "10", "-X", it["method"], *fields, *body, "-w", "\n%{http_code}", f"http://{address}{it['target']}"]
-        text, _, status = subprocess.run(words, capture_output=True, text=True).stdout.rpartition("\n")
+        words = ["curl", "-s", "-X", it["method"], *fields, *body, "-w", "\n%{http_code}", f"http://{address}{it['target']}"]
+        text, _, status = subprocess.run(words, capture_output=True, text=True, timeout=SECONDS).stdout.rpartition("\n")
         found.append(f"{status} {text}")
     return found
 
@@ -44,7 +47,7 @@ def by_curl(address, asked):
 def by_python(address, asked):
     found = []
     for it in asked:
-        client = http.client.HTTPConnection(address, timeout=10)
+        client = http.client.HTTPConnection(address, timeout=SECONDS)
         client.request(it["method"], it["target"], it["body"] or None, it["fields"])
         reply = client.getresponse()
         found.append(f"{reply.status} {reply.read().decode()}")
@@ -56,7 +59,7 @@ def by_words(words):
 
     def client(address, asked):
         lines = "".join(json.dumps(it) + "\n" for it in asked)
-        ran = subprocess.run([*words, f"http://{address}"], input=lines, capture_output=True, text=True, timeout=60)
+        ran = subprocess.run([*words, f"http://{address}"], input=lines, capture_output=True, text=True, timeout=SECONDS)
         return ran.stdout.splitlines() or ran.stderr
 
     return client
@@ -86,7 +89,7 @@ def tries(program, folder):
 def main():
     for name in ("node", "go"):
         if not shutil.which(name):
-            print(f"foreign: passed over {name}, which isn't there")
+            passed_over("foreign", f"a client of {name}", name)
     with tempfile.TemporaryDirectory() as folder:
         return tell("foreign", tries(os.path.abspath(sys.argv[1]), folder))
 

@@ -47,10 +47,13 @@ def comes_to(process, state):
     """Waits until a process is in a state of the system."""
     for _ in range(10_000):
         with open(f"/proc/{process.pid}/stat", encoding="ascii") as file:
-            if file.read().rpartition(")")[2].split()[0] == state:
-                return
+            found = file.read().rpartition(")")[2].split()[0]
+        if found == state:
+            return
+        if found == "Z":
+            raise RuntimeError("it has ended")
         time.sleep(0.001)
-    raise RuntimeError(f"it doesn't come to {state}")
+    raise TimeoutError(f"it doesn't come to {state}")
 
 
 def stop(process):

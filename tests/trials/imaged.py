@@ -19,7 +19,7 @@ import tempfile
 sys.path.append(os.path.join(os.path.dirname(os.path.abspath(__file__)), "..", "lib"))
 
 from conversations import CLOSE, SYNC, at, replies, request
-from serving import EXAMPLES, ROOT, SETTINGS, Serving, tell
+from serving import EXAMPLES, ROOT, SETTINGS, Serving, passed_over, tell
 
 SCRIPT = os.path.join(ROOT, "packaging", "image.sh")
 PAGE = os.path.join(ROOT, "docs", "PLATFORMS.md")
@@ -55,7 +55,7 @@ def run(*words, **more):
 
 
 def missing(*programs):
-    return " and ".join(it for it in programs if not shutil.which(it))
+    return [it for it in programs if not shutil.which(it)]
 
 
 def told(start):
@@ -118,7 +118,7 @@ def proxy(folder):
     """Whether HAProxy takes the configuration of the page, with a certificate in place of the secret."""
     lacking = missing("haproxy", "openssl")
     if lacking:
-        print(f"imaged: passed over the proxy's configuration, for want of {lacking}")
+        passed_over("imaged", "the proxy's configuration", *lacking)
         return
     os.symlink(EXAMPLES, os.path.join(folder, "examples"))
     words = ["openssl", "req", "-x509", "-newkey", "rsa:2048", "-nodes", "-subj", "/CN=localhost", "-days", "2"]
@@ -132,7 +132,7 @@ def tries(program, folder):
     yield from proxy(folder)
     why = no_container(folder)
     if why:
-        print(f"imaged: passed over the image, since no container runs here: {why}")
+        passed_over("imaged", "the image", "containers", why=why)
         return
     settings = os.path.join(folder, "settings.json")
     shutil.copy(SETTINGS, settings)
@@ -145,9 +145,9 @@ def tries(program, folder):
 
 
 def main():
-    lacking = "root" if os.geteuid() else missing("podman", "runc")
+    lacking = ["root"] if os.geteuid() else missing("podman", "runc")
     if lacking:
-        print(f"imaged: passed over, for want of {lacking}")
+        passed_over("imaged", "everything", *lacking)
         return 0
     with tempfile.TemporaryDirectory() as folder:
         os.chmod(folder, 0o755)

@@ -6,7 +6,7 @@ upgraded, removed and purged. What was backed up is restored in another one, and
 usage: tests/trials/packaged.py PROGRAM
 
 Runs as root, and needs dpkg-deb, lintian, debootstrap and systemd-nspawn, and the packages that debootstrap fetches.
-Where something of that can't be had, it says what it passed over.
+If something of that can't be had, or not in time, it says what it passed over.
 """
 
 import os
@@ -19,7 +19,7 @@ import textwrap
 
 sys.path.append(os.path.join(os.path.dirname(os.path.abspath(__file__)), "..", "lib"))
 
-from serving import ROOT, tell
+from serving import ROOT, TIME, passed_over, tell
 
 SCRIPT = os.path.join(ROOT, "packaging", "package.sh")
 UNITS = [os.path.join(ROOT, "packaging", name) for name in ("osb-broker.service", "osb-broker@.service")]
@@ -46,7 +46,7 @@ until_it() {
 listens() { curl -s http://127.0.0.1:${1:-8080}/; }
 password_of() { sed -n "s/.*\"$1\", \"password\": \"\([0-9a-f]\{48\}\)\".*/\1/p" $settings; }
 state() { systemctl show -p ActiveState -p Result -p ExecMainStatus -p NRestarts osb-broker | sort | tr '\n' ' '; echo; }
-call() { curl -s -m 5 $trusting -u "platform:$password" -H 'X-Broker-API-Version: 2.17' -w ' %{http_code}\n' "$@"; }
+call() { curl -s -m 60 $trusting -u "platform:$password" -H 'X-Broker-API-Version: 2.17' -w ' %{http_code}\n' "$@"; }
 """
 STEPS = COMMON + r"""
 # The reload was a restart, too.
@@ -56,7 +56,7 @@ installs() {
     cd $1
 told: apt-get install
 }
-work() { curl -s -m 5 -u "backend:$other" -w ' %{http_code}\n' "$@"; }
+work() { curl -s -m 60 -u "backend:$other" -w ' %{http_code}\n' "$@"; }
 instance=https://localhost:8443/v2/service_instances
 body() { printf '{"service_id":"svc","plan_id":"%s","organization_guid":"o","space_guid":"s"}' $1; }
 write() {
@@ -445,6 +445,11 @@ osb-broker: the records are left in /var/lib/private/osb-broker-03
 UNIT = "[Unit]\nAfter=multi-user.target\n[Service]\nType=oneshot\nExecStart=/root/steps\n[Install]\nWantedBy=multi-user.target\n"
 
 
+# What a step writes that waits for too long, and the statuses of `timeout` if something isn't over in time.
+LATE_LINE = "not within half a minute: "
+NOT_OVER = (124, 137)
+
+
 def run(*words, **more):
     """What a command prints, on both outputs, and its status."""
     ran = subprocess.run(words, stdin=subprocess.DEVNULL, stdout=subprocess.PIPE, stderr=subprocess.STDOUT, text=True, errors="replace", **more)
@@ -454,8 +459,8 @@ def run(*words, **more):
 def missing():
     """What keeps this from being tried."""
     if os.geteuid():
-        return "root"
-    return " and ".join(it for it in ("dpkg-deb", "lintian", "debootstrap", "systemd-nspawn") if not shutil.which(it))
+        return ["root"]
+    return [it for it in ("dpkg-deb", "lintian", "debootstrap", "systemd-nspawn") if not shutil.which(it)]
 
 
 def package(program, folder):
@@ -491,15 +496,18 @@ def lines_of(path):
 
 
 def containers(folder):
-    """Two Debians alike, or what keeps them from being made."""
+    """Two Debians alike; what is lacking to make them, or nothing; and what is said of it."""
     root, other = os.path.join(folder, "debian"), os.path.join(folder, "other")
     release = run("sh", "-c", ". /etc/os-release && echo $VERSION_CODENAME")[1].strip()
     status, said = run("timeout", "-k", "5", "900", "debootstrap", "--variant=minbase", f"--include={INCLUDED}", release, root)
+    lacking = "mirror"
     if status == 0:
+        lacking = "containers"
         status, said = run("timeout", "-k", "5", "60", *NSPAWN, root, "true")
     if status == 0:
-        status, said = run("cp", "-a", root, other)
-    return root, other, said.strip().splitlines()[-1:] if status else None
+        subprocess.run(["cp", "-a", root, other], check=True)
+        return root, other, "", ""
+    return root, other, TIME if status in NOT_OVER else lacking, " ".join(said.strip().splitlines()[-1:])
 
 
 def as_told(script):
@@ -523,24 +531,28 @@ def write(path, text, mode):
 
 
 def boots(root, script):
-    """What a script finds in a container. Where it doesn't boot that is nothing, and then what it prints last."""
+    """What a script finds in a container, nothing if it doesn't boot; what it prints last; and whether it ends in time."""
     write(os.path.join(root, "root", "steps"), as_told(script), 0o755)
     write(os.path.join(root, "etc", "systemd", "system", "steps.service"), UNIT, 0o644)
     run("chroot", root, "systemctl", "enable", "-q", "steps")
-    booted = run("timeout", "-k", "5", "300", *NSPAWN, root, "-b")
-    found = os.path.join(root, "root", "found")
+    status, printed = run("timeout", "-k", "5", "300", *NSPAWN, root, "-b")
+    found, is_over = os.path.join(root, "root", "found"), status not in NOT_OVER
     if not os.path.isfile(found):
-        return None, booted[1].strip()[-200:]
+        return None, printed.strip()[-200:], is_over
     with open(found, encoding="utf-8") as file:
-        return "".join(line.rstrip() + "\n" for line in file), ""
+        return "".join(line.rstrip() + "\n" for line in file), "", is_over
 
 
-def compared(whole, expected):
-    """What each step found, and should find."""
-    steps = [[text.partition("\n")[::2] for text in it.split("# ")[1:]] for it in (whole, expected)]
-    yield "the steps", [name for name, _ in steps[0]], [name for name, _ in steps[1]]
-    for (name, wrote), (_, right) in zip(*steps):
-        yield name, wrote, right
+def compared(whole, expected, is_over):
+    """What each step found, and should find. A step that waited for too long ends it, as does one that isn't over."""
+    found, right = ([text.partition("\n")[::2] for text in it.split("# ")[1:]] for it in (whole, expected))
+    for (name, wrote), (_, wanted) in zip(found if is_over else found[:-1], right):
+        if LATE_LINE in wrote:
+            raise TimeoutError(f"{name}: {wrote[wrote.index(LATE_LINE) :].splitlines()[0]}")
+        yield name, wrote, wanted
+    if not is_over:
+        raise TimeoutError(f"not over at {found[-1][0] if found else 'its beginning'}")
+    yield "the steps", [name for name, _ in found], [name for name, _ in right]
 
 
 def without_random_bytes(root):
@@ -557,32 +569,35 @@ def tries(program, folder):
     yield "the unit of a shard", settings_that_differ(), ["Description", "ExecReload", "ExecStart", "SocketBindAllow", "StateDirectory"]
     made = package(program, folder)
     yield "lintian", run("lintian", "--allow-root", made), (0, "")
-    root, other, why = containers(folder)
-    if why is not None:
-        print(f"packaged: passed over what needs a container: {' '.join(why)}")
+    root, other, lacking, why = containers(folder)
+    if lacking:
+        passed_over("packaged", "what needs a container", lacking, why=why)
         return
     for path, name in [(made, "package"), (later(made, folder), "later")]:
         os.mkdir(os.path.join(root, "root", name))
         shutil.copy(path, os.path.join(root, "root", name))
-    found, printed = boots(root, STEPS)
+    found, printed, is_over = boots(root, STEPS)
     if found is None:
-        print(f"packaged: passed over what runs in a container, which doesn't boot: {printed}")
+        passed_over("packaged", "what runs in a container", "containers" if is_over else TIME, why=printed)
         return
-    yield from compared(found, EXPECTED)
+    yield from compared(found, EXPECTED, is_over)
     for path, name in [(made, "osb-broker.deb"), (os.path.join(folder, f"osb-broker_{LATER}.deb"), "later.deb")]:
         shutil.copy(path, os.path.join(other, "root", name))
     yield from without_random_bytes(other)
     yield "it is installed where no systemd runs", run("chroot", other, "dpkg", "-i", "/root/osb-broker.deb")[0], 0
     shutil.copytree(os.path.join(root, "backup"), os.path.join(other, "backup"))
-    found, printed = boots(other, ELSEWHERE)
+    found, printed, is_over = boots(other, ELSEWHERE)
+    if found is None and not is_over:
+        passed_over("packaged", "what runs in the other container", TIME, why=printed)
+        return
     yield "the other one boots", printed, ""
-    yield from compared(found or "", EXPECTED_ELSEWHERE)
+    yield from compared(found or "", EXPECTED_ELSEWHERE, is_over)
 
 
 def main():
     lacking = missing()
     if lacking:
-        print(f"packaged: passed over, for want of {lacking}")
+        passed_over("packaged", "everything", *lacking)
         return 0
     with tempfile.TemporaryDirectory() as folder:
         return tell("packaged", tries(os.path.abspath(sys.argv[1]), folder))

@@ -15,12 +15,13 @@ import sys
 import tempfile
 import threading
 import tty
+from functools import partial
 
 sys.path.append(os.path.join(os.path.dirname(os.path.abspath(__file__)), "..", "lib"))
 
 from conversations import ASYNC, CATALOG, CATALOG_REPLY, GET_CATALOG, I, LATER, NO_HEAD_REPLY, REPORT, SUCCEEDED, SYNC
 from conversations import TOO_LARGE_REPLY, UNAUTHORIZED_REPLY, UPDATE, at, head_of, operation, replies, reply, request
-from serving import EXAMPLES, newest_version
+from serving import EXAMPLES, newest_version, tell
 
 LIMIT = 16_777_216
 
@@ -87,8 +88,7 @@ SETTINGS_FAULTS = [
 class Tries:
     def __init__(self, program):
         self.program = os.path.abspath(program)
-        self.passed = 0
-        self.failed = 0
+        self.found = []
 
     def run(self, words, given=b"", **more):
         return subprocess.run(
@@ -96,23 +96,15 @@ class Tries:
         )
 
     def expect(self, name, ended, status, output, errors):
-        wrong = [
-            f"{what} {found!r:.300}, expected {wanted!r:.300}"
-            for what, found, wanted in [
-                ("status", ended.returncode, status),
-                ("output", ended.stdout, output),
-                ("errors", ended.stderr, errors),
-            ]
-            if found != wanted
-        ]
-        self.tell(name, wrong)
+        for what, found, wanted in [
+            ("status", ended.returncode, status),
+            ("output", ended.stdout, output),
+            ("errors", ended.stderr, errors),
+        ]:
+            self.found.append((f"{name}: {what}", found, wanted))
 
     def tell(self, name, wrong):
-        if wrong:
-            self.failed += 1
-            print(f"program: {name}: " + "; ".join(wrong))
-        else:
-            self.passed += 1
+        self.found.append((name, wrong, []))
 
 
 def try_replay(tries):
@@ -491,27 +483,22 @@ def try_explain(tries, folder):
     tries.expect("explain a missing file", tries.run(["check", path, "--explain"]), 1, b"", line)
 
 
-def main():
-    tries = Tries(sys.argv[1])
+OVER_PROGRAM = [try_replay, try_limits, try_several_requests, try_resent_requests, try_example, try_listing]
+OVER_PROGRAM += [try_closed_output, try_words, try_version, try_words_of_bytes]
+OVER_FILES = [try_settings, try_broken_streams, try_files, try_check, try_explain]
+
+
+def found_by(program):
+    """What each part finds."""
+    tries = Tries(program)
     with tempfile.TemporaryDirectory() as folder:
-        try_replay(tries)
-        try_limits(tries)
-        try_several_requests(tries)
-        try_resent_requests(tries)
-        try_example(tries)
-        try_listing(tries)
-        try_settings(tries, folder)
-        try_broken_streams(tries, folder)
-        try_closed_output(tries)
-        try_files(tries, folder)
-        try_words(tries)
-        try_version(tries)
-        try_words_of_bytes(tries)
-        try_check(tries, folder)
-        try_explain(tries, folder)
-    print(f"program: {tries.passed} passed, {tries.failed} failed")
-    return 1 if tries.failed or not tries.passed else 0
+        for part in [*OVER_PROGRAM, *(partial(it, folder=folder) for it in OVER_FILES)]:
+            try:
+                part(tries)
+            finally:
+                yield from tries.found
+                tries.found.clear()
 
 
 if __name__ == "__main__":
-    sys.exit(main())
+    sys.exit(tell("program", found_by(sys.argv[1])))

@@ -25,7 +25,7 @@ from calm import Watch
 from conversations import ASYNC, CATALOG, CLOSE, I, LATER, NO_HEAD_REPLY, SYNC
 from conversations import at, operation, replies, request
 from proxies import CODINGS, HAProxy, Nginx, first_of
-from serving import Serving, new_database, read_to_end, tell
+from serving import Serving, in_time, new_database, passed_over, read_to_end, tell
 
 PROXIES = [Nginx, HAProxy]
 SLOW, FAST = 64, 8
@@ -86,13 +86,13 @@ def slow_and_fast(proxy, numbers):
     yield "slow clients", slow, [MADE] * SLOW
     yield "fast clients", [others for others, _ in waits], [[]] * FAST
     longest = max(wait for _, wait in waits)
-    yield f"the longest wait of a fast client, {longest:.2f} s", longest < SOON, True
+    yield "the longest wait of a fast client", *in_time(longest, SOON)
 
 
 def at_once(doors, most):
     begun = time.monotonic()
     yield "the catalog", replies(doors.sends(closing("GET", "/v2/catalog"))), [GET]
-    yield "the catalog: at once", time.monotonic() - begun < most, True
+    yield "the catalog: at once", *in_time(time.monotonic() - begun, most)
 
 
 def conversation(proxy):
@@ -151,7 +151,7 @@ def disagreements(proxy, serving, numbers):
         for where, doors, expected in [("bare", serving, bare), ("through", proxy, through[PROXIES.index(type(proxy))])]:
             begun = time.monotonic()
             yield f"{name}, {where}", replies(doors.sends(sent)), [expected]
-            yield f"{name}, {where}: at once", time.monotonic() - begun < SOON, True
+            yield f"{name}, {where}: at once", *in_time(time.monotonic() - begun, SOON)
         for what, found, expected in at_once(proxy, SOON):
             yield f"behind {name}: {what}", found, expected
     yield "nothing was smuggled", proxy.answers(closing("GET", at("smuggled"))), (404, "{}")
@@ -229,7 +229,7 @@ def behind(proxy, serving, watch):
     yield "a broker that isn't there", proxy.answers(closing("GET", "/v2/catalog")), proxy.away
     begun = time.monotonic()
     yield "its health", proxy.answers(closing("GET", "/healthz")), proxy.away
-    yield "its health: at once", time.monotonic() - begun < SOON, True
+    yield "its health: at once", *in_time(time.monotonic() - begun, SOON)
 
 
 def tries(program, proxies):
@@ -251,7 +251,7 @@ def main():
     there = [kind for kind in PROXIES if not {"openssl", kind.program} & set(missing)]
     if missing:
         which = " and ".join(kind.program for kind in PROXIES if kind not in there)
-        print(f"proxied: passed over {which}, for want of {' and '.join(missing)}")
+        passed_over("proxied", which, *missing)
     return tell("proxied", tries(os.path.abspath(sys.argv[1]), there)) if there else 0
 
 

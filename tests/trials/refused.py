@@ -34,7 +34,7 @@ sys.path.append(os.path.join(os.path.dirname(os.path.abspath(__file__)), "..", "
 from conversations import ASYNC, BUSY, CATALOG_REPLY, CLOSE, CONVERSATIONS, FETCHED_LARGE, GET_CATALOG, I, LARGE
 from conversations import LARGE_SYNC, LATER, PUT_TWICE, REFUSED_REPLY, REPORT, SUCCEEDED, SYNC, UNAUTHORIZED_REPLY
 from conversations import UPDATE, at, listed, operation, replies, reply, request, with_context
-from serving import Serving, environment_with, new_database
+from serving import Serving, environment_with, new_database, side_by_side, tell
 
 # The growth that is refused, how many there were, how many before the first reply, whether from the start.
 CONTROL = struct.Struct("4q")
@@ -440,24 +440,20 @@ def trials():
 
 
 def tried(program, name, trial):
-    """Whether a trial goes as it should, over a machine of its own."""
+    """What is wrong in a trial, over a machine of its own, or nothing."""
     with tempfile.TemporaryDirectory() as folder:
         try:
-            said, right = trial(Machine(program, folder)), True
-        except Wrong as wrong:
-            said, right = str(wrong), False
+            said, wrong = trial(Machine(program, folder)), ""
+        except Wrong as found:
+            said = wrong = str(found)
     print(f"refused: {name}: {said}", flush=True)
-    return right
+    yield name, wrong, ""
 
 
-def main():
-    program = os.path.abspath(sys.argv[1])
+def tries(program):
     with ThreadPoolExecutor(len(os.sched_getaffinity(0))) as pool:
-        results = [pool.submit(tried, program, *trial) for trial in trials()]
-        found = [result.result() for result in results]
-    print(f"refused: {sum(found)} passed, {len(found) - sum(found)} failed")
-    return 0 if found and all(found) else 1
+        yield from side_by_side(pool, [partial(tried, program, *trial) for trial in trials()])
 
 
 if __name__ == "__main__":
-    sys.exit(main())
+    sys.exit(tell("refused", tries(os.path.abspath(sys.argv[1]))))

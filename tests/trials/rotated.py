@@ -20,12 +20,12 @@ import time
 sys.path.append(os.path.join(os.path.dirname(os.path.abspath(__file__)), "..", "lib"))
 
 from conversations import ASYNC, LATER, SUCCEEDED, at
-from serving import SETTINGS, Serving, new_database, tell
+from serving import SETTINGS, Serving, new_database, taken, tell, wait_until
 
 PLATFORMS, BACKENDS = 6, 2
 # So many more replies each client gets before it goes on.
 REPLIES = 20
-# At most so long, and so long the program is away at each restart.
+# At most so long, and so long the program is at least away at each restart.
 MOST_SECONDS, AWAY = 120, 0.2
 
 CATALOG, ORDERS = "/v2/catalog", "/backend/v1/orders"
@@ -111,14 +111,9 @@ class Client(threading.Thread):
 
 
 def go_on(clients):
-    """Whether each client gets some more replies."""
+    """Waits until each client has some more replies."""
     wanted = [len(it.statuses) + REPLIES for it in clients]
-    end = time.monotonic() + MOST_SECONDS
-    while time.monotonic() < end:
-        if all(len(it.statuses) >= count for it, count in zip(clients, wanted)):
-            return True
-        time.sleep(0.005)
-    return False
+    wait_until("more replies", lambda: all(len(it.statuses) >= count for it, count in zip(clients, wanted)), MOST_SECONDS)
 
 
 def let_in(serving, logins):
@@ -126,40 +121,42 @@ def let_in(serving, logins):
     return [call(serving.port, logins[door], "GET", target)[0] for door, target in (("platform", CATALOG), ("backend", ORDERS))]
 
 
-def restart(serving):
-    """Stops it, and starts it again. Whether it listens then."""
+def restart(serving, clients):
+    """Stops it, and starts it again once each client has asked meanwhile. Whether it listens then."""
     serving.process.terminate()
     serving.process.communicate()
+    before = [it.away for it in clients]
     time.sleep(AWAY)
+    wait_until("all ask", lambda: all(it.away > count for it, count in zip(clients, before)), MOST_SECONDS)
     serving.start(serving.address)
     return serving.listens()
 
 
-def changed(clients):
+def change(clients):
     """Each client changes to its new login, one after the other."""
     for client in clients:
         client.login = NEW[client.door]
-        yield f"the {client.door} {client.number} changes", go_on(clients), True
+        go_on(clients)
 
 
 def rotation(serving, path, clients):
     """The three starts, and who is let in."""
-    yield "with the old ones", go_on(clients), True
+    go_on(clients)
     yield "the old ones at first", let_in(serving, OLD), [200, 200]
     yield "the new ones at first", let_in(serving, NEW), [401, 401]
     write(path, OLD, also=NEW)
-    yield "it starts with both", restart(serving), True
+    yield "it starts with both", restart(serving, clients), True
     yield "the old ones beside the new", let_in(serving, OLD), [200, 200]
     yield "the new ones beside the old", let_in(serving, NEW), [200, 200]
     crossed = {"platform": NEW["backend"], "backend": NEW["platform"]}
     yield "the new ones at the other door", let_in(serving, crossed), [401, 401]
-    yield "with both", go_on(clients), True
-    yield from changed(clients)
+    go_on(clients)
+    change(clients)
     write(path, NEW)
-    yield "it starts with the new ones", restart(serving), True
+    yield "it starts with the new ones", restart(serving, clients), True
     yield "the old ones at last", let_in(serving, OLD), [401, 401]
     yield "the new ones at last", let_in(serving, NEW), [200, 200]
-    yield "with the new ones", go_on(clients), True
+    go_on(clients)
 
 
 def tries(program):
@@ -171,7 +168,9 @@ def tries(program):
             clients = [Client(serving, door, number) for number, door in enumerate(doors)]
             for client in clients:
                 client.start()
-            yield from rotation(serving, path, clients)
+            found, wait = taken(rotation(serving, path, clients))
+            yield from found
+            yield "it runs", serving.process.poll(), None
             for client in clients:
                 client.stopped = True
             for client in clients:
@@ -179,7 +178,10 @@ def tries(program):
     for client in clients:
         name = f"the {client.door} {client.number}"
         yield f"{name}: other answers", set(client.statuses) - ALLOWED[client.door], set()
-        yield f"{name}: asked while it was away", client.away > 0, True
+        if not wait:
+            yield f"{name}: asked while it was away", client.away > 0, True
+    if wait:
+        raise wait
     yield "instances of each platform", min(it.made for it in clients if it.door == "platform") > 0, True
 
 

@@ -23,6 +23,7 @@ import zlib
 from collections import Counter
 from concurrent.futures import ThreadPoolExecutor
 from contextlib import ExitStack
+from functools import partial
 from pathlib import Path
 from urllib.parse import quote, unquote_to_bytes
 
@@ -32,7 +33,8 @@ from conversations import ASYNC, BIND, CATALOG, CLOSE, FAILED, LATER, LEAVE, SUC
 from conversations import at, replies, request, with_parameters
 from proxied import restarts
 from proxies import AWAY, HAProxy, first_of, replaced
-from serving import EXAMPLES, Serving, free_address, new_database, read_to_end, tell
+from serving import EXAMPLES, Serving, free_address, in_time, new_database, passed_over, read_to_end, side_by_side, tell
+from serving import wait_until
 
 RESHARD = os.path.join(EXAMPLES, "reshard.py")
 BACKEND = os.path.join(EXAMPLES, "backend.py")
@@ -395,18 +397,19 @@ def makes(proxy, shard):
 
 
 def made_in_time(proxy, name):
-    """How an instance is made, asked for each second until it isn't answered 503."""
-    until = time.monotonic() + PATIENCE
-    while (answer := proxy.answers(put(name)))[0] == 503 and time.monotonic() < until:
-        time.sleep(1)
-    return answer
+    """How an instance is made, asked for until it isn't answered 503."""
+    answers = []
+    wait_until("a shard that is back", lambda: answers.append(proxy.answers(put(name))) or answers[-1][0] != 503, PATIENCE)
+    return answers[-1]
 
 
-def others(proxy, away):
-    """What all but one shard answer, and the catalog; and whether nobody waits long."""
+def try_others(proxy, away, when):
+    """What all but one shard answer, and the catalog; and that nobody waits long."""
     made = [makes(proxy, shard) for shard in range(SHARDS) if shard != away]
     catalogs = [proxy.answers(get("/v2/catalog")) for _ in range(2 * SHARDS)]
-    return [answer for answer, _ in made], catalogs, max(seconds for _, seconds in made) < SOON
+    yield f"the others {when}", [answer for answer, _ in made], [CREATED] * (SHARDS - 1)
+    yield f"the catalog {when}", catalogs, [(200, CATALOG)] * 2 * SHARDS
+    yield f"the wait for the others {when}", *in_time(max(seconds for _, seconds in made), SOON)
 
 
 def held(address):
@@ -420,19 +423,19 @@ def held(address):
 def try_away(program, folder):
     """One of four brokers is away for longer than HAProxy tries."""
     away, name = 2, name_of(2)
-    as_ever = [CREATED] * (SHARDS - 1), [(200, CATALOG)] * 2 * SHARDS, True
     with Together(program, folder, [new_database(folder) for _ in range(SHARDS)]) as four, ThreadPoolExecutor(1) as pool:
         broker = four.brokers[away]
         yield "each shard makes one", [makes(four.proxy, it)[0] for it in range(SHARDS)], [CREATED] * SHARDS
         broker.kill()
         with held(broker.address):
             first = pool.submit(four.proxy.answers, put(name))
-            yield "the others while HAProxy tries", others(four.proxy, away), as_ever
+            yield from try_others(four.proxy, away, "while HAProxy tries")
             yield "who asks the one that is away", first.result(), (503, AWAY)
             time.sleep(SOON)
-            yield "the others once that is known", others(four.proxy, away), as_ever
+            yield from try_others(four.proxy, away, "once that is known")
             answer, seconds = makes(four.proxy, away)
-            yield "who asks the one that is away then", (answer, seconds < SOON), ((503, AWAY), True)
+            yield "who asks the one that is away then", answer, (503, AWAY)
+            yield "how long that takes", *in_time(seconds, SOON)
         broker.start(broker.address)
         yield "it starts again", broker.listens(), True
         yield "the same request", [made_in_time(four.proxy, name) for _ in range(2)], [CREATED, THERE]
@@ -452,15 +455,14 @@ def try_restarts(four, pool):
 
 def tries(program):
     with tempfile.TemporaryDirectory() as folder, ThreadPoolExecutor(3) as pool:
-        parts = [(try_away, program, folder), (try_clients, program, folder), (try_routes, folder)]
-        for found in [pool.submit(lambda part, *given: list(part(*given)), *it) for it in parts]:
-            yield from found.result()
+        parts = [partial(try_away, program, folder), partial(try_clients, program, folder), partial(try_routes, folder)]
+        yield from side_by_side(pool, parts)
 
 
 def main():
     missing = [it for it in ("openssl", "haproxy") if not shutil.which(it)]
     if missing:
-        print(f"shards: passed over, for want of {' and '.join(missing)}")
+        passed_over("shards", "everything", *missing)
         return 0
     return tell("shards", tries(os.path.abspath(sys.argv[1])))
 

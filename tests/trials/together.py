@@ -25,7 +25,7 @@ sys.path.append(os.path.join(os.path.dirname(os.path.abspath(__file__)), "..", "
 from calm import Watch
 from clients import BESIDE, KINDS, LIMITED, MANY, READ_LINE, SERVED, SOON, heard, heard_by, heard_next, new_lines
 from conversations import CATALOG_REPLY, GET_CATALOG, I, LARGE_SYNC, SYNC, at, reply, request
-from serving import Serving, new_database, read_to_end, tell
+from serving import Late, Serving, in_time, new_database, read_to_end, tell
 
 # How often each kind comes, and from how many sides at the same time.
 TRIES, SIDES = 40, 4
@@ -82,6 +82,14 @@ def some_of_kind(serving, name):
     return name, found
 
 
+def as_owed(name, found, kind):
+    """What clients of a kind got, and how many of their connections were reset behind a whole reply."""
+    resets = found.count((kind.owed, "reset")) if kind.sends_on else 0
+    right = [(kind.owed, "closed") if kind.owed else "closed"] * (len(found) - resets)
+    yield name, [it for it in found if not resets or it != (kind.owed, "reset")], right
+    yield f"{name}: their ends", Late(f"{resets} resets") if resets else "closed", "closed"
+
+
 def all_kinds(serving):
     """Clients of all kinds at the same time, beside fast ones."""
     alone = waits_of_fast(serving, ALONE)
@@ -90,11 +98,9 @@ def all_kinds(serving):
         slow = [pool.submit(some_of_kind, serving, name) for name in sides]
         beside = waits_of_fast(serving, 4 * ALONE)
         for name, found in (it.result() for it in slow):
-            kind = KINDS[name]
-            right = [(kind.owed, "closed") if kind.owed else "closed"] * len(found)
-            yield f"those that {name}, beside all others", found, right
+            yield from as_owed(f"those that {name}, beside all others", found, KINDS[name])
     quiet = sum(TRIES // SIDES * SIDES for kind in KINDS.values() if not kind.owed)
-    yield "the wait of fast ones beside them", max(beside, alone + BESIDE), alone + BESIDE
+    yield "the wait of fast ones beside them", *in_time(beside, alone + BESIDE)
     yield "their lines", new_lines(serving), READ_LINE * quiet
 
 
@@ -104,7 +110,7 @@ def silent(serving):
         for _ in range(SILENT):
             clients.enter_context(serving.connection())
         waits = [wait_of(serving) for _ in range(3)]
-    yield "beside silent ones", max(*waits, SOON), SOON
+    yield "beside silent ones", *in_time(max(waits), SOON)
 
 
 def silent_within(serving):
@@ -113,7 +119,7 @@ def silent_within(serving):
         for _ in range(SILENT):
             clients.enter_context(serving.connection())
         waits = [wait_of(serving) for _ in range(10)]
-    yield "beside silent ones that have a place", max(*waits, BESIDE), BESIDE
+    yield "beside silent ones that have a place", *in_time(max(waits), BESIDE)
 
 
 def deaf_client(serving):
@@ -144,12 +150,12 @@ def large_replies(serving):
             waits.append(wait_of(serving))
             time.sleep(0.01)
         yield "a reply byte by byte", slow.result() == whole, True
-        yield "beside it", max(*waits, BESIDE), BESIDE
+        yield "beside it", *in_time(max(waits), BESIDE)
     with contextlib.ExitStack() as clients:
         for _ in range(2 * IN_FLIGHT):
             clients.enter_context(deaf_client(serving))
         waits = [wait_of(serving) for _ in range(10)]
-        yield "beside deaf ones", max(*waits, SOON), SOON
+        yield "beside deaf ones", *in_time(max(waits), SOON)
     yield "it goes on", serving.sends(request("GET", I)) == whole, True
 
 
@@ -185,7 +191,7 @@ def killed(program, folder):
 def over(program, folder, words, trial):
     with Serving(program, new_database(folder), *words) as serving:
         new_lines(serving)
-        return list(trial(serving))
+        yield from trial(serving)
 
 
 def tries(program):

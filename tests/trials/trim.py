@@ -41,7 +41,7 @@ ERASED = ("-", "-", "-", "-", "{}", "")
 
 def ends(program, *words, **process):
     """How `trim` ends with these words."""
-    process = {"stdout": subprocess.PIPE, "stderr": subprocess.PIPE, "timeout": 120, **process}
+    process = {"stdout": subprocess.PIPE, "stderr": subprocess.PIPE, "timeout": 600, **process}
     ended = subprocess.run([program, "trim", *words], check=False, **process)
     return ended.returncode, ended.stdout, ended.stderr
 

@@ -60,12 +60,21 @@ def asked(address, given):
         return read_to_end(client)
 
 
-def end_late(process):
-    """Ends what takes too long."""
+def end_late(process, late):
+    """Ends what takes too long, and says so."""
     try:
         process.wait(SECONDS)
     except subprocess.TimeoutExpired:
+        late.set()
         os.killpg(process.pid, signal.SIGINT)
+
+
+def line_of(process, late):
+    """The next line of the output, unless it took too long."""
+    line = process.stdout.readline()
+    if late.is_set():
+        raise TimeoutError(f"no program within {SECONDS} s")
+    return line
 
 
 def try_serving(room, address, first):
@@ -86,10 +95,10 @@ def tries():
         how = {"stdout": subprocess.PIPE, "stderr": subprocess.STDOUT, "text": True, "start_new_session": True}
         command = ["make", "-C", copy, "--no-print-directory", "try", f"ADDRESS={address}"]
         with subprocess.Popen(command, env={**os.environ, "TMPDIR": room}, **how) as trying:
-            threading.Thread(target=end_late, args=(trying,), daemon=True).start()
-            begun = trying.stdout.readline()
-            yield "it says so before it begins", "compiles without a proof" in begun, True
-            yield from try_serving(room, address, trying.stdout.readline())
+            late = threading.Event()
+            threading.Thread(target=end_late, args=(trying, late), daemon=True).start()
+            yield "it says so before it begins", "compiles without a proof" in line_of(trying, late), True
+            yield from try_serving(room, address, line_of(trying, late))
             os.killpg(trying.pid, signal.SIGINT)
             rest = trying.stdout.read()
         yield "what it says as it ends", "Nothing was proved, and its records are gone" in rest, True
