@@ -37,7 +37,7 @@ from serving import ONLY_LATE, ROOT, TIME
 TABLE = os.path.join(ROOT, "tests", "trials.txt")
 # How often a trial is tried in all.
 MOST = 3
-# How many of its last lines are shown again at the end.
+# How many of the lines of one that failed are shown again at the end.
 LINES = 8
 PASSED_OVER = re.compile(r"^\w+: passed over (.*?), for lack of ([\w. -]+)(?:: .*)?$")
 # A variable of the environment of all that a trial starts, by which it is found.
@@ -100,7 +100,7 @@ def end_ours(number, _):
 
 
 def run(words, seconds, environment):
-    """The status of a script and what it printed, none if it was ended at its limit. Nothing that it started is left."""
+    """The status of a script, or none if it was ended at its limit, and what it printed. Nothing of it still runs."""
     mark = f"{os.getpid()}/{next(NUMBERS)}/"
     environment = {**os.environ, **environment, "PYTHONUNBUFFERED": "1", MARK: mark}
     with tempfile.TemporaryFile() as printed:
@@ -149,7 +149,8 @@ class Tried:
     def late(self):
         """The first that took too long."""
         begins = f"{self.trial.name}: late: "
-        return next((it.removeprefix(begins)[:200] for it in self.lines if it.startswith(begins)), "it doesn't say what")
+        found = [it.removeprefix(begins)[:200] for it in self.lines if it.startswith(begins)]
+        return found[0] if found else "it doesn't say what"
 
     def passed_over(self):
         """What it passed over, and what was lacking for each."""
@@ -181,10 +182,11 @@ class Tried:
 
 
 def print_failed(tried):
-    """The last lines of one that failed, and how it is tried by itself."""
+    """What one that failed found, or its last lines, and how it is tried by itself."""
     lacks = tried.refused_lacks()
     print(f"outside: {tried.trial.title} failed{', since it may not lack ' + ' and '.join(lacks) if lacks else ''}:")
-    for line in tried.lines[-LINES:]:
+    found = [it for it in tried.lines if re.match(rf"{tried.trial.name}: (wrong|late): ", it)]
+    for line in [*found[:LINES], *tried.lines[-1:]] if found else tried.lines[-LINES:]:
         print(f"    {line}")
     print(f"    by itself: {tried.command()}")
 
@@ -194,7 +196,9 @@ def last_line(tried):
     failed = [it.trial.title for it in tried if it.has_failed()]
     again = [f"{it.trial.title} {len(it.why)} times ({'; '.join(it.why)})" for it in tried if it.why]
     over = [
-        f"{it.trial.title}: {what}, for lack of {' and '.join(lacking)}" for it in tried for what, lacking in it.passed_over()
+        f"{it.trial.title}: {what}, for lack of {' and '.join(lacking)}"
+        for it in tried
+        for what, lacking in it.passed_over()
     ]
     parts = [f"{len(tried) - len(failed)} of {len(tried)} passed" + (f", not {', '.join(failed)}" if failed else "")]
     parts += [f"tried again: {', '.join(again)}"] if again else []

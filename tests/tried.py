@@ -11,12 +11,14 @@ import shutil
 import subprocess
 import sys
 import tempfile
+from concurrent.futures import ThreadPoolExecutor
+from functools import partial
 
 FOLDER = os.path.dirname(os.path.abspath(__file__))
 sys.path += [os.path.join(FOLDER, "lib"), os.path.join(FOLDER, "trials")]
 
 from database import starts
-from serving import ROOT, tell
+from serving import ROOT, side_by_side, tell, wait_until
 
 # What each small trial begins with: the number of its run.
 BEGINNING = """import os, pathlib, subprocess, sys, time
@@ -43,7 +45,10 @@ sys.exit(tell("one", tries()))
 """
 LATE = 'sys.exit(tell("one", [("the wait", *in_time(2 if run < {} else 0.5, 1)), ("the reply", 1, 1)]))'
 WRONG = 'sys.exit(tell("one", [("the reply", b"wrong", b"right")]))'
-BOTH = 'sys.exit(tell("one", [("the wait", *in_time(2, 1)), ("the reply", b"wrong", b"right"), ("a wait", *in_time(2, 1))]))'
+BOTH = """
+late = ("the wait", *in_time(2, 1))
+sys.exit(tell("one", [late, ("the reply", b"wrong", b"right"), late]))
+"""
 # A wait without end is that of a wrong reply, and a time that is too short isn't late.
 ENDLESS = 'sys.exit(tell("one", [("the wait", *in_time(float("inf"), 1))]))'
 EARLY = 'sys.exit(tell("one", [("the wait", *in_time(0.2, 2, 1))]))'
@@ -84,10 +89,16 @@ class Outside:
 
     def tried(self, *names, **environment):
         """The status of tests/outside.py, all that it says, and its last line."""
+        with self.begun(*names, **environment) as outside:
+            said = outside.communicate()[0]
+        return outside.returncode, said, said.rstrip("\n").rpartition("\n")[2]
+
+    def begun(self, *names, **environment):
+        """The process of tests/outside.py."""
         kept = {name: it for name, it in os.environ.items() if name not in ("CI", "OSB_PASS_OVER", "TOGETHER")}
         words = [sys.executable, str(self.root / "tests" / "outside.py"), "program", *names]
-        ran = subprocess.run(words, env={**kept, **environment}, stdout=subprocess.PIPE, stderr=subprocess.STDOUT, text=True)
-        return ran.returncode, ran.stdout, ran.stdout.rstrip("\n").rpartition("\n")[2]
+        how = {"stdout": subprocess.PIPE, "stderr": subprocess.STDOUT, "text": True}
+        return subprocess.Popen(words, env={**kept, **environment}, **how)
 
     def runs(self, name="one"):
         """How often a trial was run."""
@@ -105,7 +116,8 @@ def judged(room, name, text, status, runs, *said, **environment):
     outside = Outside(room, {"one": text})
     found, printed, last = outside.tried(**environment)
     yield name, (found, outside.runs(), [it for it in said if it not in last]), (status, runs, [])
-    yield f"{name}: how each ended", len(re.findall(r"^outside: one: \d+ s, status \d, load ", printed, re.MULTILINE)), runs
+    lines = re.findall(r"^outside: one: \d+ s, status \d, load \d", printed, re.MULTILINE)
+    yield f"{name}: a line for each run", len(lines), runs
 
 
 def try_times(room):
@@ -129,14 +141,24 @@ def try_limits(room):
     """A trial that isn't over at its limit."""
     outside = Outside(room, {"one": HANGS}, seconds=LIMIT)
     status, printed, last = outside.tried()
-    again = f"tried again: one 2 times (it isn't over after {LIMIT} s"
-    yield "one that hangs", (status, outside.runs(), "0 of 1 passed, not one" in last, again in last), (1, 3, True, True)
-    # (once for each run, and once at the end)
-    yield "what it printed", printed.count("so far\n"), 4
+    yield "one that hangs", (status, outside.runs(), "0 of 1 passed, not one" in last), (1, 3, True)
+    yield "why it is tried again", f"tried again: one 2 times (it isn't over after {LIMIT} s" in last, True
+    yield "what it printed", printed.count("so far\n"), 3
     yield "what it started", outside.running(), []
     outside = Outside(room, {"one": WRONG_THEN_HANGS}, seconds=LIMIT)
     status, printed, last = outside.tried()
     yield "one that hangs behind wrong bytes", (status, outside.runs(), "tried again" in last), (1, 1, False)
+
+
+def try_ended(room):
+    """What runs ends with tests/outside.py."""
+    outside = Outside(room, {"one": HANGS})
+    started = outside.trials / "one.started"
+    with outside.begun() as process:
+        wait_until("what it starts", lambda: started.exists() and len(started.read_text().split()) == 2, 60)
+        process.terminate()
+        said = process.communicate()[0]
+    yield "it is ended", (process.returncode, "1 passed" in said, outside.running()), (143, False, [])
 
 
 def try_passed_over(room):
@@ -147,7 +169,8 @@ def try_passed_over(room):
     yield from judged(room, "one that may be lacking", LACKS_TOOL, 0, 1, "1 of 1 passed", over, **both)
     one = {"CI": "true", "OSB_PASS_OVER": "nginx"}
     yield from judged(room, "only one may be lacking", LACKS_TOOL, 1, 1, "0 of 1 passed, not one", over, **one)
-    again, lacks = "tried again: one 2 times (no time for a container; ", "passed over: one: a container, for lack of time"
+    again = "tried again: one 2 times (no time for a container; "
+    lacks = "passed over: one: a container, for lack of time"
     yield from judged(room, "time is lacking twice", LACKS_TIME.format(3), 0, 3, "1 of 1 passed", again, CI="true")
     yield from judged(room, "time is lacking", LACKS_TIME.format(9), 0, 3, "1 of 1 passed", again, lacks, CI="true")
 
@@ -159,7 +182,8 @@ def try_last_lines(room):
     status, printed, last = outside.tried()
     yield "several", (status, last), (1, "outside: 3 of 4 passed, not one")
     yield "so often", [outside.runs(it) for it in ("one", "two", "three")], [1, 2, 1]
-    yield "where texts differ", [f"e{it}', expected" in printed or f"e{it}'\n" in printed for it in ("found", "other")], [True] * 2
+    apart = re.search("the reply: from character ([0-9]+) on: e+found', expected e+other'", printed)
+    yield "where texts differ", 300 < int(apart[1]) < 400 if apart else printed, True
     by_itself = f"by itself: python3 tests/trials/one.py {os.path.abspath('program')}\n"
     behind = printed.rpartition("outside: one failed:\n")[2]
     yield "the last lines of one that failed", ("one: 0 passed, 1 failed" in behind, by_itself in behind), (True, True)
@@ -184,7 +208,7 @@ def try_starts(room):
     refuses = program(room, "sleep 11; echo 'database: 1 Refused' >&2; exit 1")
     yield "a slow start that is refused", starts(refuses, "file"), (1, b"", b"database: 1 Refused\n")
     serves = program(room, "sleep 1; echo 'listening on 127.0.0.1:1'; exec sleep 1000")
-    yield "a start that serves", starts(serves, "file"), "it serves"
+    yield "a start that serves", starts(serves, "file"), b"listening on 127.0.0.1:1\n"
 
 
 # Steps of a worker, which prints the number of each before it takes it.
@@ -213,14 +237,15 @@ def try_deaths(room):
     yield "the same seeds", found[0], found[1]
     yield "it kills itself", {status for _, status in found[0]}, {-9}
     yield "other seeds", len({steps for steps, _ in found[0]}) > 1, True
-    yield "for certain", [deaths(room, DIES="0", SEED="1", DIES_AT=at) for at in ("1", "4", "5")], [(0, -9), (2, -9), (2, -9)]
+    certain = [deaths(room, DIES="0", SEED="1", DIES_AT=moment) for moment in ("1", "4", "5")]
+    yield "for certain", certain, [(0, -9), (2, -9), (2, -9)]
     yield "not at all", deaths(room, DIES="0", SEED="1"), (1000, 0)
 
 
 def tries():
-    with tempfile.TemporaryDirectory() as room:
-        for trial in (try_times, try_limits, try_passed_over, try_last_lines, try_starts, try_deaths):
-            yield from trial(room)
+    trials = [try_times, try_limits, try_ended, try_passed_over, try_last_lines, try_starts, try_deaths]
+    with tempfile.TemporaryDirectory() as room, ThreadPoolExecutor(len(trials)) as pool:
+        yield from side_by_side(pool, [partial(it, room) for it in trials])
 
 
 if __name__ == "__main__":

@@ -81,15 +81,18 @@ class Serving:
         self.first = b""
 
     def listens(self):
-        """Waits for its first line; whether it says that connections are taken. Where another has taken its
-        address meanwhile, it is started anew at another one."""
+        """Waits for its first line; whether it says that connections are taken. If another has taken its address
+        meanwhile, it is started anew at another one. What says anything else is ended."""
         for again in range(MOST_STARTS):
             if again:
                 self.start()
             self.first = self.process.stdout.readline()
             if self.first or not self.is_address_taken():
                 break
-        return self.first == f"listening on {self.address}\n".encode()
+        is_right = self.first == f"listening on {self.address}\n".encode()
+        if self.first and not is_right:
+            self.process.kill()
+        return is_right
 
     def is_address_taken(self):
         """Whether it ended since another listens at its address."""
@@ -107,8 +110,6 @@ class Serving:
 
     def __enter__(self):
         if not self.listens():
-            if self.first:
-                self.process.kill()
             raise RuntimeError(f"it doesn't serve: {self.ended()}")
         return self
 

@@ -143,7 +143,7 @@ def logins(cluster, bindings):
 
 def roughly(serving, platforms, seconds, step):
     """Has each platform take a step, side by side, while the broker is killed and connections break for so long. What kept
-    any of them from its step, and whether the broker was there after each kill. Nothing but waits ends the trial."""
+    any of them from its step, and whether the broker was there after each kill. If these are only waits, one is raised."""
     for it in platforms:
         it.calm = time.monotonic() + seconds
     with Kills(serving, platforms[0].calm) as kills, ThreadPoolExecutor(len(platforms)) as pool:

@@ -213,15 +213,15 @@ def copied(path, folder):
 
 
 def starts(program, database, settings=SETTINGS, listen="127.0.0.1:0", cwd=None, more=()):
-    """How the program ends that can't serve over this database. One that serves says so in its first line."""
+    """How the program ends that can't serve over this database, or its first line, which one that serves has."""
     words = ["--settings", settings, "--database", database, "--listen", listen, *more]
     with subprocess.Popen([program, "serve", *words], stdout=subprocess.PIPE, stderr=subprocess.PIPE, cwd=cwd) as process:
         try:
             first = process.stdout.readline()
-            if first.startswith(b"listening on "):
-                return "it serves"
+            if first:
+                return first
             output, errors = process.communicate(timeout=60)
-            return process.returncode, first + output, errors
+            return process.returncode, output, errors
         finally:
             process.kill()
 
