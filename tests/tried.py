@@ -59,6 +59,19 @@ def tries():
         subprocess.run(["sleep", "9"], timeout=0.1)
 sys.exit(tell("one", tries()))
 """
+# Two parts at the same time, of which one is ended by a wait.
+SIDES = """
+from concurrent.futures import ThreadPoolExecutor
+from serving import side_by_side
+def late():
+    yield "a reply", 1, 1
+    raise TimeoutError("no reply")
+def wrong():
+    time.sleep(0.5)
+    yield "the reply", b"wrong", b"right"
+with ThreadPoolExecutor(2) as pool:
+    sys.exit(tell("one", side_by_side(pool, [late, wrong])))
+"""
 LACKS_TOOL = """
 passed_over("one", "a proxy", "nginx", "openssl")
 sys.exit(tell("one", [("the reply", 1, 1)]))
@@ -128,6 +141,7 @@ def try_times(room):
     yield from judged(room, "a wait that ends it", WAITS, 0, 2, passed, "tried again: one 1 times", "timed out after")
     yield from judged(room, "wrong", WRONG, 1, 1, failed)
     yield from judged(room, "wrong and late", BOTH, 1, 1, failed)
+    yield from judged(room, "wrong beside a wait", SIDES, 1, 1, failed)
     yield from judged(room, "a wait without end", ENDLESS, 1, 1, failed)
     yield from judged(room, "a time that is too short", EARLY, 1, 1, failed)
     yield from judged(room, "one that crashes", CRASHES, 1, 1, failed)

@@ -5,10 +5,9 @@ import socket
 import ssl
 import subprocess
 import tempfile
-import time
 
 from conversations import replies
-from serving import EXAMPLES, free_address, read_to_end
+from serving import EXAMPLES, free_address, read_to_end, wait_until
 
 UNUSABLE = '{"description":"The request is not usable."}'
 AWAY = '{"description":"The broker does not answer."}'
@@ -64,13 +63,17 @@ class Proxy:
     def __enter__(self):
         words = [self.program, *self.words]
         self.process = subprocess.Popen(words, cwd=self.folder, stdout=subprocess.DEVNULL, stderr=subprocess.DEVNULL)
-        for _ in range(100):
-            try:
-                self.connection().close()
-                return self
-            except OSError:
-                time.sleep(0.1)
-        raise RuntimeError(f"{self.program} doesn't listen")
+        wait_until(f"{self.program} listens", lambda: self.process.poll() is not None or self.listens(), 60)
+        if self.process.poll() is not None:
+            raise RuntimeError(f"{self.program} doesn't listen")
+        return self
+
+    def listens(self):
+        try:
+            self.connection().close()
+            return True
+        except OSError:
+            return False
 
     def __exit__(self, *_):
         self.process.terminate()
