@@ -7,7 +7,9 @@
 # make package
 #             builds it and makes a Debian package of it
 # make image  builds it and makes a container image of it, with podman
-# make edits  tries those of tests/edits.py alone, over the libraries that are there
+# make edits  tries only those of tests/edits.py, over the libraries that are there, and takes no weak one
+# make quick  tries what the changes since the last commit that passed may break, within 20 minutes
+# make green  runs the gate for the newest commit in a clean clone, and notes that commit if it passes
 
 RT ?= rt
 export RT
@@ -15,7 +17,7 @@ export RT
 export PYTHONDONTWRITEBYTECODE = 1
 ADDRESS ?= 127.0.0.1:8080
 
-.PHONY: all run try package image test tried edits clean FORCE
+.PHONY: all run try package image test tried edits quick green clean FORCE
 
 all: osb-broker
 
@@ -34,15 +36,9 @@ package: osb-broker
 image: osb-broker
 	@packaging/image.sh ./osb-broker
 
-# The edits run beside what else there is to do, and behind it.
 test:
 	@sh tests/needs.sh
-	python3 tests/needs.py
-	python3 tests/counts.py
-	python3 tests/pages.py
-	python3 tests/judged.py
-	python3 tests/building.py
-	python3 tests/edits.py --beside make --no-print-directory tried
+	@python3 tests/gate.py
 
 # Every proof from nothing; and the program that rt ci linked, tried from outside.
 tried:
@@ -50,7 +46,13 @@ tried:
 	python3 tests/outside.py ./osb-broker
 
 edits:
-	python3 tests/edits.py
+	python3 tests/edits.py --strict
+
+quick:
+	@python3 tools/quick.py
+
+green:
+	@python3 tools/green.py
 
 clean:
 	rm -rf osb-broker crates/*/out

@@ -266,7 +266,10 @@ def main(words):
         texts = collections.Counter(" ".join(line.strip() for line in it.text) for it in clauses[words[1]])
         print("\n".join(f"{number:4} {text}" for text, number in texts.most_common() if number > 1))
     elif words == ["--keep"]:
-        KEPT.write_text("".join(f"{name} {number}\n" for name, number in numbers(clauses, definitions, crates).items()))
+        # (how many edits only a written answer refuses is what tests/edits.py counts)
+        lines = [f"{name} {number}" for name, number in numbers(clauses, definitions, crates).items()]
+        lines += [line for line in KEPT.read_text().splitlines() if " edits that " in line]
+        KEPT.write_text("".join(f"{line}\n" for line in lines))
     elif not words:
         return compare(numbers(clauses, definitions, crates), clauses, definitions, crates)
     else:

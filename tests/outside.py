@@ -16,7 +16,6 @@ What is passed over isn't passed, so the last line names it. What lacks time is 
 long, and doesn't fail. With CI=true the lack of a tool fails, unless OSB_PASS_OVER names that tool.
 """
 
-import contextlib
 import itertools
 import os
 import re
@@ -32,6 +31,7 @@ from dataclasses import dataclass
 
 sys.path.append(os.path.join(os.path.dirname(os.path.abspath(__file__)), "lib"))
 
+from processes import end_all
 from serving import ONLY_LATE, ROOT, TIME
 
 TABLE = os.path.join(ROOT, "tests", "trials.txt")
@@ -72,30 +72,10 @@ def listed():
             yield Trial(name, float(seconds), "alone" in more, "1")
 
 
-def started_by(mark):
-    """The processes that have this mark: all that something started and that is still there."""
-    for process in filter(str.isdigit, os.listdir("/proc")):
-        with contextlib.suppress(OSError), open(f"/proc/{process}/environ", "rb") as file:
-            if any(it.startswith(f"{MARK}={mark}".encode()) for it in file.read().split(b"\0")):
-                yield int(process)
-
-
-def end_all(mark):
-    """Ends what has this mark, in sessions of its own too. What it starts meanwhile is ended in the next round."""
-    for _ in range(50):
-        found = list(started_by(mark))
-        for process in found:
-            with contextlib.suppress(ProcessLookupError):
-                os.kill(process, signal.SIGKILL)
-        if not found:
-            return
-        time.sleep(0.05)
-
-
 def end_ours(number, _):
     """What this started ends with it."""
     ENDING.set()
-    end_all(f"{os.getpid()}/")
+    end_all(MARK, f"{os.getpid()}/")
     os._exit(128 + number)
 
 
@@ -112,7 +92,7 @@ def run(words, seconds, environment):
             status = None
             os.killpg(script.pid, signal.SIGKILL)
             script.wait()
-        end_all(mark)
+        end_all(MARK, mark)
         printed.seek(0)
         return status, printed.read().decode(errors="replace")
 
