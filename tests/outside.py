@@ -163,8 +163,8 @@ class Tried:
 
 def print_failed(tried):
     """What one that failed found, or its last lines, and how it is tried by itself."""
-    lacks = tried.refused_lacks()
-    print(f"outside: {tried.trial.title} failed{', since it may not lack ' + ' and '.join(lacks) if lacks else ''}:")
+    why = "" if tried.status else f", since it may not lack {' and '.join(tried.refused_lacks())}"
+    print(f"outside: {tried.trial.title} failed{why}:")
     found = [it for it in tried.lines if re.match(rf"{tried.trial.name}: (wrong|late): ", it)]
     for line in [*found[:LINES], *tried.lines[-1:]] if found else tried.lines[-LINES:]:
         print(f"    {line}")

@@ -251,7 +251,7 @@ def main():
     there = [kind for kind in PROXIES if not {"openssl", kind.program} & set(missing)]
     if missing:
         which = " and ".join(kind.program for kind in PROXIES if kind not in there)
-        passed_over("proxied", which, *missing)
+        passed_over("proxied", f"what is behind {which}", *missing)
     return tell("proxied", tries(os.path.abspath(sys.argv[1]), there)) if there else 0
 
 
