@@ -21,12 +21,15 @@ from database import starts
 from serving import ROOT, side_by_side, tell, wait_until
 
 # What each small trial begins with: the number of its run.
-BEGINNING = """import os, pathlib, subprocess, sys, time
-sys.path.append(os.path.join(os.path.dirname(os.path.abspath(__file__)), "..", "lib"))
-from serving import Late, TIME, in_time, passed_over, tell
+BEGINNING = """import os, pathlib, sys
 runs = pathlib.Path(__file__).with_suffix(".runs")
 run = len(runs.read_text()) + 1 if runs.exists() else 1
 runs.write_text("." * run)
+import subprocess, time
+"""
+SHARED = """
+sys.path.append(os.path.join(os.path.dirname(os.path.abspath(__file__)), "..", "lib"))
+from serving import Late, TIME, in_time, passed_over, side_by_side, tell
 """
 # One that hangs: of what it starts one process is in a session of its own.
 HANGS = """
@@ -62,7 +65,6 @@ sys.exit(tell("one", tries()))
 # Two parts at the same time, of which one is ended by a wait.
 SIDES = """
 from concurrent.futures import ThreadPoolExecutor
-from serving import side_by_side
 def late():
     yield "a reply", 1, 1
     raise TimeoutError("no reply")
@@ -98,7 +100,7 @@ class Outside:
         lines = [f"{name}: {seconds}" for name in texts] if table is None else table
         (self.root / "tests" / "trials.txt").write_text("# a table\n" + "\n".join(lines) + "\n")
         for name, text in texts.items():
-            (self.trials / f"{name}.py").write_text(BEGINNING + text)
+            (self.trials / f"{name}.py").write_text(BEGINNING + ("" if text == HANGS else SHARED) + text)
 
     def tried(self, *names, **environment):
         """The status of tests/outside.py, all that it says, and its last line."""
@@ -148,17 +150,20 @@ def try_times(room):
 
 
 # Enough for a beginning on a machine that is busy.
-LIMIT = 4
+LIMIT = 10
 
 
-def try_limits(room):
-    """A trial that isn't over at its limit."""
+def try_limit(room):
+    """A trial that isn't over at its limit, with what it started."""
     outside = Outside(room, {"one": HANGS}, seconds=LIMIT)
     status, printed, last = outside.tried()
     yield "one that hangs", (status, outside.runs(), "0 of 1 passed, not one" in last), (1, 3, True)
     yield "why it is tried again", f"tried again: one 2 times (it isn't over after {LIMIT} s" in last, True
     yield "what it printed", printed.count("so far\n"), 3
     yield "what it started", outside.running(), []
+
+
+def try_wrong_at_limit(room):
     outside = Outside(room, {"one": WRONG_THEN_HANGS}, seconds=LIMIT)
     status, printed, last = outside.tried()
     yield "one that hangs behind wrong bytes", (status, outside.runs(), "tried again" in last), (1, 1, False)
@@ -257,7 +262,8 @@ def try_deaths(room):
 
 
 def tries():
-    trials = [try_times, try_limits, try_ended, try_passed_over, try_last_lines, try_starts, try_deaths]
+    trials = [try_times, try_limit, try_wrong_at_limit, try_ended, try_passed_over]
+    trials += [try_last_lines, try_starts, try_deaths]
     with tempfile.TemporaryDirectory() as room, ThreadPoolExecutor(len(trials)) as pool:
         yield from side_by_side(pool, [partial(it, room) for it in trials])
 

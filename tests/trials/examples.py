@@ -107,10 +107,12 @@ def try_trouble(serving, working):
     yield "an order that raises", have_succeeded(serving, "raises"), True
     left = "raises create 1 is left for later: OSError: the service is away"
     yield "what is said of it", working.lines().count(left), 2
-    yield "an order that fails", ended(serving, "fails"), {"state": "failed", "description": "no host has room " + "ü" * 491}
+    no_room = {"state": "failed", "description": "no host has room " + "ü" * 491}
+    yield "an order that fails", ended(serving, "fails"), no_room
     place = "/service_bindings/b"
     asks(serving, "PUT", at("half") + place + LATER, BIND)
-    yield "credentials that aren't taken", ended(serving, "half", place), {"state": "failed", "description": "The outcome can't be reported."}
+    unreported = {"state": "failed", "description": "The outcome can't be reported."}
+    yield "credentials that aren't taken", ended(serving, "half", place), unreported
     yield "orders that hang", [last_of(serving, it) for it in ("hangs-1", "hangs-2")], [RUNS] * 2
 
 

@@ -113,7 +113,8 @@ class Client(threading.Thread):
 def go_on(clients):
     """Waits until each client has some more replies."""
     wanted = [len(it.statuses) + REPLIES for it in clients]
-    wait_until("more replies", lambda: all(len(it.statuses) >= count for it, count in zip(clients, wanted)), MOST_SECONDS)
+    have_more = lambda: all(len(it.statuses) >= count for it, count in zip(clients, wanted))
+    wait_until("more replies", have_more, MOST_SECONDS)
 
 
 def let_in(serving, logins):

@@ -33,8 +33,8 @@ from conversations import ASYNC, BIND, CATALOG, CLOSE, FAILED, LATER, LEAVE, SUC
 from conversations import at, replies, request, with_parameters
 from proxied import restarts
 from proxies import AWAY, HAProxy, first_of, replaced
-from serving import EXAMPLES, Serving, free_address, in_time, new_database, passed_over, read_to_end, side_by_side, tell
-from serving import wait_until
+from serving import EXAMPLES, Serving, free_address, in_time, new_database, passed_over, read_to_end
+from serving import side_by_side, tell, wait_until
 
 RESHARD = os.path.join(EXAMPLES, "reshard.py")
 BACKEND = os.path.join(EXAMPLES, "backend.py")
@@ -399,7 +399,12 @@ def makes(proxy, shard):
 def made_in_time(proxy, name):
     """How an instance is made, asked for until it isn't answered 503."""
     answers = []
-    wait_until("a shard that is back", lambda: answers.append(proxy.answers(put(name))) or answers[-1][0] != 503, PATIENCE)
+
+    def is_back():
+        answers.append(proxy.answers(put(name)))
+        return answers[-1][0] != 503
+
+    wait_until("a shard that is back", is_back, PATIENCE)
     return answers[-1]
 
 
@@ -455,7 +460,7 @@ def try_restarts(four, pool):
 
 def tries(program):
     with tempfile.TemporaryDirectory() as folder, ThreadPoolExecutor(3) as pool:
-        parts = [partial(try_away, program, folder), partial(try_clients, program, folder), partial(try_routes, folder)]
+        parts = [partial(each, program, folder) for each in (try_away, try_clients)] + [partial(try_routes, folder)]
         yield from side_by_side(pool, parts)
 
 
