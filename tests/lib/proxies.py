@@ -63,12 +63,12 @@ class Proxy:
     def __enter__(self):
         words = [self.program, *self.words]
         self.process = subprocess.Popen(words, cwd=self.folder, stdout=subprocess.DEVNULL, stderr=subprocess.DEVNULL)
-        wait_until(f"{self.program} listens", lambda: self.process.poll() is not None or self.listens(), 60)
+        wait_until(f"{self.program} listens", lambda: self.process.poll() is not None or self.takes_clients(), 60)
         if self.process.poll() is not None:
             raise RuntimeError(f"{self.program} doesn't listen")
         return self
 
-    def listens(self):
+    def takes_clients(self):
         try:
             self.connection().close()
             return True
