@@ -34,9 +34,26 @@ pub fn next(n: u8) -> u8
     n + 1
 }
 """
-# The same with another promise, and with a body that doesn't keep its promise.
+# The same with a comment, with another promise, and with a body that doesn't keep its promise.
+LOW_COMMENTED = LOW.replace("    n + 1\n}", "    // the next\n    n + 1\n}")
 LOW_BY_TWO = LOW.replace("n + 1", "n + 2")
 LOW_WRONG = LOW.replace("    n + 1\n}", "    n + 2\n}")
+
+# The same beside two functions that are proved, and that `rt ci` refuses.
+LOW_REFUSED = LOW.replace("};\n", "};\nuse std::process::Abort;\n") + """
+/// Ends the process.
+pub fn leave<R: Abort>(rt: &R) {
+    rt.abort()
+}
+
+/// No number is as small and as large as that.
+pub fn never(n: u8) -> u8
+    requires { n + 2 ≤ 1 }
+    ensures { result ≡ 7 }
+{
+    n
+}
+"""
 
 MAIN = """//! A small program, whose status is the number after three.
 #![tactic(auto)]
@@ -48,6 +65,14 @@ fn main() -> ExitCode {
     ExitCode::from(next(3))
 }
 """
+MAIN_LISTENS = MAIN.replace("use std::process", "use std::net::TcpListener;\nuse std::process")
+MAIN_LISTENS = MAIN_LISTENS.replace("fn main()", "fn main(rt: HostRuntime)").replace(
+    "    ExitCode::from(next(3))",
+    """    match TcpListener::bind(&rt, "127.0.0.1:0") {
+        Ok(_) => ExitCode::from(next(3)),
+        Err(_) => ExitCode::from(1),
+    }""",
+)
 TOOLS = ("build.py", "check.py", "crates.py", "proved.py", "rattle.py", "stamps.py")
 # In the place of a toolkit whose compiler is slow: somebody changes a file while it works.
 SLOW = "#!/bin/sh\necho '// changed' >> {root}/crates/low/src/lib.rt\nexec {rattle} \"$@\"\n"
@@ -96,8 +121,10 @@ def try_changes(small):
     yield "what it says", ("low: 1 functions proved in " in said, "none is left" in said), (True, True)
     *found, said = small.built()
     yield "with nothing changed", (found, "before, of the same sources" in said), ([0, [], 4], True)
+    small.write(LOW_COMMENTED)
+    yield "a comment below: nothing above is proved again", small.built()[:3], (0, ["low"], 4)
     small.write(LOW_BY_TWO)
-    yield "after a change", small.built()[:3], (0, ["low", "osb_program"], 5)
+    yield "another promise below: what is above is proved again", small.built()[:3], (0, ["low", "osb_program"], 5)
     small.write(LOW_WRONG)
     *found, said = small.built()
     yield "a crate that isn't proved", (found, "low: not proved" in said), ([1, ["low"], 5], True)
@@ -153,6 +180,23 @@ def try_linked(small):
     yield "what it linked isn't taken", small.built()[:3], (1, ["low"], 7)
 
 
+def try_refused(small):
+    """What is proved, and `rt ci` refuses it."""
+    small.write(LOW)
+    small.write(MAIN_LISTENS, "osb_program/src/main.rt")
+    *found, said = small.built()
+    why = "osb_program: refused, as `rt ci` refuses it: it calls bind, getaddrinfo, listen, socket, and HANDLES"
+    yield "a program that listens without a handle", (found, why in said), ([1, ["osb_program"], 7], True)
+    (small.root / "HANDLES").write_text("Handles allowed: Net.\n")
+    yield "with the handle", small.built()[:3], (0, ["low", "osb_program"], 4)
+    small.write(LOW_REFUSED)
+    *found, said = small.built()
+    why = [line for line in said.splitlines() if line.startswith("low: refused, as `rt ci` refuses it: ")]
+    says = [sum(it in line for line in why) for it in ("may end the process", "no call can meet a contract")]
+    yield "a library that ends the process, and one that no call can use", (found, says), ([1, ["low"], 4], [1, 1])
+    yield "it isn't there", os.path.exists(small.out("low") / "rlib" / "low.rlib"), False
+
+
 def try_checks(small):
     """One crate by hand."""
     yield "a check of what isn't proved", small.ran("check", "low")[0], 1
@@ -197,6 +241,7 @@ def tries():
         yield from try_meanwhile(small, room)
         yield from try_linked(small)
         yield from try_checks(small)
+        yield from try_refused(small)
 
 
 if __name__ == "__main__":

@@ -18,7 +18,7 @@ import sys
 import time
 
 from crates import LIBRARIES, ROOT, below, free_memory, has_changed, sum_of
-from proved import count_in, is_kept, made, prove, record, sum_kept
+from proved import count_in, is_kept, is_recorded, keep, made, prove
 from rattle import rlib
 
 PROGRAM = "osb_program"
@@ -145,10 +145,13 @@ class Progress:
     def plan(self):
         how = f"{self.schedule.processors} processor{'s' * (self.schedule.processors > 1)}"
         say(f"osb-broker: {self.count} crates are to be proved, which takes about {self.minutes_left()} minutes on {how}")
+        if above := sum(map(is_recorded, self.schedule.left)):
+            say(f"osb-broker: {above} of them only if the libraries below come out other than they were")
 
     def begin(self, crate, jobs):
         self.begun[crate] = time.monotonic()
-        say(f"{crate}: being proved{f', by {jobs} jobs' if jobs > 1 else ''}")
+        if not is_kept(crate):
+            say(f"{crate}: being proved{f', by {jobs} jobs' if jobs > 1 else ''}")
 
     def end(self, crate, said):
         done = self.count - len(self.schedule.left) - len(self.schedule.running)
@@ -208,7 +211,7 @@ def take_linked(command):
     status = subprocess.run(command, cwd=ROOT).returncode
     if status == 0:
         if not any(map(has_changed, [*below(PROGRAM), PROGRAM])):
-            record(PROGRAM).write_text(sum_kept(PROGRAM))
+            keep(PROGRAM)
         place_program()
     return status
 

@@ -4,6 +4,7 @@ import functools
 import hashlib
 import os
 import pathlib
+import re
 import subprocess
 
 ROOT = pathlib.Path(__file__).resolve().parent.parent
@@ -40,10 +41,17 @@ def toolkit():
     return subprocess.run([RT, "version"], stdout=subprocess.PIPE, text=True, check=True).stdout.strip()
 
 
+def handles():
+    """The handles that the file HANDLES allows; none without it."""
+    file = ROOT / "HANDLES"
+    found = re.fullmatch(r"Handles allowed: (.*)\.", file.read_text().strip() if file.is_file() else "")
+    return found.group(1).split(", ") if found and found.group(1) != "none" else []
+
+
 @functools.cache
 def own_sum(crate):
-    """A sum of the toolkit, a crate's line and its files, as they were when it was first asked for."""
-    found = hashlib.sha256(repr((toolkit(), crate, LIBRARIES[crate])).encode())
+    """A sum of the toolkit, the handles, a crate's line and its files, as they were when it was first asked for."""
+    found = hashlib.sha256(repr((toolkit(), handles(), crate, LIBRARIES[crate])).encode())
     for file in sources(crate):
         found.update(repr((str(file.relative_to(ROOT)), file.read_bytes())).encode())
     return found.hexdigest()
@@ -56,7 +64,8 @@ def has_changed(crate):
 
 @functools.cache
 def sum_of(crate):
-    """A sum of all that a crate's proof reads: the toolkit, its line, its files and the crates below it."""
+    """A sum of the sources of a crate and of those below it. It is the same in each clone, also where nothing is built:
+    what goes by it is asked for before the libraries are there. `is_kept` goes by the libraries as they were built."""
     found = hashlib.sha256(own_sum(crate).encode())
     for name in LIBRARIES[crate]:
         found.update(sum_of(name).encode() if name in LIBRARIES else b"")

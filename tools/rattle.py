@@ -2,15 +2,23 @@
 
 import functools
 import pathlib
+import re
 import signal
 import subprocess
 
-from crates import LIBRARIES, ROOT, RT, below
+from crates import LIBRARIES, ROOT, RT, below, handles
 
 KIT = pathlib.Path(subprocess.run([RT, "doc"], stdout=subprocess.PIPE, text=True, check=True).stdout.strip()).parent
 RATTLE = str(KIT / "bin" / "rattle")
 # Where a crate keeps what was checked of it, for the next check.
 KEPT = "out/incremental"
+# What a program imports of the C library only under a handle, as `rt ci` has it.
+IMPORTS = {
+    "Net": r"socket(pair)?|bind|listen|accept4?|connect|(send|recv)(to|from|msg)?|get(addr|name)info|gethostby\w+"
+    r"|epoll_\w+|eventfd",
+    "Processes": r"v?fork|clone3?|posix_spawn\w*|exec[lv]\w*|fexecve|system|popen|wait(pid|id|[34])?",
+    "Threads": r"(pthread|thrd)_create",
+}
 
 
 @functools.cache
@@ -52,10 +60,22 @@ def run(command, folder, held=()):
     return ran.returncode, ran.stdout
 
 
+def imported(program):
+    """What a linked program imports under handles that HANDLES doesn't allow."""
+    # (the toolkit has all of LLVM's tools in one file, which goes by its first word)
+    words = ["llvm-nm", "-D", "--undefined-only", "-j", str(program)]
+    tools = KIT / "toolchain" / "bin" / "clang"
+    ran = subprocess.run(words, executable=tools, stdout=subprocess.PIPE, text=True, check=True)
+    names = sorted({it.partition("@")[0] for it in ran.stdout.split()})
+    refused = [pattern for handle, pattern in IMPORTS.items() if handle not in handles()]
+    return [it for it in names if any(re.fullmatch(pattern, it) for pattern in refused)]
+
+
 def build(command, folder, held):
-    """The status of a build by these words, and what the compiler says of it. One with several jobs that is killed,
-    most likely for memory, is made again with one."""
-    status, said = run([RATTLE, "build", *command], folder, held)
+    """The status of a build by these words, and what the compiler says of it and of contracts that no call can meet.
+    One with several jobs that is killed, most likely for memory, is made again with one."""
+    empty = ["--empty-contracts"] if "--empty-contracts" in help_of("build") else []
+    status, said = run([RATTLE, "build", *command, *empty], folder, held)
     at = command.index("--jobs") + 1
     if status == -signal.SIGKILL and command[at] != "1":
         return build([*command[:at], "1", *command[at + 1 :]], folder, held)
