@@ -148,13 +148,10 @@ SHOWN, BEFORE = 300, 60
 
 
 class Late:
-    """What is found if something only took too long. It equals nothing, and is false."""
+    """What is found if something only took too long. It equals nothing that is expected."""
 
     def __init__(self, found):
         self.found = found
-
-    def __bool__(self):
-        return False
 
     def __repr__(self):
         return self.found
