@@ -23,8 +23,9 @@ from serving import ROOT, side_by_side, tell, wait_until
 # What each small trial begins with: the number of its run.
 BEGINNING = """import os, pathlib, sys
 runs = pathlib.Path(__file__).with_suffix(".runs")
-run = len(runs.read_text()) + 1 if runs.exists() else 1
-runs.write_text("." * run)
+with runs.open("a") as file:
+    file.write(".")
+run = len(runs.read_text())
 import subprocess, time
 """
 SHARED = """
