@@ -123,7 +123,7 @@ class Schedule:
             first = min(plan.running, key=ends.get)
             now = max(now, ends[first])
             plan.end(first)
-        return round(now)
+        return now
 
 
 def schedule_of(crates):
@@ -140,7 +140,7 @@ class Progress:
 
     def minutes_left(self):
         elapsed = {it: (time.monotonic() - self.begun[it]) / 60 for it in self.schedule.running}
-        return self.schedule.minutes_left(elapsed)
+        return round(self.schedule.minutes_left(elapsed))
 
     def plan(self):
         how = f"{self.schedule.processors} processor{'s' * (self.schedule.processors > 1)}"
