@@ -1,0 +1,180 @@
+"""Tries what the changes since a commit may break, within a time.
+
+    python3 tools/quick.py [COMMIT] [--minutes N] [--plan]
+
+Without a COMMIT it is the newest one before HEAD that passed the gate on this machine (tools/green.py). If none did, it
+is the last one that origin/main has too, or else the first of all. Files that aren't committed are changes as well.
+
+What takes seconds comes first, and the layout of all files before anything else. Then come the changed crates, their
+edits, the crates above those that state something else, tests, the program, and the trials that name a changed file.
+What doesn't fit the time isn't begun, and nor is what stands on something that failed or was left. Both are named in
+the end, with their minutes. The time is 20 minutes without --minutes. --plan only prints what would be tried. The
+status is 0, or 1 if something failed, or 4 if something was left."""
+
+import argparse
+import re
+import subprocess
+import sys
+import time
+
+from build import PROGRAM, schedule_of
+from changes import Change
+from crates import LIBRARIES, ROOT, below
+from green import git, newest_green
+from proved import is_kept
+
+# Minutes of the edits of a crate, and of a crate of tests (docs/GATE.md, 'What a crate costs').
+EDITS = {"osb_text": 1.7, "osb_frames": 1.6, "osb_replies": 0.7, "osb_catalog": 2.2, "osb_advice": 2.1, "osb_asks": 2.1}
+EDITS |= {"osb_orders": 0.9, "osb_standing": 0.8, "osb_audit": 0.5, "osb_bare": 0.1, "osb_joined": 0.5}
+EDITS |= {"osb_tables": 0.5, "osb_machine": 3.7, "osb_trim": 1.6, "osb_contexts": 2.5, "osb_statements": 6}
+EDITS |= {"osb_records": 7.5, "osb_file": 3.6, "osb_laws": 0.8, "osb_broker": 6.1, "osb_restart": 3.6}
+EDITS |= {"osb_listen": 6.5, "osb_cli": 7.6}
+TESTS = {"tests_basics": 4.5, "tests_layers": 8.5, "tests_conformance": 15.6, "tests_stops": 22}
+# Minutes of the scripts' own tests and of trials.
+SCRIPTS = {"judged": 3, "building": 3, "tried": 2, "greened": 1, "needs": 0.5}
+TRIALS = {"unproved": 3, "packaged": 8, "imaged": 3, "backends": 5, "power": 3, "refused": 3, "killed": 2, "groups": 2}
+MINUTES_OF_OTHERS = 1
+# The trials that speak of a crate; those of the program are tried with each change of it.
+OF_PROGRAM = ["program", "served", "mistakes"]
+OF_CRATES = {
+    "osb_file": ["begun", "database", "backup", "power", "trim"],
+    "osb_statements": ["database", "begun", "power"],
+    "osb_records": ["groups", "trim", "power"],
+    "osb_listen": ["clients", "together", "groups", "proxied"],
+    "osb_broker": ["groups", "refused", "shards"],
+    "osb_cli": ["backup", "trim", "examples"],
+}
+
+
+def say(text):
+    print(f"quick: {text}", flush=True)
+
+
+def base(commit):
+    """The commit that changes are counted from."""
+    merged = git("merge-base", "HEAD", "origin/main").strip()
+    first = git("rev-list", "--max-parents=0", "HEAD").split()[-1:]
+    return commit or newest_green() or merged or "".join(first)
+
+
+class Step:
+    """A command, about how many minutes it takes, and the steps that it stands on."""
+
+    def __init__(self, name, minutes, *words, needs=()):
+        self.name, self.minutes, self.words, self.needs = name, minutes, [sys.executable, *words], needs
+        self.done = False
+
+    def run(self):
+        """Runs it, and shows the end of what it prints if it fails. Gives the minutes that it took."""
+        how = {"stdin": subprocess.DEVNULL, "stdout": subprocess.PIPE, "stderr": subprocess.STDOUT, "text": True}
+        begun, ran = time.monotonic(), subprocess.run(self.words, cwd=ROOT, errors="replace", **how)
+        took = (time.monotonic() - begun) / 60
+        self.done = ran.returncode == 0
+        say(f"{'passed' if self.done else 'failed'}: {self.name}, {took:.1f} minutes")
+        for line in ran.stdout.splitlines()[-20:] if not self.done else []:
+            print(f"    {line}", flush=True)
+        return took
+
+
+class Steps:
+    """What is tried of a change, in this order. Minutes are reckoned when it is a step's turn."""
+
+    def __init__(self, change):
+        self.change, self.checks = change, {}
+
+    def proving(self, crates):
+        """About how many minutes the proofs of these crates take, without those that are kept or checked."""
+        left = [it for it in crates if not is_kept(it) and not (it in self.checks and self.checks[it].done)]
+        return schedule_of(left).minutes_left({})
+
+    def first(self):
+        """What takes seconds, and the scripts' own tests."""
+        yield Step("layout", 0.1, "tests/layout.py")
+        yield Step("pages", 0.1, "tests/pages.py")
+        yield Step("counts", 0.1, "tests/counts.py")
+        yield Step("files of edits", 0.1, "tests/edits.py", "--files")
+        for name, minutes in SCRIPTS.items():
+            if self.change.is_named_in(ROOT / "tests" / f"{name}.py"):
+                yield Step(f"scripts: {name}", minutes, f"tests/{name}.py")
+
+    def proof(self, name, crate, minutes, *words):
+        """A step over the libraries below a crate, which lack or are there."""
+        needs = [self.checks[it] for it in below(crate) if it in self.checks]
+        return Step(f"{crate}: {name}", self.proving(below(crate)) + minutes, *words, needs=needs)
+
+    def check(self, crates):
+        """The checks of those of these crates that aren't kept."""
+        for crate in (it for it in crates if it not in TESTS and not is_kept(it)):
+            self.checks[crate] = self.proof("check", crate, self.proving([crate]), "tools/check.py", crate)
+            yield self.checks[crate]
+
+    def edits(self, crates):
+        """All edits of these crates."""
+        for crate in (it for it in crates if self.change.edits_in(it)):
+            yield self.proof("edits", crate, EDITS.get(crate, MINUTES_OF_OTHERS), "tests/edits.py", crate)
+
+    def changed_edits(self):
+        """The edits that were changed, of crates that weren't."""
+        for crate in (it for it in LIBRARIES if it not in self.change.meant):
+            if names := self.change.changed_edits(crate):
+                minutes = EDITS.get(crate, MINUTES_OF_OTHERS) * len(names) / len(self.change.edits_in(crate))
+                words = [f"{crate}/{it}" for it in names]
+                yield self.proof(f"edits {' '.join(names)}", crate, minutes, "tests/edits.py", *words)
+
+    def tests(self):
+        """The crates of tests that were changed, or that stand on what states something else."""
+        for crate in (it for it in TESTS if it in [*self.change.crates, *self.change.above]):
+            minutes = TESTS[crate] / schedule_of([crate]).jobs_for(crate, 1)
+            yield self.proof("tests", crate, minutes, "tools/check.py", crate, "--test")
+
+    def outside(self):
+        """The program, and the trials that speak of what was changed."""
+        crates = [*below(PROGRAM), PROGRAM]
+        meant = [it for it in self.change.meant if it in crates]
+        names = [*OF_PROGRAM * bool(meant), *(name for it in meant for name in OF_CRATES.get(it, []))]
+        listed = re.findall(r'"(\w+)"', (ROOT / "tests" / "outside.py").read_text())
+        trials = [it for it in sorted((ROOT / "tests" / "trials").glob("*.py")) if it.stem in listed]
+        trials = [it for it in trials if it.stem in names or self.change.is_named_in(it)]
+        if meant or trials:
+            program = Step("the program", self.proving(crates), "tools/build.py", needs=[*self.checks.values()])
+            yield program
+        for trial in trials:
+            minutes = TRIALS.get(trial.stem, MINUTES_OF_OTHERS)
+            yield Step(f"trial {trial.stem}", minutes, str(trial), "./osb-broker", needs=[program])
+
+    def all(self):
+        yield from self.first()
+        yield from self.check(self.change.crates)
+        yield from self.edits(self.change.meant)
+        yield from self.changed_edits()
+        yield from self.check(self.change.above)
+        yield from self.edits(self.change.above)
+        yield from self.tests()
+        yield from self.outside()
+
+
+def main():
+    parser = argparse.ArgumentParser(usage="tools/quick.py [COMMIT] [--minutes N] [--plan]")
+    parser.add_argument("commit", nargs="?")
+    parser.add_argument("--minutes", type=float, default=20)
+    parser.add_argument("--plan", action="store_true")
+    given = parser.parse_args()
+    change, spent, failed, left = Change(base(given.commit)), 0.0, 0, []
+    say(f"{len(change.files)} files were changed since {change.commit[:10]}")
+    for step in Steps(change).all():
+        if spent + step.minutes > given.minutes or not all(it.done for it in step.needs):
+            left.append(step)
+        elif given.plan:
+            step.done, spent = True, spent + step.minutes
+            say(f"to be tried: {step.name}, about {step.minutes:.1f} minutes")
+        else:
+            spent += step.run()
+            failed += not step.done
+    for step in left:
+        say(f"left: {step.name}, about {step.minutes:.1f} minutes")
+    say(f"{failed} failed, {len(left)} left, which take about {sum(it.minutes for it in left):.0f} minutes")
+    return 1 if failed else 4 if left else 0
+
+
+if __name__ == "__main__":
+    sys.exit(main())
