@@ -24,6 +24,7 @@ LEMMA = "use Rattle.std.proofs.Common.{refl}\n\npub one : 1 ≡ 1\none = refl\n"
 # What is looked at first, whatever was changed.
 FIRST = ["layout", "pages", "counts", "files of edits"]
 PROGRAM = ["the program", "trial program"]
+LEFT = re.compile(r"quick: left: (.*), about (?!0\.0)[\d.]+ minutes")
 
 
 class Small:
@@ -75,7 +76,7 @@ class Small:
     def left_over(self):
         """What lies beside the repository and in the folder of what passed."""
         logs = [it.name for it in (self.cache / "osb-broker" / "green").glob("*.log")]
-        return sorted([it.name for it in self.root.parent.iterdir()] + logs)
+        return {*logs, *(it.name for it in self.root.parent.iterdir())}
 
 
 def try_green(small):
@@ -85,12 +86,12 @@ def try_green(small):
     small.write("verdict", "bad, and not committed\n")
     status, said = small.ran("tools/green")
     yield "what is committed passes", (status, "passed after 0 minutes" in said), (0, True)
-    yield "what is left of it", small.left_over(), ["cache", "small"]
+    yield "what is left of it", small.left_over(), {"cache", "small"}
     small.write("verdict", "bad\n")
     second = small.commit("the second")
     status, said = small.ran("tools/green")
     yield "one that fails", (status, "its priority is 19\nbad\n" in said, f"{second}.log" in said), (1, True, True)
-    yield "its log stays", small.left_over(), [f"{second}.log", "cache", "small"]
+    yield "its log stays", small.left_over(), {f"{second}.log", "cache", "small"}
     status, said = small.ran("tools/green", "--last")
     yield "the last that passed", (status, first in said, "1 commits since" in said), (0, True, True)
     small.write("verdict", "good again\n")
@@ -130,8 +131,12 @@ def try_plans(small):
     source, checked = "crates/low/src/lib.rt", [*FIRST, "low: check"]
     yield "a comment", planned_after(small, source, LOW_COMMENTED), (0, checked)
     yield "a body", planned_after(small, source, LOW_WRONG), (0, [*checked, "low: edits", *PROGRAM])
-    above = ["osb_program: check", "tests_basics: tests"]
-    yield "a contract", planned_after(small, source, LOW_BY_TWO), (0, [*checked, "low: edits", *above, *PROGRAM])
+    main = planned_after(small, "crates/osb_program/src/main.rt", f"// Small.\n{MAIN}")
+    yield "a comment in the program", main, (0, [*FIRST, "the program"])
+    above = [*checked, "low: edits", "tests_basics: tests", *PROGRAM]
+    yield "a contract", planned_after(small, source, LOW_BY_TWO), (0, above)
+    handles = planned_after(small, "HANDLES", "Handles allowed: Net.\n")
+    yield "the handles", handles, (0, [*checked, "low: edits", "tests_basics: tests", "the program"])
     others = [LEMMA, LEMMA.replace("= refl", "= _"), LEMMA.replace("1 ≡", "2 ≡")]
     lemmas = [stated("crates/low/proofs/Lemmas.antt", it) for it in others]
     yield "another proof, and another lemma", [it != lemmas[0] for it in lemmas[1:]], [False, True]
@@ -142,13 +147,18 @@ def try_quick(small):
     small.write("docs/ONE.md", "Once.\n")
     status, said = small.ran("tools/quick")
     yield "all passes", (status, "quick: 0 failed, 0 left" in said), (0, True)
+    yield "since no commit", small.ran("tools/quick", "nothing")[0], 2
     small.write("crates/low/src/lib.rt", LOW_BY_TWO)
     status, names = small.planned("--minutes", "0.35")
     yield "what fits", (status, names), (4, FIRST[:3])
     status, said = small.ran("tools/quick", "--minutes", "0")
-    found = re.findall(r"quick: left: (.*), about (?!0\.0)[\d.]+ minutes", said)
-    named = [*FIRST, "low: check", "low: edits", "osb_program: check", "tests_basics: tests", *PROGRAM]
-    yield "what doesn't is named", (status, found, "passed" in said), (4, named, False)
+    above = ["tests_basics: tests", *PROGRAM]
+    yield "what doesn't is named", (status, LEFT.findall(said)), (4, [*FIRST, "low: check", "low: edits", *above])
+    yield "nothing is begun", re.findall("passed|failed: ", said), []
+    small.write("tools/check.py", "raise SystemExit(1)\n")
+    status, said = small.ran("tools/quick")
+    yield "what stands on what failed", (status, LEFT.findall(said)), (1, above)
+    small.git("checkout", "-q", "tools/check.py")
     small.write("crates/low/src/lib.rt", LOW.replace("    n + 1\n}", "  n + 1\n}"))
     status, said = small.ran("tools/quick", "--minutes", "0.5")
     first = [line for line in said.splitlines() if line.startswith("quick: ")][1]

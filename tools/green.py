@@ -39,6 +39,11 @@ def git(*words):
     return ran.stdout if ran.returncode == 0 else ""
 
 
+def commit_of(name):
+    """The commit of a name; nothing where it has none."""
+    return git("rev-parse", "--verify", "-q", f"{name}^{{commit}}").strip()
+
+
 def is_ancestor(commit, other):
     """Whether a commit is the other or is before it, as far as this clone knows both."""
     words = ["git", "-C", str(ROOT), "merge-base", "--is-ancestor", commit, other]
@@ -127,7 +132,7 @@ def main():
     given = parser.parse_args()
     if given.last:
         return say_last()
-    commit = git("rev-parse", "--verify", "-q", f"{given.commit}^{{commit}}").strip()
+    commit = commit_of(given.commit)
     if not commit:
         say(f"{given.commit} is no commit")
         return 2

@@ -20,7 +20,7 @@ import time
 from build import PROGRAM, schedule_of
 from changes import Change
 from crates import LIBRARIES, ROOT, below
-from green import git, newest_green
+from green import commit_of, git, newest_green
 from proved import is_kept
 
 # Minutes of the edits of a crate, and of a crate of tests (docs/GATE.md, 'What a crate costs').
@@ -51,10 +51,10 @@ def say(text):
 
 
 def base(commit):
-    """The commit that changes are counted from."""
+    """The commit that changes are counted from; nothing where that is none."""
     merged = git("merge-base", "HEAD", "origin/main").strip()
     first = git("rev-list", "--max-parents=0", "HEAD").split()[-1:]
-    return commit or newest_green() or merged or "".join(first)
+    return commit_of(commit or newest_green() or merged or "".join(first))
 
 
 class Step:
@@ -103,8 +103,8 @@ class Steps:
         return Step(f"{crate}: {name}", self.proving(below(crate)) + minutes, *words, needs=needs)
 
     def check(self, crates):
-        """The checks of those of these crates that aren't kept."""
-        for crate in (it for it in crates if it not in TESTS and not is_kept(it)):
+        """The checks of those of these libraries that aren't kept."""
+        for crate in (it for it in crates if it not in [*TESTS, PROGRAM] and not is_kept(it)):
             self.checks[crate] = self.proof("check", crate, self.proving([crate]), "tools/check.py", crate)
             yield self.checks[crate]
 
@@ -135,7 +135,7 @@ class Steps:
         listed = re.findall(r'"(\w+)"', (ROOT / "tests" / "outside.py").read_text())
         trials = [it for it in sorted((ROOT / "tests" / "trials").glob("*.py")) if it.stem in listed]
         trials = [it for it in trials if it.stem in names or self.change.is_named_in(it)]
-        if meant or trials:
+        if meant or trials or PROGRAM in [*self.change.crates, *self.change.above]:
             program = Step("the program", self.proving(crates), "tools/build.py", needs=[*self.checks.values()])
             yield program
         for trial in trials:
@@ -159,7 +159,11 @@ def main():
     parser.add_argument("--minutes", type=float, default=20)
     parser.add_argument("--plan", action="store_true")
     given = parser.parse_args()
-    change, spent, failed, left = Change(base(given.commit)), 0.0, 0, []
+    commit = base(given.commit)
+    if not commit:
+        say(f"there is no commit {given.commit or ''}")
+        return 2
+    change, spent, failed, left = Change(commit), 0.0, 0, []
     say(f"{len(change.files)} files were changed since {change.commit[:10]}")
     for step in Steps(change).all():
         if spent + step.minutes > given.minutes or not all(it.done for it in step.needs):
