@@ -73,6 +73,13 @@ class Small:
         status, said = self.ran("tools/quick", "--plan", *words)
         return status, re.findall(r"quick: to be tried: (.*), about [\d.]+ minutes", said)
 
+    def cloned(self, *words):
+        """What a clone of it says of the last that passed."""
+        clone = tempfile.mkdtemp(dir=self.cache)
+        self.git("clone", "-q", *words, f"file://{self.root}", clone)
+        command = [sys.executable, os.path.join(clone, "tools", "green.py"), "--last"]
+        return subprocess.run(command, env=self.environment, capture_output=True, text=True).stdout
+
     def left_over(self):
         """What lies beside the repository and in the folder of what passed."""
         logs = [it.name for it in (self.cache / "osb-broker" / "green").glob("*.log")]
@@ -99,11 +106,9 @@ def try_green(small):
     yield "the next that passes", small.ran("tools/green", "HEAD")[0], 0
     status, said = small.ran("tools/green", first)
     yield "an older one passes", (status, "isn't noted" in said), (0, True)
-    other = small.root.parent / "other"
-    shutil.copytree(small.root, other)
-    command = [sys.executable, str(other / "tools" / "green.py"), "--last"]
-    said = subprocess.run(command, env=small.environment, capture_output=True, text=True).stdout
-    yield "another clone finds it", third in said, True
+    small.git("branch", "old", first)
+    yield "another clone finds it", third in small.cloned(), True
+    yield "one that doesn't have it", first in small.cloned("--single-branch", "--branch", "old"), True
     yield "no such commit", small.ran("tools/green", "nothing")[0], 2
 
 

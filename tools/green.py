@@ -71,12 +71,13 @@ def note(commit, minutes):
 
 
 def say_last():
-    """Prints the newest commit that passed, and what came since then."""
-    if not notes():
-        say("no commit has passed here with this toolkit")
+    """Prints the newest commit of this clone that passed, and what came since then."""
+    known = [it for it in notes() if commit_of(it.split()[0])]
+    if not known:
+        say("no commit of this clone has passed here with this toolkit")
         return 1
-    since = git("log", "--oneline", f"{notes()[-1].split()[0]}..HEAD").splitlines()
-    say(f"{notes()[-1]}; {len(since)} commits since then")
+    since = git("log", "--oneline", f"{known[-1].split()[0]}..HEAD").splitlines()
+    say(f"{known[-1]}; {len(since)} commits since then")
     print(*since, sep="\n")
     return 0
 
