@@ -14,6 +14,7 @@ import tempfile
 
 sys.path.append(os.path.join(os.path.dirname(os.path.abspath(__file__)), "lib"))
 
+from kits import kit_with
 from serving import ROOT, tell
 
 sys.path.append(os.path.join(ROOT, "tools"))
@@ -75,7 +76,7 @@ MAIN_LISTENS = MAIN_LISTENS.replace("fn main()", "fn main(rt: HostRuntime)").rep
 )
 TOOLS = ("build.py", "check.py", "crates.py", "proved.py", "rattle.py", "stamps.py")
 # In the place of a toolkit whose compiler is slow: somebody changes a file while it works.
-SLOW = "#!/bin/sh\necho '// changed' >> {root}/crates/low/src/lib.rt\nexec {rattle} \"$@\"\n"
+SLOW = "#!/bin/sh\necho '// changed' >> {root}/crates/low/src/lib.rt\nexec {{rattle}} \"$@\"\n"
 
 
 class Small:
@@ -144,20 +145,8 @@ def try_what_lies_there(small):
 
 def try_meanwhile(small, room):
     """A file that is changed while it is proved."""
-    kit = pathlib.Path(tempfile.mkdtemp(dir=room))
-    real = pathlib.Path(subprocess.run([RT, "doc"], stdout=subprocess.PIPE, text=True, check=True).stdout.strip()).parent
-    for it in real.iterdir():
-        if it.name != "bin":
-            (kit / it.name).symlink_to(it)
-    (kit / "bin").mkdir()
-    for name, text in [
-        ("rt", f"#!/bin/sh\n[ $1 = doc ] && echo {kit}/page || exec {RT} \"$@\"\n"),
-        ("rattle", SLOW.format(root=small.root, rattle=real / "bin" / "rattle")),
-    ]:
-        (kit / "bin" / name).write_text(text)
-        (kit / "bin" / name).chmod(0o755)
     small.write(LOW)
-    *found, said = small.built(RT=str(kit / "bin" / "rt"))
+    *found, said = small.built(RT=kit_with(room, SLOW.format(root=small.root)))
     yield "changed while it is proved", (found, "changed meanwhile" in said), ([1, ["low"], 5], True)
 
 

@@ -40,7 +40,7 @@ class Small:
         files |= {"crates/low/src/lib.rt": LOW, "crates/osb_program/src/main.rt": MAIN, "crates/low/edits/a.edit": "a"}
         files |= {"crates/low/edits/b.edit": "b", "crates/tests_basics/src/lib.rt": LOW, ".gitignore": "__pycache__/\n"}
         files |= {f"tests/{name}.py": "" for name in ("pages", "counts", "edits", "trials/program")}
-        files |= {"tests/outside.py": '["program", "shown"]\n', "tests/trials/shown.py": "'TWO.md'\n"}
+        files |= {"tests/trials.txt": "program: 9\nshown: 9\n", "tests/trials/shown.py": "'TWO.md'\n"}
         files |= {"tests/greened.py": "'green.py'\n"}
         for name, text in files.items():
             self.write(name, text)

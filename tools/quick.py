@@ -31,7 +31,7 @@ EDITS |= {"osb_records": 7.5, "osb_file": 3.6, "osb_laws": 0.8, "osb_broker": 6.
 EDITS |= {"osb_listen": 6.5, "osb_cli": 7.6}
 TESTS = {"tests_basics": 4.5, "tests_layers": 8.5, "tests_conformance": 15.6, "tests_stops": 22}
 # Minutes of the scripts' own tests and of trials.
-SCRIPTS = {"judged": 3, "building": 3, "tried": 2, "greened": 1, "needs": 0.5}
+SCRIPTS = {"judged": 3, "building": 3, "tried": 1, "greened": 1, "gated": 0.5, "needs": 0.5}
 TRIALS = {"unproved": 3, "packaged": 8, "imaged": 3, "backends": 5, "power": 3, "refused": 3, "killed": 2, "groups": 2}
 MINUTES_OF_OTHERS = 1
 # The trials that speak of a crate; those of the program are tried with each change of it.
@@ -111,7 +111,7 @@ class Steps:
     def edits(self, crates):
         """All edits of these crates."""
         for crate in (it for it in crates if self.change.edits_in(it)):
-            yield self.proof("edits", crate, EDITS.get(crate, MINUTES_OF_OTHERS), "tests/edits.py", crate)
+            yield self.proof("edits", crate, EDITS.get(crate, MINUTES_OF_OTHERS), "tests/edits.py", "--strict", crate)
 
     def changed_edits(self):
         """The edits that were changed, of crates that weren't."""
@@ -119,7 +119,7 @@ class Steps:
             if names := self.change.changed_edits(crate):
                 minutes = EDITS.get(crate, MINUTES_OF_OTHERS) * len(names) / len(self.change.edits_in(crate))
                 words = [f"{crate}/{it}" for it in names]
-                yield self.proof(f"edits {' '.join(names)}", crate, minutes, "tests/edits.py", *words)
+                yield self.proof(f"edits {' '.join(names)}", crate, minutes, "tests/edits.py", "--strict", *words)
 
     def tests(self):
         """The crates of tests that were changed, or that stand on what states something else."""
@@ -132,8 +132,8 @@ class Steps:
         crates = [*below(PROGRAM), PROGRAM]
         meant = [it for it in self.change.meant if it in crates]
         names = [*OF_PROGRAM * bool(meant), *(name for it in meant for name in OF_CRATES.get(it, []))]
-        listed = re.findall(r'"(\w+)"', (ROOT / "tests" / "outside.py").read_text())
-        trials = [it for it in sorted((ROOT / "tests" / "trials").glob("*.py")) if it.stem in listed]
+        listed = re.findall(r"(?m)^(\w+):", (ROOT / "tests" / "trials.txt").read_text())
+        trials = [ROOT / "tests" / "trials" / f"{it}.py" for it in listed]
         trials = [it for it in trials if it.stem in names or self.change.is_named_in(it)]
         if meant or trials or PROGRAM in [*self.change.crates, *self.change.above]:
             program = Step("the program", self.proving(crates), "tools/build.py", needs=[*self.checks.values()])
