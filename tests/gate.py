@@ -26,9 +26,10 @@ from outside import listed
 from processes import end_all
 from rattle import KIT
 
-# What takes seconds, and what tries the gate's own scripts, side by side: a processor each, for minutes.
+# What takes seconds.
 FIRST = [["needs"], ["counts"], ["pages"], ["layout"], ["edits", "--files"]]
-OWN = ["judged", "building", "tried", "gated", "greened"]
+# What tries the gate's own scripts, for minutes: two at a time, beside the rest.
+OWN, AT_ONCE = ["judged", "building", "tried", "gated", "greened"], 2
 # Every proof from nothing and the built program from outside, with the edits beside them.
 REST = ["edits", "--beside", "make", "--no-print-directory", "tried"]
 MINUTES = float(os.environ.get("GATE_MINUTES", 170))
@@ -102,10 +103,16 @@ class Gate:
         words = [sys.executable, str(ROOT / "tests" / f"{name}.py"), *words]
         how = {"stdin": subprocess.DEVNULL, "stdout": subprocess.PIPE, "stderr": subprocess.STDOUT}
         how |= {"text": True, "errors": "replace", "cwd": ROOT, "env": {**os.environ, MARK: self.mark}}
-        return subprocess.Popen(words, **how)
+        script = subprocess.Popen(words, **how)
+        if self.is_late:
+            # (it began as all was ended)
+            end_all(MARK, self.mark)
+        return script
 
     def step(self, name, *words):
         """Whether a script passes; what it prints is shown at once."""
+        if self.is_late:
+            return False
         say(f"gate: {' '.join([name, *words])}")
         with self.start(name, *words) as script:
             for line in script.stdout:
@@ -115,6 +122,8 @@ class Gate:
 
     def own(self, name):
         """The same of one that runs beside others; what it prints is shown once it has ended."""
+        if self.is_late:
+            return False
         with self.start(name) as script:
             said = script.stdout.read()
         print(f"gate: {name}\n{said}", end="", flush=True)
@@ -130,9 +139,10 @@ class Gate:
     def passes(self):
         if not all(self.step(*words) for words in FIRST):
             return False
-        with ThreadPoolExecutor(len(os.sched_getaffinity(0))) as pool:
-            own = list(pool.map(self.own, OWN))
-        return all(own) and self.step(*REST)
+        with ThreadPoolExecutor(AT_ONCE) as pool:
+            own = [pool.submit(self.own, name) for name in OWN]
+            rest = self.step(*REST)
+        return all(it.result() for it in own) and rest
 
     def stop(self, *_):
         """Ends what runs. What that prints then isn't looked at."""

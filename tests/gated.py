@@ -101,7 +101,11 @@ def try_failing(room):
     yield "a script that fails", (status, lines[-1].startswith("the gate failed on ")), (1, True)
     found = ["  failed: the script judged, with status 1", "    by itself: python3 tests/judged.py"]
     yield "how it is tried by itself", lines[-3:-1], found
-    yield "the rest isn't begun", [line for line in lines if line.startswith("rt: ")], []
+    yield "the rest is tried", "rt: low proved" in lines, True
+    small = Small(room, pages="print('pages: 0 passed, 1 failed')\nraise SystemExit(1)\n", edits=EDITS + GOOD)
+    status, lines = small.ran()
+    yield "one that takes seconds", (status, lines[-2]), (1, "    by itself: python3 tests/pages.py")
+    yield "behind it nothing is begun", [line for line in lines if line.startswith(("rt: ", "gate: layout"))], []
     status, lines = Small(room, edits=EDITS + BAD).ran()
     commands = [line.partition("by itself: ")[2] for line in lines[-12:] if "by itself: " in line]
     found = ["trials/clients.py PROGRAM", "edits.py", "edits.py low/x"]
