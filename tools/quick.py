@@ -140,7 +140,7 @@ class Steps:
             yield program
         for trial in trials:
             minutes = TRIALS.get(trial.stem, MINUTES_OF_OTHERS)
-            yield Step(f"trial {trial.stem}", minutes, str(trial), "./osb-broker", needs=[program])
+            yield Step(f"trial {trial.stem}", minutes, "tests/outside.py", "./osb-broker", trial.stem, needs=[program])
 
     def all(self):
         yield from self.first()
