@@ -293,12 +293,19 @@ def found_of(crate, verdicts, wrong):
     return found
 
 
+def proves_by_itself(crate, names, edit, kept):
+    """Whether the search proves an edited function without its written answer."""
+    return check(crate, names, [edit], kept, more=HALVED, answered=False).passes(edit.refused)
+
+
 def say_the_same(crate, names, edits, kept):
     """The verdict on those of these edits, which only a written answer refuses, that the search proves without it."""
     found = []
     for batch in batches(edits):
         judged = check(crate, names, batch, kept, more=HALVED, answered=False)
-        found += [edit for edit in batch if judged.passes(edit.refused)]
+        proved = [edit for edit in batch if judged.passes(edit.refused)]
+        # (it may do so only by another definition in the same text)
+        found += [it for it in proved if len(batch) == 1 or proves_by_itself(crate, names, it, kept)]
     said = "the search proves it: only the written answer refuses what it says in other words"
     return {edit: Verdict(Kind.NOTHING, f"{edit.refused}: {said}") for edit in found}
 

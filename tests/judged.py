@@ -15,6 +15,7 @@ import shutil
 import subprocess
 import sys
 import tempfile
+from unittest import mock
 
 sys.path.append(os.path.join(os.path.dirname(os.path.abspath(__file__)), "lib"))
 
@@ -121,6 +122,7 @@ PRINTED = {
     Kind.NAME: WRITTEN.format("record `After` has no field `min`"),
     Kind.NOTHING: "fn small::f: no holes",
 }
+PASS = "fn small::law: no holes\nfn small::rule: no holes\n"
 # In the place of a compiler: it is killed in its first check, and then makes a file; or in each check.
 KILLED = """#!/bin/sh
 case "$*" in *--crate-name*) [ -e {once} ] || {{ touch {made}; kill -9 $$; }} ;; esac
@@ -182,6 +184,18 @@ def try_verdicts():
         yield f"{count} weak edits", (passes, named), (count <= edits.MOST_WEAK, count)
 
 
+def try_texts():
+    """Edits that can't be in one text, and one that the search proves only by another's definition."""
+    kinds = {"one": "src/a.rt", "other": "src/b.rt", "law": "specs/A.antt", "rule": "specs/B.antt"}
+    made = {name: mock.Mock(refused=name, pairs=[(file, "old", "new")]) for name, file in kinds.items()}
+    found = [[it.refused for it in batch] for batch in edits.batches(list(made.values()))]
+    yield "edits of definitions by themselves", found, [["one", "other"], ["law", "rule"]]
+    for count, said in [(1, ["law", "rule"]), (2, [])]:
+        with mock.patch.object(edits, "check", lambda *given, **_: Judgement("small", PASS * (len(given[2]) >= count))):
+            found = edits.say_the_same("small", [], [made["law"], made["rule"]], None)
+        yield f"what the search proves of {count}", [it.refused for it in found], said
+
+
 def try_outcomes(room):
     """An edit that is refused, one that only a written answer refuses, and a weak one; and what is kept of them."""
     small = Small(room, {"two_more": TWO_MORE, "not_itself": NOT_ITSELF, "name_gone": NAME_GONE})
@@ -241,6 +255,7 @@ def try_killed(room):
 
 def tries():
     yield from try_verdicts()
+    yield from try_texts()
     with tempfile.TemporaryDirectory() as room:
         for part in (try_files, try_outcomes, try_wrong, try_killed):
             yield from part(room)

@@ -132,12 +132,16 @@ class Edit:
             (folder / name).write_text(text)
 
 
+def is_of_definition(edit):
+    return any(name.startswith("specs/") for name, _, _ in edit.pairs)
+
+
 def clash(edit, other):
-    """Whether two edits can't stand in one text: they are of one function, or what one looks for is put in by the
-    other."""
+    """Whether two edits can't be in one text: they are of one function, or only one is of a definition, which the other's
+    function may rest on, or what one looks for is put in by the other."""
     pairs = [(one, another) for one in edit.pairs for another in other.pairs if one[0] == another[0]]
     mixed = any(old in put or looked in new for (_, old, new), (_, looked, put) in pairs)
-    return edit.refused == other.refused or mixed
+    return edit.refused == other.refused or is_of_definition(edit) != is_of_definition(other) or mixed
 
 
 def batches(edits):
