@@ -37,9 +37,9 @@ An edit has one of three outcomes.
   last lines name the weak ones. More than MOST_WEAK are a fault; with --strict each is.
 - It is a fault of the edit: it is proved, it wasn't tried, or each open goal is one of safety (an index, a sum).
 
-A written answer is also refused if the edit says the same in other words. So where only such an answer refuses an edit,
-the function is checked without it, and an edit that the search then proves is a fault. How many edits only a written
-answer refuses is counted for each crate: more than tests/counts.txt has are a fault.
+A written answer also refuses an edit that says the same in other words. So the edits of a crate that only a written
+answer refuses are counted. If they are more than tests/counts.txt has, and always with --strict, each such function is
+checked without that answer, and an edit that the search then proves is a fault. So is each one too many.
 
 That the other functions pass as they are is what the command of the second form proves beside the edits;
 without such a command each is checked here.
@@ -159,8 +159,8 @@ class Reports:
     kept, which edits under must-fail/ show nothing or are weak, and the last lines of the first crate that isn't
     proved."""
 
-    def __init__(self, proves):
-        self.proves, self.crates = proves, {name: threading.Event() for name in LIBRARIES}
+    def __init__(self, proves, is_strict):
+        self.proves, self.is_strict, self.crates = proves, is_strict, {name: threading.Event() for name in LIBRARIES}
         self.kept, self.found, self.ended, self.failed = set(), Found(), threading.Event(), False
         self.of_crate, self.unproved = [], []
 
@@ -262,7 +262,9 @@ def try_proved(crate, edits, reports):
     with tempfile.TemporaryDirectory() as kept:
         for batch in batches(edits):
             verdicts |= try_batch(crate, names, batch, kept)
-        verdicts |= say_the_same(crate, names, of_kind(verdicts, Kind.WRITTEN), kept)
+        written = of_kind(verdicts, Kind.WRITTEN)
+        if reports.is_strict or len(written) > counted().get(crate, 0):
+            verdicts |= say_the_same(crate, names, written, kept)
         limited = {edit.refused for edit in of_kind(verdicts, Kind.LIMIT)}
         slow = unproved(crate, limited, kept, HALVED) if HALVED else dict.fromkeys(limited, "")
         at_fault = unproved(crate, names - limited | {*slow}, kept) if not reports.proves else {}
@@ -402,9 +404,9 @@ def summed(every):
     return Found(wrong, weak, sum(it.written for it in every))
 
 
-def try_all(edits, words):
+def try_all(edits, words, is_strict):
     """Tries the edits of each crate, beside a command where one is given. Gives what is found, and its status."""
-    reports, status = Reports(proves=bool(words)), 0
+    reports, status = Reports(bool(words), is_strict), 0
     jobs = lanes(BYTES_OF_CRATE) if words else 0
     PLACES.set(MOST_BESIDE, free_memory() - jobs * BYTES_OF_CRATE)
     with concurrent.futures.ThreadPoolExecutor(len(LIBRARIES)) as pool:
@@ -432,7 +434,7 @@ def report(count, found, most_weak):
 
 
 def main(words):
-    most_weak = 0 if "--strict" in words else MOST_WEAK
+    is_strict = "--strict" in words
     words = [it for it in words if it != "--strict"]
     every = {crate: edits_in(crate) for crate in LIBRARIES}
     if words == ["--keep"]:
@@ -443,8 +445,9 @@ def main(words):
     edits, unknown = chosen([] if is_beside or only_files else words, every)
     found.wrong += unknown
     if not found.wrong and not only_files:
-        found, status = try_all({crate: its for crate, its in edits.items() if its}, words[1:] if is_beside else [])
-    passes = report(sum(len(its) for its in edits.values()), found, most_weak)
+        edits = {crate: its for crate, its in edits.items() if its}
+        found, status = try_all(edits, words[1:] if is_beside else [], is_strict)
+    passes = report(sum(len(its) for its in edits.values()), found, 0 if is_strict else MOST_WEAK)
     return status or (0 if passes else 1)
 
 
