@@ -67,9 +67,9 @@ def listed():
         lines = [line.strip() for line in file if not line.startswith("#")]
     for name, _, words in (line.partition(": ") for line in lines):
         seconds, *more = words.split(", ")
-        yield Trial(name, float(seconds), "alone" in more)
+        yield Trial(name, float(seconds), "by itself" in more)
         if "one" in more:
-            yield Trial(name, float(seconds), "alone" in more, "1")
+            yield Trial(name, float(seconds), "by itself" in more, "1")
 
 
 def end_ours(number, _):

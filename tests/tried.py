@@ -197,7 +197,7 @@ def try_passed_over(room):
 
 def try_last_lines(room):
     """What is said of several, and of those that are named."""
-    table = ["one: 20", "two: 20, one", "three: 20, alone"]
+    table = ["one: 20", "two: 20, one", "three: 20, by itself"]
     outside = Outside(room, {"one": APART, "two": PASSES.format("two"), "three": PASSES.format("three")}, table=table)
     status, printed, last = outside.tried()
     yield "several", (status, last), (1, "outside: 3 of 4 passed, not one")
