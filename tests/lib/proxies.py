@@ -27,6 +27,8 @@ class Proxy:
 
     # Its program, its example, the address at which that listens, and what stands around it.
     program = example = listens = around = ""
+    # The file in its folder that has a line of each request.
+    said = ""
     # How often its example names the broker's address.
     calls = 2
     # The words that it is started with, those that have it look at its configuration alone, and what it says to these.
@@ -62,7 +64,8 @@ class Proxy:
 
     def __enter__(self):
         words = [self.program, *self.words]
-        self.process = subprocess.Popen(words, cwd=self.folder, stdout=subprocess.DEVNULL, stderr=subprocess.DEVNULL)
+        with open(os.path.join(self.folder, self.said), "a", encoding="utf-8") as said:
+            self.process = subprocess.Popen(words, cwd=self.folder, stdout=said, stderr=subprocess.DEVNULL)
         wait_until(f"{self.program} listens", lambda: self.process.poll() is not None or self.takes_clients(), 60)
         if self.process.poll() is not None:
             raise RuntimeError(f"{self.program} doesn't listen")
@@ -79,22 +82,30 @@ class Proxy:
         self.process.terminate()
         self.process.wait()
 
-    def connection(self):
-        plain = socket.create_connection(("127.0.0.1", self.port), timeout=30)
-        return self.trust.wrap_socket(plain, server_hostname="localhost")
+    def silent_connection(self, source="127.0.0.1"):
+        """A connection of this address that didn't even begin TLS."""
+        return socket.create_connection(("127.0.0.1", self.port), timeout=30, source_address=(source, 0))
 
-    def sends(self, bytes_sent):
-        """What a client reads that sends these bytes."""
-        with self.connection() as client:
+    def connection(self, source="127.0.0.1"):
+        return self.trust.wrap_socket(self.silent_connection(source), server_hostname="localhost")
+
+    def sends(self, bytes_sent, source="127.0.0.1"):
+        """What a client of this address reads that sends these bytes."""
+        with self.connection(source) as client:
             client.sendall(bytes_sent)
             return read_to_end(client)
 
-    def answers(self, bytes_sent):
+    def answers(self, bytes_sent, source="127.0.0.1"):
         """The status and the body of the only reply, or what went wrong."""
         try:
-            return first_of(self.sends(bytes_sent))
+            return first_of(self.sends(bytes_sent, source))
         except OSError as error:
             return repr(error)
+
+    def log(self):
+        """What it wrote of requests."""
+        with open(os.path.join(self.folder, self.said), encoding="utf-8") as file:
+            return file.read()
 
 
 def first_of(output):
@@ -103,7 +114,7 @@ def first_of(output):
 
 
 class Nginx(Proxy):
-    program, example, listens = "nginx", "nginx.conf", "127.0.0.1:8443"
+    program, example, listens, said = "nginx", "nginx.conf", "127.0.0.1:8443", "osb-broker.log"
     around = """pid nginx.pid;
 error_log error.log warn;
 events { worker_connections 4096; }
@@ -130,7 +141,7 @@ http {
 
 
 class HAProxy(Proxy):
-    program, example, listens = "haproxy", "haproxy.cfg", "127.0.0.1:8445"
+    program, example, listens, said = "haproxy", "haproxy.cfg", "127.0.0.1:8445", "said"
     around = "global\n    log stdout format raw local0\n"
     words = ["-f", "around.conf", "-f", "broker.conf"]
     checks, valid = ["-c", *words], "Configuration file is valid"
