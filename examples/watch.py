@@ -13,15 +13,15 @@ For the textfile collector of Prometheus' node exporter, each minute:
 
 As a probe, with --longest: status 1 says that an order has run for longer.
 
-statuses: 0, all is well; 1, an order has run for longer; 2, the words or the login are not usable;
-3, the broker is away or refuses the login.
+statuses: 0, all is well; 1, an order has run for longer; 2, the words, the login or the file of --seen
+are not usable; 3, the broker is away or refuses the login.
 """
 
 import json
 import os
 import sys
 import time
-from collections import defaultdict
+from collections import Counter
 
 from backend import Away, Refused, broker_of, words_of_calls
 
@@ -34,13 +34,18 @@ def name_of(order):
     return f"{order['seq']} {order['instance_id']}"
 
 
-def first_seen(path, orders, now):
-    """When each order was first seen, by the file, which is then brought up to date."""
+def kept_in(path):
+    """What the file has of earlier looks: nothing if it isn't there, or isn't as this program wrote it."""
     try:
         with open(path, encoding="utf-8") as file:
-            before = json.load(file)
-    except (FileNotFoundError, ValueError):
-        before = {}
+            return {name: float(at) for name, at in json.load(file).items()}
+    except (FileNotFoundError, ValueError, TypeError, AttributeError):
+        return {}
+
+
+def first_seen(path, orders, now):
+    """When each order was first seen, by the file, which is then brought up to date."""
+    before = kept_in(path)
     seen = {name_of(order): before.get(name_of(order), now) for order in orders}
     with open(path + ".new", "w", encoding="utf-8") as file:
         json.dump(seen, file)
@@ -48,9 +53,15 @@ def first_seen(path, orders, now):
     return seen
 
 
-def labels(plan, kind):
-    plan = plan.replace("\\", "\\\\").replace('"', '\\"')
-    return f'{{plan="{plan}",kind="{kind}"}}'
+def labels(order):
+    plan = order["plan_id"].replace("\\", "\\\\").replace('"', '\\"')
+    return f'{{plan="{plan}",kind="{order["kind"]}"}}'
+
+
+def show(heading, metric, values):
+    print(heading)
+    for each in sorted(values):
+        print(f"{metric}{each} {values[each]:.0f}")
 
 
 def main():
@@ -64,17 +75,20 @@ def main():
         print(UP.format(0))
         print(f"watch: the broker: {why}", file=sys.stderr)
         return 3
-    now = time.time()
-    seen = first_seen(given.seen, orders, now)
-    ages = defaultdict(list)
-    for order in orders:
-        ages[labels(order["plan_id"], order["kind"])].append(max(now - seen[name_of(order)], 0))
     print(UP.format(1))
-    for heading, metric, of in [(RUNNING, "osb_orders_running", len), (OLDEST, "osb_order_oldest_seconds", max)]:
-        print(heading)
-        for each in sorted(ages):
-            print(f"{metric}{each} {of(ages[each]):.0f}")
-    return 1 if any(max(each) > given.longest for each in ages.values()) else 0
+    show(RUNNING, "osb_orders_running", Counter(map(labels, orders)))
+    now = time.time()
+    try:
+        seen = first_seen(given.seen, orders, now)
+    except OSError as why:
+        print(f"watch: the file of --seen: {why}", file=sys.stderr)
+        return 2
+    oldest = {}
+    for order in orders:
+        age = max(now - seen[name_of(order)], 0)
+        oldest[labels(order)] = max(age, oldest.get(labels(order), 0))
+    show(OLDEST, "osb_order_oldest_seconds", oldest)
+    return 1 if any(age > given.longest for age in oldest.values()) else 0
 
 
 if __name__ == "__main__":

@@ -60,7 +60,7 @@ fi
 if [ "$what" = --packages ]; then
     echo $packages
 elif ! has "${RT:-rt}"; then
-    echo "make test: missing: the toolkit's ${RT:-rt}" >&2
+    echo "make test: missing: the toolkit's ${RT:-rt}, of rattle-kit-13b or rattle-kit-13f" >&2
     exit 1
 elif [ -n "$packages" ]; then
     exit 1

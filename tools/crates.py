@@ -6,9 +6,12 @@ import os
 import pathlib
 import re
 import subprocess
+import sys
 
 ROOT = pathlib.Path(__file__).resolve().parent.parent
 RT = os.environ.get("RT", "rt")
+# The toolkits that prove this repository.
+TOOLKITS = "rattle-kit-13b or rattle-kit-13f"
 
 
 def libraries():
@@ -35,10 +38,19 @@ def sources(crate):
     return [it for part in ("src", "specs", "proofs") for it in sorted((folder / part).rglob("*")) if it.is_file()]
 
 
+def said_by_toolkit(word):
+    """What a command of the toolkit prints. Without the toolkit nothing goes on."""
+    try:
+        return subprocess.run([RT, word], stdout=subprocess.PIPE, text=True, check=True).stdout.strip()
+    except OSError as why:
+        print(f"osb-broker: missing: the toolkit's {RT}, of {TOOLKITS} ({why.strerror})", file=sys.stderr)
+        sys.exit(2)
+
+
 @functools.cache
 def toolkit():
     """What the toolkit calls itself."""
-    return subprocess.run([RT, "version"], stdout=subprocess.PIPE, text=True, check=True).stdout.strip()
+    return said_by_toolkit("version")
 
 
 def handles():

@@ -131,6 +131,8 @@ def main():
     parser.add_argument("--keep", action="store_true")
     parser.add_argument("--last", action="store_true")
     given = parser.parse_args()
+    # (without the toolkit nothing is begun)
+    toolkit()
     if given.last:
         return say_last()
     commit = commit_of(given.commit)

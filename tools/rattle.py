@@ -6,9 +6,9 @@ import re
 import signal
 import subprocess
 
-from crates import LIBRARIES, ROOT, RT, below, handles
+from crates import LIBRARIES, ROOT, below, handles, said_by_toolkit
 
-KIT = pathlib.Path(subprocess.run([RT, "doc"], stdout=subprocess.PIPE, text=True, check=True).stdout.strip()).parent
+KIT = pathlib.Path(said_by_toolkit("doc")).parent
 RATTLE = str(KIT / "bin" / "rattle")
 # Where a crate keeps what was checked of it, for the next check.
 KEPT = "out/incremental"

@@ -18,7 +18,7 @@ import sys
 import tempfile
 import time
 
-from crates import LIBRARIES, ROOT, RT, below
+from crates import LIBRARIES, ROOT, RT, below, toolkit
 
 PROGRAM = "osb_program"
 # The file that has the version, and its line.
@@ -27,6 +27,8 @@ VERSION = re.compile(r'(?m)^(const VERSION: &str = "(.*))";$')
 NAME = f"osb-broker {VERSION.search((ROOT / GRAMMAR).read_text()).group(2)} unproved"
 # It ends by itself after a day.
 SECONDS = 86_400
+# How often it is said that it is still being compiled, in seconds.
+BETWEEN_LINES = 15
 
 
 def say(text):
@@ -63,12 +65,21 @@ def begin(room, address):
         return subprocess.Popen(command, cwd=room / "crates" / PROGRAM, stdout=said, env=environment, **how)
 
 
+def wait_for(running, address, begun):
+    """Waits until the program serves or has ended, and says meanwhile that it goes on."""
+    lines = 1
+    while running.poll() is None and not is_taken(address):
+        time.sleep(0.5)
+        if time.monotonic() - begun >= lines * BETWEEN_LINES:
+            say(f"{NAME}: being compiled, {lines * BETWEEN_LINES} s")
+            lines += 1
+
+
 def serve(room, address):
     """Serves until it is ended. Where it ends by itself, it is shown what was said."""
     begun, running = time.monotonic(), begin(room, address)
     try:
-        while running.poll() is None and not is_taken(address):
-            time.sleep(0.5)
+        wait_for(running, address, begun)
         if running.poll() is None:
             say(f"{NAME}: serves {address}, after {time.monotonic() - begun:.0f} s. NOTHING OF IT IS PROVED.")
             say("It checks itself as it runs, so it is slow: some 30 creations a second. Ctrl-C ends it.")
@@ -83,6 +94,7 @@ def serve(room, address):
 
 def main():
     address = sys.argv[1] if sys.argv[1:] else "127.0.0.1:8080"
+    toolkit()
     if is_taken(address):
         sys.exit(f"{NAME}: somebody listens at {address}")
     # What tells it to end from outside ends it as Ctrl-C does.

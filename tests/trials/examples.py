@@ -33,10 +33,15 @@ def environment(**more):
     return {**os.environ, "BACKEND_LOGIN": LOGIN, **more}
 
 
+def ran_whole(*words, **more):
+    """The status of a command, what it prints, and its lines on standard error."""
+    ended = subprocess.run([sys.executable, *words], env=environment(**more), capture_output=True, text=True, timeout=60)
+    return ended.returncode, ended.stdout, ended.stderr
+
+
 def ran(*words, **more):
     """The status of a command, and what it prints."""
-    ended = subprocess.run([sys.executable, *words], env=environment(**more), capture_output=True, text=True, timeout=60)
-    return ended.returncode, ended.stdout
+    return ran_whole(*words, **more)[:2]
 
 
 def asks(serving, method, target, body=""):
@@ -201,6 +206,14 @@ def try_watch(program, folder):
         yield "it has ended", ran(*words, "--longest", "500")[0], 0
         with open(seen, encoding="utf-8") as file:
             yield "what is kept", json.load(file), {"1 a": first["1 a"]}
+        with open(seen, "w", encoding="utf-8") as file:
+            file.write('["1 a"]')
+        yield "a file of something else", ran(*words)[0], 0
+        for name in (os.path.join(folder, "none", "seen"), folder):
+            status, text, errors = ran_whole(WATCH, "--seen", name, words[-1])
+            running = metrics([f"osb_orders_running{labels} 1"], []).partition("# HELP osb_order_oldest")[0]
+            yield f"no file can be made: {os.path.basename(name)}", (status, text), (2, running)
+            yield "its line", (errors.count("\n"), errors.startswith("watch: the file of --seen: ")), (1, True)
     up = "# HELP osb_broker_up Whether the broker answered.\n# TYPE osb_broker_up gauge\nosb_broker_up 0\n"
     yield "the broker is away", ran(*words), (3, up)
 

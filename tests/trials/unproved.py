@@ -98,7 +98,10 @@ def tries():
             late = threading.Event()
             threading.Thread(target=end_late, args=(trying, late), daemon=True).start()
             yield "it says so before it begins", "compiles without a proof" in line_of(trying, late), True
-            yield from try_serving(room, address, line_of(trying, late))
+            yield "it shows that it goes on", "being compiled, 15 s" in (line := line_of(trying, late)), True
+            while "being compiled" in line:
+                line = line_of(trying, late)
+            yield from try_serving(room, address, line)
             os.killpg(trying.pid, signal.SIGINT)
             rest = trying.stdout.read()
         yield "what it says as it ends", "Nothing was proved, and its records are gone" in rest, True
