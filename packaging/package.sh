@@ -5,7 +5,7 @@
 #
 # The package osb-broker_VERSION_ARCHITECTURE.deb is put into the folder, without one into the working folder. Its
 # version is the program's own, its maintainer is $MAINTAINER ('Name <mail>'), or else the author of the last commit, and
-# its dates are that commit's, where the sources are a checkout. It needs dpkg-deb, readelf and strip.
+# its dates are that commit's, where the sources are a checkout. It needs dpkg-deb, readelf, strip and python3.
 set -eu
 
 program=$1
@@ -36,12 +36,12 @@ install -D -m 755 -s "$program" "$root/usr/bin/osb-broker"
 install -D -m 644 -t "$root/lib/systemd/system" "$here/osb-broker.service" "$here/osb-broker@.service"
 mkdir -p "$doc/examples" "$root/usr/share/man/man1" "$root/DEBIAN"
 fill "$here/osb-broker.1" | gzip -9n > "$root/usr/share/man/man1/osb-broker.1.gz"
-install -m 644 "$checkout/README.md" "$checkout/CHANGELOG.md" "$checkout/SECURITY.md" "$checkout"/docs/*.md "$doc"
-for each in queues.json postgresql.json nginx.conf haproxy.cfg haproxy-shards.cfg osb-backend.service \
+for each in settings.json queues.json postgresql.json resent.http nginx.conf haproxy.cfg haproxy-shards.cfg osb-backend.service \
     drbd-osb.res standby.conf kubernetes.yaml; do
     install -m 644 "$checkout/examples/$each" "$doc/examples"
 done
 install -m 755 "$checkout/examples/"*.py "$checkout/examples/osb-fence-peer" "$checkout/examples/osb-take-over" "$doc/examples"
+"$here/pages.py" "$doc"
 fill "$here/debian/copyright" > "$doc/copyright"
 printf 'osb-broker (%s) unstable; urgency=medium\n\n  * Commit %s.\n\n -- %s  %s\n' \
     "$version" "$commit" "$maintainer" "$date" | gzip -9n > "$doc/changelog.gz"

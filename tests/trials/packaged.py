@@ -16,9 +16,12 @@ import subprocess
 import sys
 import tempfile
 import textwrap
+from pathlib import Path
 
-sys.path.append(os.path.join(os.path.dirname(os.path.abspath(__file__)), "..", "lib"))
+TESTS = os.path.join(os.path.dirname(os.path.abspath(__file__)), "..")
+sys.path += [TESTS, os.path.join(TESTS, "lib")]
 
+from pages import LINK, Page
 from serving import ROOT, TIME, passed_over, tell
 
 SCRIPT = os.path.join(ROOT, "packaging", "package.sh")
@@ -224,7 +227,7 @@ nginx: configuration file /etc/nginx/nginx.conf test is successful
 {} 401
 {} 200
 {} 404
-404 "GET /v2/none HTTP/1.1" "platform" "one" [404]
+404 "GET /v2/none HTTP/1.1" "platform" "one" [404] 127.0.0.1 ""
 401 1
 slowest
 # configured
@@ -484,6 +487,22 @@ def later(made, folder):
     return path
 
 
+def lead_nowhere(made, folder):
+    """The links of the package's pages that lead nowhere, and the examples that they name and it lacks."""
+    tree = os.path.join(folder, "tree")
+    subprocess.run(["dpkg-deb", "-x", made, tree], check=True)
+    place = Path(tree, "usr", "share", "doc", "osb-broker")
+    for page in map(Page, place.rglob("*.md")):
+        for _, link in LINK.findall(page.text):
+            path, _, heading = link.partition("#")
+            other = (page.path.parent / path).resolve() if path else page.path
+            if "://" not in link and not (other.exists() and (not heading or heading in Page(other).anchors())):
+                yield page.path.name, link
+        for example in re.findall(r"\bexamples/[\w.-]*\w", page.text):
+            if not (place / example).exists():
+                yield page.path.name, example
+
+
 def settings_that_differ():
     """What the unit of a shard says otherwise than the other one."""
     one, other = ({it for it in lines_of(path) if not it.startswith("#")} for path in UNITS)
@@ -569,6 +588,7 @@ def tries(program, folder):
     yield "the unit of a shard", settings_that_differ(), ["Description", "ExecReload", "ExecStart", "SocketBindAllow", "StateDirectory"]
     made = package(program, folder)
     yield "lintian", run("lintian", "--allow-root", made), (0, "")
+    yield "what its pages lead to", list(lead_nowhere(made, folder)), []
     root, other, lacking, why = containers(folder)
     if lacking:
         passed_over("packaged", "what needs a container", lacking, why=why)
