@@ -1,7 +1,6 @@
 #!/usr/bin/env python3
 """Tries what clients of one address do to those of others behind the proxies of the examples: they hold connections,
-they guess passwords, and a user of theirs is in many groups. What goes wrong while the machine stands still is tried
-again.
+they guess passwords, and a user of theirs is in many groups. What goes wrong while the machine pauses is tried again.
 
 usage: tests/trials/crowds.py PROGRAM
 
