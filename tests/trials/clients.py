@@ -301,18 +301,18 @@ def lacking_descriptors(serving):
     yield "without descriptors", (status, errors[-26:]), (1, b"osb-broker: cannot accept\n")
 
 
-def few_descriptors(serving):
-    """Silent clients that have all descriptors are ended for those who come behind them."""
+def few_descriptors(serving, descriptors, number):
+    """So many silent clients that have all of so many descriptors are ended for those who come behind them, once each has
+    had its own for a second."""
     used = len(os.listdir(f"/proc/{serving.process.pid}/fd"))
-    limit_descriptors(serving, used + 2)
+    limit_descriptors(serving, used + descriptors)
     with contextlib.ExitStack() as clients:
-        for _ in range(FEW):
+        for _ in range(number):
             clients.enter_context(serving.connection())
         begun = time.monotonic()
-        yield "behind silent ones that have all descriptors", heard_next(serving), SERVED
+        yield f"behind {number} silent ones with {descriptors} descriptors", heard_next(serving), SERVED
         waited = time.monotonic() - begun
-    # One is ended each tenth of a second.
-    yield "the wait behind them", *in_time(waited, FEW / 10 + SOON)
+    yield "the wait behind them", *in_time(waited, number // descriptors + SOON)
 
 
 def shared_time(serving):
@@ -336,7 +336,8 @@ OTHERS = [
     (default_limit, ONE),
     (lacking_descriptors, ONE),
     (lacking_descriptors, MANY),
-    (few_descriptors, MANY),
+    (partial(few_descriptors, descriptors=2, number=FEW), MANY),
+    (partial(few_descriptors, descriptors=119, number=300), ["--together", "1024"]),
     (unread_replies, LIMITED + MANY_REQUESTS),
     (shared_time, LIMITED + MANY_REQUESTS),
 ]

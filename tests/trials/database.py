@@ -1098,7 +1098,9 @@ def try_causes(program, folder, path):
     if os.geteuid():
         passed_over("database", "files of another user", "root")
     else:
-        yield "a file that can't be written to", looked_at(program, written, given=lambda: os.setuid(65534)), unseen("it can't be written to")
+        yield "a file that can only be read", looked_at(program, written, given=lambda: os.setuid(65534)), looked_at(program, path)
+        trimmed = subprocess.run([program, "trim", written], capture_output=True, timeout=60, preexec_fn=lambda: os.setuid(65534))
+        yield "a trim of it", (trimmed.returncode, trimmed.stdout, trimmed.stderr), unseen("it can't be written to")
         os.chmod(written, 0)
         yield "a file that can't be read", looked_at(program, written, given=lambda: os.setuid(65534)), unseen("it can't be read")
 

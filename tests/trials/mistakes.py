@@ -42,7 +42,8 @@ def tries(program):
     yield "no mistake", checked(program, GOOD), (0, ACCEPTED, "")
     modes = "plan queues-shared: instances synchronous, bindings synchronous\n"
     modes += "plan queues-own: instances asynchronous, bindings asynchronous\n"
-    yield "no mistake, explained", checked(program, "--explain", GOOD), (0, ACCEPTED + modes, "")
+    passwords = "".join(f"a password that is easily guessed: {login}\n" for login in ("platform", "backend"))
+    yield "no mistake but its passwords", checked(program, "--explain", GOOD), (0, ACCEPTED + modes + passwords, "")
 
 
 if __name__ == "__main__":

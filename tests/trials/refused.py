@@ -9,8 +9,8 @@ is answered 500 and every row of the database is as before, or it is answered as
 and the rest of the conversation, goes as it should. The same over a program that goes on, with a further
 request behind each one: behind a 500 that isn't answered and does nothing. What takes no memory takes none.
 
-All that is with clients that are taken one after the other. Where many are connected at the same time, one for whose
-bytes memory is refused gets no answer, and every row is as before.
+All that is with clients that are taken one after the other. Two conversations are tried with many at the same time, too.
+There room for the bytes of a client is lacking as memory is refused, and is waited for.
 
 Then each growth of `replay` is refused, from its start on: a request that is sent again acts once, and one
 that is only answered 500 doesn't act. The trials run side by side, one for each processor.
@@ -91,7 +91,6 @@ class Served(Serving):
 
     def __init__(self, machine, *more):
         self.machine = machine
-        self.is_many = more == MANY
         self.database = new_database(machine.folder)
         super().__init__(machine.program, self.database, *more, env=machine.environment)
 
@@ -145,7 +144,7 @@ def exchange(served, asked, growth=0, lines="", echo=""):
     found, refused = served.refusing(request(method, target, body, lines), growth)
     if found == reply(status, text, lines=echo):
         return True, refused
-    if refused and (found == REFUSED_REPLY or served.is_many and not found):
+    if refused and found == REFUSED_REPLY:
         return False, refused
     raise Wrong(f"{method} {target} {body:.100}: {found!r:.300}, growth {growth}")
 

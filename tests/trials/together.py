@@ -1,6 +1,6 @@
 #!/usr/bin/env python3
-"""Tries the program with many clients at the same time and no proxy: of all kinds, silent ones, ones that are deaf to
-their replies, and a kill while many wait for theirs.
+"""Tries the program with many clients at the same time and no proxy: of all kinds, silent ones, bursts of many that ask
+a while after they connected, ones that are deaf to their replies, and a kill while many wait for theirs.
 
 usage: tests/trials/together.py PROGRAM
 
@@ -8,15 +8,19 @@ What goes wrong while the machine stands still is tried again (`calm.py`).
 """
 
 import contextlib
+import itertools
 import os
 import random
+import re
 import resource
+import selectors
 import socket
 import subprocess
 import sys
 import tempfile
 import threading
 import time
+from collections import Counter
 from concurrent.futures import ThreadPoolExecutor
 from functools import partial
 
@@ -24,13 +28,21 @@ sys.path.append(os.path.join(os.path.dirname(os.path.abspath(__file__)), "..", "
 
 from calm import Watch
 from clients import BESIDE, KINDS, LIMITED, MANY, READ_LINE, SERVED, SOON, heard, heard_by, heard_next, new_lines
-from conversations import CATALOG_REPLY, GET_CATALOG, I, LARGE_SYNC, SYNC, at, reply, request
+from conversations import CATALOG_REPLY, CLOSE, GET_CATALOG, I, LARGE_SYNC, SYNC, at, reply, request
 from serving import Late, Serving, in_time, new_database, read_to_end, tell
 
 # How often each kind comes, and from how many sides at the same time.
 TRIES, SIDES = 40, 4
 FAST = 8
 SILENT = 1000
+# Bursts of so many clients, each of which asks so long after it connected, beside so many silent ones. All are answered
+# in time; so are those with the largest body. Those that stop inside one take so much memory at most, in kilobytes.
+BURSTS, PAUSES, QUIET = (100, 200, 1000), (0, 0.05, 0.2), 64
+ANSWERED, LARGE_ONES = 2, 100
+MOST_MEMORY = 18_000
+# So many have room for a body at the same time.
+ROOMS = 32
+LARGEST = request("PUT", I, SYNC.ljust(262_144), CLOSE)
 # How long the fast ones ask while nobody else does.
 ALONE = 2
 # What a client's system takes in for it, where it reads nothing.
@@ -109,17 +121,91 @@ def silent(serving):
     with contextlib.ExitStack() as clients:
         for _ in range(SILENT):
             clients.enter_context(serving.connection())
-        waits = [wait_of(serving) for _ in range(3)]
-    yield "beside silent ones", *in_time(max(waits), SOON)
-
-
-def silent_within(serving):
-    """The same where there is a place for each of them."""
-    with contextlib.ExitStack() as clients:
-        for _ in range(SILENT):
-            clients.enter_context(serving.connection())
         waits = [wait_of(serving) for _ in range(10)]
-    yield "beside silent ones that have a place", *in_time(max(waits), BESIDE)
+    yield "beside silent ones", *in_time(max(waits), BESIDE)
+
+
+def beside_few_places(serving):
+    """A client that waits for the place of a silent one."""
+    with contextlib.ExitStack() as clients:
+        for _ in range(IN_FLIGHT):
+            clients.enter_context(serving.connection())
+        wait = wait_of(serving)
+    yield "for the place of a silent one", *in_time(wait, 1 + SOON, 1 - SOON)
+
+
+def replies_to(clients):
+    """What each of these clients reads to its end, at the same time."""
+    read, left = {each: b"" for each in clients}, selectors.DefaultSelector()
+    for each in clients:
+        each.setblocking(False)
+        left.register(each, selectors.EVENT_READ)
+    while left.get_map():
+        for key, _ in left.select():
+            try:
+                piece = key.fileobj.recv(65536)
+            except OSError:
+                piece = b""
+            read[key.fileobj] += piece
+            if not piece:
+                left.unregister(key.fileobj)
+    return list(read.values())
+
+
+def burst_of(serving, number, pause, sent=GET_CATALOG):
+    """What so many clients get that ask so long after they connected, and how long that takes."""
+    with contextlib.ExitStack() as held:
+        clients = [held.enter_context(serving.connection()) for _ in range(number)]
+        time.sleep(pause)
+        begun = time.monotonic()
+        for each in clients:
+            each.sendall(sent)
+        return Counter(replies_to(clients)), time.monotonic() - begun
+
+
+def bursts(serving):
+    """Bursts beside silent ones."""
+    with contextlib.ExitStack() as silent:
+        for _ in range(QUIET):
+            silent.enter_context(serving.connection())
+        for number, pause in itertools.product(BURSTS, PAUSES):
+            found, took = burst_of(serving, number, pause)
+            yield f"{number} that ask after {pause} s", found, Counter({CATALOG_REPLY: number})
+            yield f"{number} that ask after {pause} s: in time", *in_time(took, ANSWERED)
+
+
+def memory_of(serving):
+    """The memory of the program, in kilobytes."""
+    with open(f"/proc/{serving.process.pid}/status", encoding="ascii") as file:
+        return int(re.search(r"VmRSS:\s+(\d+)", file.read()).group(1))
+
+
+@contextlib.contextmanager
+def stopped_inside(serving, number):
+    """So many clients that stop inside the largest body."""
+    with contextlib.ExitStack() as held:
+        for _ in range(number):
+            client = held.enter_context(serving.connection())
+            client.setblocking(False)
+            client.send(LARGEST[:-1])
+        time.sleep(BESIDE)
+        yield
+
+
+def large_bodies(serving):
+    """Many that send the largest body, and many that stop inside one."""
+    found, took = burst_of(serving, LARGE_ONES, 0, LARGEST)
+    yield "the largest bodies", found, Counter({CREATED: 1, THERE: LARGE_ONES - 1})
+    yield "the largest bodies: in time", *in_time(took, ANSWERED)
+    before = memory_of(serving)
+    with stopped_inside(serving, SILENT):
+        yield "beside those that stop inside one", *in_time(wait_of(serving), BESIDE)
+        more = memory_of(serving) - before
+        yield "their memory", more if more >= MOST_MEMORY else "little", "little"
+    with stopped_inside(serving, ROOMS):
+        found, took = burst_of(serving, 1, 0, LARGEST)
+        yield "the largest body beside them", found, Counter({THERE: 1})
+        yield "the largest body beside them: in time", *in_time(took, 1 + SOON)
 
 
 def deaf_client(serving):
@@ -201,8 +287,10 @@ def tries(program):
     with tempfile.TemporaryDirectory() as folder:
         for words, trial in [
             ([*MANY, *LIMITED], all_kinds),
-            (MANY, silent),
-            (["--together", "1024"], silent_within),
+            (MANY, beside_few_places),
+            ([], silent),
+            ([], bursts),
+            ([], large_bodies),
             (MANY, large_replies),
         ]:
             yield from watch.calmly(partial(over, program, folder, words, trial))

@@ -46,6 +46,11 @@ def ends(program, *words, **process):
     return ended.returncode, ended.stdout, ended.stderr
 
 
+def size_with_log(path):
+    """The bytes of a database file and its log."""
+    return sum(os.path.getsize(it) for it in (path, f"{path}-wal") if os.path.exists(it))
+
+
 def trimmed(count, before, path):
     """How it ends over a file, where it erases so many orders."""
     return 0, f"trimmed {count}, bytes {before}, now {os.path.getsize(path)}\n".encode(), b""
@@ -97,7 +102,7 @@ def try_histories(program, folder):
                 serving.sends(requests_of(chance))
                 report(serving, chance)
         shorter = copied(path, folder)
-        before = os.path.getsize(shorter)
+        before = size_with_log(shorter)
         status, output, errors = ends(program, shorter)
         count = erased_in(shorter)
         everything += count
@@ -121,7 +126,7 @@ def try_erased(program, folder):
         yield "it is deleted", serving.sends(request("DELETE", at("s") + SYNC_LEAVE)), reply(200, "{}")
         yield "one that stays", serving.sends(request("PUT", at("t"), KEPT_SYNC)), reply(201, "{}")
     os.chmod(path, 0o640)
-    before = os.path.getsize(path)
+    before = size_with_log(path)
     yield "it ends", ends(program, path, preexec_fn=lambda: os.umask(0)), trimmed(4, before, path)
     yield "one file", beside(path), ["broker.db"]
     yield "its mode", stat.S_IMODE(os.stat(path).st_mode), 0o640
@@ -147,7 +152,7 @@ def try_erased(program, folder):
 def try_before(program, folder):
     """A file of version 1 becomes one of version 2."""
     path = made_before(folder, 1)
-    before = os.path.getsize(path)
+    before = size_with_log(path)
     status, output, errors = ends(program, path)
     yield "version 1", (status, output, errors), trimmed(erased_in(path), before, path)
     yield "it becomes version 2", tables(copied(path, folder))["format"], [(2,)]
@@ -161,7 +166,7 @@ def try_link(program, folder):
     with Serving(program, path) as serving:
         yield from goes(serving, BEGUN)
     os.symlink(path, link)
-    before = os.path.getsize(path)
+    before = size_with_log(path)
     yield "by a link", ends(program, link), trimmed(2, before, path)
     yield "it stays a link", os.path.realpath(link), path
     yield "one file", (beside(path), beside(link)), (["broker.db"], ["broker.db"])

@@ -1,3 +1,4 @@
 pub mod Pushed
 pub mod NameLemmas
 pub mod Reasons
+pub mod NothingLemmas

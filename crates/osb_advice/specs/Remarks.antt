@@ -8,12 +8,19 @@ use Rattle.osb_advice.specs.Past.{past}
 use Rattle.osb_advice.specs.Names.{same_names}
 use Rattle.osb_advice.specs.Spaces.{spaces}
 use Rattle.osb_advice.specs.SameLogin.{doors_share_a_login}
+use Rattle.osb_advice.specs.Passwords.{passwords}
+use Rattle.osb_advice.specs.Nothing.{nothing}
 
 abbrev pub login_line : Data → List ℕ
 login_line file = if doors_share_a_login file then codes "one login for both doors\n" else []
 
+-- what is about logins and credentials
+abbrev pub warnings : Data → List ℕ
+warnings file = login_line file ++ passwords file ++ nothing file
+
 abbrev pub remarks_on : Data → List ℕ
-remarks_on file = timings file ++ past file ++ same_names file ++ spaces file ++ login_line file
+remarks_on file =
+    timings file ++ past file ++ same_names file ++ spaces file ++ warnings file
 
 abbrev pub remarks_read : Result Data TextFault → List ℕ
 remarks_read (Ok file) = remarks_on file

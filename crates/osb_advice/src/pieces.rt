@@ -8,8 +8,9 @@ ghost use Rattle.osb_advice.specs.Past as spec;
 use osb_text::has_no_controls;
 use std::alloc::AllocError;
 
-/// The name, or `?` in its place if it has a control character. So it breaks no line.
-pub(crate) fn shown(name: &str) -> &str
+/// A name as a line shows it: itself, or `?` in its place if it has a control character (U+0000 to U+001F, U+007F to
+/// U+009F). So it breaks no line.
+pub fn shown(name: &str) -> &str
     ensures { result.now ≡ spec.shown name.now }
 {
     if has_no_controls(name) { name } else { "?" }

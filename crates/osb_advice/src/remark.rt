@@ -6,6 +6,8 @@ ghost use Rattle.osb_advice.specs.Remarks as spec;
 
 use crate::logins::doors_share_a_login;
 use crate::names::push_same_names;
+use crate::nothing::push_nothing;
+use crate::passwords::push_passwords;
 use crate::past::push_past;
 use crate::spaces::push_spaces;
 use crate::timings::push_timings;
@@ -14,8 +16,9 @@ use serde_json::Value;
 use std::alloc::{AllocError, Global};
 
 /// The remarks on a settings file, each a line with its end. The first lines say when the orders of each plan are
-/// carried out. Others name the members that the broker reads past, plans of one name, names with a space, and a login
-/// of both doors. A file that has no object gets none.
+/// carried out. Others name the members that the broker reads past, plans of one name, names with a space, a login of
+/// both doors, passwords that are guessed easily, and plans whose bindings give nothing. A file that has no object gets
+/// none.
 ///
 /// An error says that an allocation failed. The time grows little faster than the file and the text.
 pub fn remarks(alloc: Global, file: &[u8]) -> Result<String, AllocError>
@@ -47,7 +50,17 @@ fn push_remarks(alloc: Global, text: &mut String, file: &Value) -> Result<(), Al
     push_past(alloc, text, file)?;
     push_same_names(alloc, text, file)?;
     push_spaces(text, file)?;
-    push_login_line(text, file)
+    push_warnings(text, file)
+}
+
+/// What is about logins and credentials.
+fn push_warnings(text: &mut String, file: &Value) -> Result<(), AllocError>
+    ensures { OnOk result (string_bytes text.new
+        ≡ string_bytes text.old ++ spec.warnings (view file.now)) }
+{
+    push_login_line(text, file)?;
+    push_passwords(text, file)?;
+    push_nothing(text, file)
 }
 
 fn push_login_line(text: &mut String, file: &Value) -> Result<(), AllocError>

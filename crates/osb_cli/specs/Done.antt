@@ -1,5 +1,5 @@
 -- What a command that ends with status 0 has written.
-use Rattle.std.specs.Prelude.{◌≡◌, ⊤, Bool, true, false, ℕ, List, [], ◌∷◌, ◌++◌, length, codes, decimal, Option, None, Some, IfSome, unwrap_or}
+use Rattle.std.specs.Prelude.{◌≡◌, ⊤, Bool, true, false, ℕ, List, [], ◌∷◌, ◌+◌, ◌++◌, length, codes, decimal, Option, None, Some, IfSome, unwrap_or}
 use Rattle.sqlite_trees.specs.Tree.{Trees}
 use Rattle.osb_catalog.specs.Rules.{rules_of}
 use Rattle.osb_catalog.specs.SettingsData.{SettingsData}
@@ -132,7 +132,8 @@ pub record IsTrimmed (contents : Contents) (IsMade : List ℕ → List ℕ → T
   pub made : IsMade name bytes
   pub trimmed : IsTrimmedInOne (image_in files) bytes
   pub count : ℕ
-  pub written : new ≡ old ++ trimmed_line count (length files.database.items) (length bytes)
+  pub written : new ≡ old ++ trimmed_line count
+      (length files.database.items + length files.log.items) (length bytes)
 
 -- what `backup` has made and written, what `check` has written, what `serve`, what `trim` has made and written, and what
 -- `replay` has written, also without its name

@@ -1,5 +1,5 @@
 -- What the words ask for, and what was done of it. For contracts inside the crate.
-use Rattle.std.specs.Prelude.{ℕ, List, length, map, Option, None, Some, option_map, ◌≡◌, ⊤, ◌*◌, [], codes, string_bytes, unwrap_or}
+use Rattle.std.specs.Prelude.{ℕ, List, length, map, Option, None, Some, option_map, ◌≡◌, ⊤, ◌+◌, ◌*◌, [], codes, string_bytes, unwrap_or}
 use Rattle.osb_cli.specs.declared.words.Replay.{Replay}
 use Rattle.osb_file.specs.declared.copied.Copied.{Copied}
 use Rattle.osb_file.specs.File.{HasTrees}
@@ -132,7 +132,7 @@ pub record IsTrimmedOf (contents : Contents) (name : List ℕ) (trimmed : Trimme
   pub files : Copied
   pub copy : IsCopyOf contents name files
   pub is : IsTrimmedInOne (image_in files) trimmed.file.bytes.items
-  pub before : trimmed.before ≡ length files.database.items
+  pub before : trimmed.before ≡ length files.database.items + length files.log.items
 
 -- the order is what the words ask for
 abbrev pub Asks : FoundCommand → Job → Type 0

@@ -4,6 +4,7 @@ use Rattle.std.specs.List.{concat}
 use Rattle.osb_catalog.specs.declared.fault.SettingsFault.{SettingsFault}
 use Rattle.osb_catalog.specs.declared.fault.SettingsFault.TheVariants as a
 use Rattle.osb_catalog.specs.declared.field.Field.{Field}
+use Rattle.osb_advice.specs.Past.{shown}
 use Rattle.osb_advice.specs.Wanted.{wanted}
 use Rattle.osb_catalog.specs.declared.found.Place.{Place}
 use Rattle.osb_catalog.specs.declared.found.Place.TheVariants as place
@@ -38,7 +39,7 @@ place_line (place.Service at) =
     concat (codes "at catalog.services[" ∷ decimal at ∷ codes "]\n" ∷ [])
 place_line (place.Plan service at) = concat (codes "at catalog.services[" ∷ decimal service
     ∷ codes "].plans[" ∷ decimal at ∷ codes "]\n" ∷ [])
-place_line (place.Mode name) = concat (codes "at modes." ∷ name ∷ codes "\n" ∷ [])
+place_line (place.Mode name) = concat (codes "at modes." ∷ shown name ∷ codes "\n" ∷ [])
 
 -- and what it would have to be
 abbrev pub wanted_line : SettingsFault → Place → List ℕ

@@ -6,7 +6,7 @@ ghost use Rattle.osb_listen.specs.Lines.{Says};
 ghost use Rattle.osb_cli.specs.Lines.{database_fault_line, place_line, settings_line, unseen_lines};
 
 use itoa::Buffer;
-use osb_advice::wanted;
+use osb_advice::{shown, wanted};
 use osb_catalog::{Place, SettingsFault};
 use osb_file::{FileFault, Unseen};
 use osb_frames::Sink;
@@ -152,7 +152,7 @@ fn print_place<E: Sink>(place: &Place, errors: &mut E)
                 "]\n",
             ],
         ),
-        Place::Mode(name) => say(errors, &["at modes.", name.as_str(), "\n"]),
+        Place::Mode(name) => say(errors, &["at modes.", shown(name.as_str()), "\n"]),
     }
 }
 

@@ -87,11 +87,11 @@ const TRIM_MORE: &str =
 what they were asked with: service, plan, organization, space, parameters,
 maintenance version and context. No answer changes. Then the file is written
 anew, with nothing of them in it and as small as it can be, and what is printed
-says how many orders were erased and how many bytes the file had and has, as
-`trimmed 3, bytes 12288, now 8192`.
+says how many orders were erased and how many bytes the file had with its log
+and has now, as `trimmed 3, bytes 12288, now 8192`.
 No broker may run over the file meanwhile. Whatever stops the command, the file
 is the old one or the new one. Otherwise a line on standard error says why, and
-the file stays as it was. Until the new file is whole its name is FILE with
+the file stays as it was; only behind `cannot write` it was replaced. Until the new file is whole its name is FILE with
 `-new` behind. Copies made before, as by `backup`, keep what they have.";
 
 const SERVE_USAGE: &str =
@@ -190,7 +190,7 @@ fn together_option<'a>(alloc: Global) -> Arg<'a>
         .long("together")
         .value_name("N")
         .help(
-            "How many clients are connected at the same time, 1 to 1024; without it 64, or 1 with more than one request of a connection",
+            "How many clients are connected at the same time, 1 to 1024; without it 1024, or 1 with more than one request of a connection",
         )
         .value_parser(value_parser!(u32).range(1..=1024))
 }

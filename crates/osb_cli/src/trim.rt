@@ -21,7 +21,7 @@ pub(crate) struct Trimmed {
     pub(crate) file: OneFile,
     /// How many orders were erased.
     pub(crate) count: usize,
-    /// How many bytes the database file has.
+    /// How many bytes the database file and its log have.
     pub(crate) before: usize,
 }
 
@@ -56,7 +56,7 @@ fn replace<'a, F: NamedFiles>(
     }
 }
 
-/// Prints what was erased, and how many bytes the file had and has.
+/// Prints what was erased, and how many bytes the file with its log had and the new file has.
 fn report<W: Sink>(trimmed: &Trimmed, output: &mut W) -> Result<(), Fault<'static>>
     ensures written { OnOk result (W.taken output.new ≡ W.taken output.old
         ++ trimmed_line trimmed.now.count trimmed.now.before

@@ -79,7 +79,7 @@ const MOST_CONNECTIONS: u32 = 1_000_000;
 
 /// How many clients may be connected at the same time where nothing is asked for and each may make one
 /// request.
-const TOGETHER: u32 = 64;
+const TOGETHER: u32 = 1024;
 
 /// How many seconds a connection may take where nothing is asked for.
 const TIME_LIMIT: u32 = 10;

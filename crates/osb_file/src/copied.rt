@@ -1,6 +1,6 @@
 //! A database file and its log, read into memory.
 
-ghost use Rattle.std.specs.Prelude.{◌≡◌, [], Err, IfOk, length};
+ghost use Rattle.std.specs.Prelude.{◌≡◌, ◌+◌, [], Err, IfOk, length};
 ghost use Rattle.sqlite_trees.specs.Tree.{Trees};
 ghost use Rattle.osb_orders.specs.Lives.{Lives};
 ghost use Rattle.osb_file.specs.declared.seen.Seen.TheVariants.{New};
@@ -85,7 +85,7 @@ fn check_journal(rt: &HostRuntime, path: &str) -> Result<(), Unseen> {
 }
 
 /// Refuses a file that can't be opened for writing. Nothing is written.
-fn check_mode(rt: &HostRuntime, path: &str) -> Result<(), Unseen> {
+pub(crate) fn check_mode(rt: &HostRuntime, path: &str) -> Result<(), Unseen> {
     match OpenOptions::new().read(true).write(true).open(rt, path) {
         Ok(_) => Ok(()),
         Err(error) if error.kind() == ErrorKind::OutOfMemory => Err(Unseen::Memory),
@@ -148,15 +148,14 @@ fn read_moment(rt: &HostRuntime, path: &str) -> Result<Copied, Unseen> {
     Err(Unseen::InUse)
 }
 
-/// Refuses a path where `serve` couldn't open a database file that is there.
+/// Refuses a path where `serve` couldn't open a database file that is there, though it may be written to.
 pub(crate) fn check_file(rt: &HostRuntime, path: &str) -> Result<(), Unseen> {
     if is_special(path) {
         return Err(Unseen::NoFile);
     }
     check_log(rt, path)?;
     check_kind(rt, path)?;
-    check_journal(rt, path)?;
-    check_mode(rt, path)
+    check_journal(rt, path)
 }
 
 impl Copied {
@@ -164,17 +163,18 @@ impl Copied {
     /// over them: what it has answered before is in what is read. Where its log begins anew meanwhile, they
     /// are read again, 50 times at most.
     ///
-    /// What is at the path has to be a file that `serve` can open: see [`Unseen`].
+    /// What is at the path has to be a file that `serve` could open, but it may be one that can only be read, as of a
+    /// snapshot: see [`Unseen`].
     pub fn read(rt: &HostRuntime, path: &str) -> Result<Copied, Unseen> {
         check_file(rt, path)?;
         read_moment(rt, path)
     }
 
-    /// How many bytes the database file has, without its log.
+    /// How many bytes the database file and its log have.
     pub fn len(&self) -> usize
-        ensures { result ≡ length self.now.database.items }
+        ensures { result ≡ length self.now.database.items + length self.now.log.items }
     {
-        self.database.len()
+        self.database.len() + self.log.len()
     }
 
     /// What the database of these bytes has, opened and audited as `serve` would. All of it happens in

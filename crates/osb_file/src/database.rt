@@ -7,6 +7,7 @@ ghost use Rattle.sqlite.specs.Held.{IsNew, state};
 ghost use Rattle.sqlite.specs.State.{HasCleanDisk};
 ghost use Rattle.osb_file.specs.Database.{IsOpenedTo};
 
+use crate::database_file::DatabaseFile;
 use crate::first_page::PAGE_SIZE;
 use sqlite::{Alter, Connection, FileFrom, FileStore, Options, Start};
 use std::fs;
@@ -53,8 +54,8 @@ pub trait Database: Drop {
     /// Whether no byte that was written to it came back as another so far.
     ghost is_honest: { Self → Type 0 };
 
-    /// Opens it. `path` names the file, where it is one of the machine's.
-    fn open(self, rt: &HostRuntime, path: &str) -> Option<Connection<Self::Store>>
+    /// Opens it. `file` says where it is, if it is one of the machine's.
+    fn open(self, rt: &HostRuntime, file: &DatabaseFile<'_>) -> Option<Connection<Self::Store>>
         ensures fresh { IfSome result IsNew }
         ensures opened { IfSome result (λ conn. HasCleanDisk (state Self.Store.Store conn) →
             IsOpenedTo (held self) (state Self.Store.Store conn)) }
@@ -63,7 +64,7 @@ pub trait Database: Drop {
 }
 
 /// The file at the path that it is opened by. `S` is what the file holds, and no clause ties that to the
-/// path.
+/// path. It isn't opened if another file is there once it is locked.
 #[derive(Drop)]
 pub struct AtPath<S: Start> {
     start: S,
@@ -83,11 +84,15 @@ impl<S: Start> Database for AtPath<S> {
 
     ghost is_honest = { λ _. ⊤ };
 
-    fn open(self, rt: &HostRuntime, path: &str) -> Option<Connection<Self::Store>> {
-        let Ok(files) = sqlite_std_file::open(rt, path, self.start) else {
+    fn open(self, rt: &HostRuntime, file: &DatabaseFile<'_>) -> Option<Connection<Self::Store>> {
+        let Ok(files) = sqlite_std_file::open(rt, file.path(), self.start) else {
             return None;
         };
-        let options = options_for(rt, path)?;
+        // Before it was locked, a trim may have put another file there.
+        if !file.is_at_its_path(rt) {
+            return None;
+        }
+        let options = options_for(rt, file.path())?;
         match Connection::open_files(rt.alloc(), files, options) {
             Ok(conn) => Some(conn),
             Err(_) => None,

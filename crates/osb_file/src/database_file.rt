@@ -25,7 +25,7 @@ pub(crate) fn node_of(found: &Metadata) -> Node {
 }
 
 /// The file that is at a path; nothing where none is, or where it can't be looked at.
-fn node_at(rt: &HostRuntime, path: &str) -> Option<Node> {
+pub(crate) fn node_at(rt: &HostRuntime, path: &str) -> Option<Node> {
     match fs::metadata(rt, path) {
         Ok(found) => Some(node_of(&found)),
         Err(_) => None,
@@ -100,6 +100,11 @@ impl<'a> DatabaseFile<'a> {
         self.existing
     }
 
+    /// Whether the file is at its path still. It isn't if another one was put there.
+    pub(crate) fn is_at_its_path(&self, rt: &HostRuntime) -> bool {
+        node_at(rt, self.path) == Some(self.node)
+    }
+
     /// The file with the log that is beside it now. The opening of the database makes a log that lacks, so
     /// this is called after it.
     pub fn watched(&self, rt: &HostRuntime) -> WatchedFile<'_> {
@@ -121,7 +126,7 @@ impl WatchedFile<'_> {
     /// Whether both files are at their paths still: none was removed, and none was put in the place of
     /// one. It is one look at each, and `false` also where that fails.
     pub fn is_there(&self, rt: &HostRuntime) -> bool {
-        node_at(rt, self.file.path) == Some(self.file.node)
+        self.file.is_at_its_path(rt)
             && self.log.is_some()
             && node_at(rt, self.file.log.as_str()) == self.log
     }

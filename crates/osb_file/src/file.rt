@@ -64,7 +64,7 @@ pub fn open_file<D: Database>(
         IfSome fault.1 (λ conn. HasCleanDisk (state D.Store.Store conn) → D.is_honest database)) }
     ensures opened { IfErr result (λ fault. IfNone fault.1 (fault.0 ≡ Refused)) }
 {
-    let Some(conn) = database.open(rt, file.path()) else {
+    let Some(conn) = database.open(rt, file) else {
         return Err((FileFault::Refused, None));
     };
     let origin = origin_of(&conn);

@@ -1,7 +1,8 @@
 //! A database file that no other program opens meanwhile, and the database that takes its place.
 
 use crate::beside::{draft_path, log_path, real_path};
-use crate::copied::{check_file, unread};
+use crate::copied::{check_file, check_mode, unread};
+use crate::database_file::{Node, node_at, node_of};
 use crate::looking::unopened;
 use crate::one_file::OneFile;
 use crate::placing::{fill, make, sync_folder, unwritten};
@@ -21,11 +22,11 @@ pub struct Held {
     conn: Connection<FileStore<FileFrom<Unknown>>>,
 }
 
-/// Refuses a file with nothing in it: as it is opened, a database would be begun in it.
-fn check_begun(rt: &HostRuntime, path: &str) -> Result<(), Unseen> {
+/// Which file is at a path. One with nothing in it is refused: as it is opened, a database would be begun in it.
+fn check_begun(rt: &HostRuntime, path: &str) -> Result<Node, Unseen> {
     match fs::metadata(rt, path) {
         Ok(found) if found.len() == 0 => Err(Unseen::NoTables),
-        Ok(_) => Ok(()),
+        Ok(found) => Ok(node_of(&found)),
         Err(error) => Err(unread(error)),
     }
 }
@@ -109,14 +110,20 @@ fn replace_by(
 }
 
 /// Locks the database file at a path, and its log, which is made where it isn't there. What is at the path has
-/// to be a file that `serve` can open: see [`Unseen`]. One that a program has open is in use.
+/// to be a file that `serve` can open: see [`Unseen`]. One that a program has open is in use, and so is one in whose
+/// place another was put before it was locked.
 pub fn hold(rt: &HostRuntime, path: &str) -> Result<Held, Unseen> {
     check_file(rt, path)?;
-    check_begun(rt, path)?;
+    check_mode(rt, path)?;
+    let node = check_begun(rt, path)?;
     let files = match sqlite_std_file::open(rt, path, Unknown) {
         Ok(files) => files,
         Err(error) => return Err(unheld(error)),
     };
+    // Before it was locked, another one may have put a file there.
+    if node_at(rt, path) != Some(node) {
+        return Err(Unseen::InUse);
+    }
     match Connection::open_files(rt.alloc(), files, Options::new(0)) {
         Ok(conn) => Ok(Held { conn }),
         Err((error, _)) => Err(unopened(error)),

@@ -3,6 +3,7 @@
 use crate::peer::Peer;
 use crate::received::{Readiness, Received};
 use crate::reply::Reply;
+use crate::rooms::Rooms;
 use osb_frames::LineRoom;
 use std::alloc::Global;
 
@@ -12,6 +13,8 @@ use std::alloc::Global;
 pub(crate) struct Asking {
     peer: Peer,
     received: Received,
+    /// Whether it waits for room.
+    lacks_room: bool,
 }
 
 impl Asking {
@@ -20,6 +23,7 @@ impl Asking {
         Asking {
             peer,
             received: Received::nothing(alloc),
+            lacks_room: false,
         }
     }
 
@@ -31,14 +35,38 @@ impl Asking {
         &mut self.peer
     }
 
+    /// Whether it waits for room.
+    pub(crate) fn lacks_room(&self) -> bool {
+        self.lacks_room
+    }
+
+    /// Whether it has a large room.
+    pub(crate) fn has_large_room(&self) -> bool {
+        self.received.has_large_room()
+    }
+
     /// Takes in what has come. Whether the client can be served then.
-    pub(crate) fn hear(&mut self, piece: &mut [u8], lines: &mut LineRoom) -> Readiness {
-        self.received.take_in(&self.peer, piece, lines)
+    pub(crate) fn hear(
+        &mut self,
+        rooms: &mut Rooms,
+        piece: &mut [u8],
+        lines: &mut LineRoom,
+    ) -> Readiness {
+        let mut found = self.received.take_in(&self.peer, rooms, piece, lines);
+        if found == Readiness::NotYet && self.received.is_full() {
+            found = self.received.take_in(&self.peer, rooms, piece, lines);
+        }
+        self.lacks_room = found == Readiness::NoRoom;
+        found
     }
 
     /// What has come of the client, and where its reply goes.
     pub(crate) fn into_ends(self, alloc: Global) -> (Received, Reply) {
-        let Asking { peer, received } = self;
+        let Asking {
+            peer,
+            received,
+            lacks_room: _,
+        } = self;
         (received, Reply::to(alloc, peer))
     }
 }

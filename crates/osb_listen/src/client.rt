@@ -5,6 +5,19 @@ use crate::peer::Peer;
 use crate::reply::Reply;
 use mio::Interest;
 
+/// Of which clients one is looked for.
+#[derive(Clone, Copy, Debug, PartialEq, Eq)]
+pub(crate) enum Kind {
+    /// Those whose request isn't whole.
+    Asks,
+    /// Those of them that have a large room.
+    HasLargeRoom,
+    /// Those of them that wait for room.
+    LacksRoom,
+    /// Those that were served.
+    WasServed,
+}
+
 /// A client that is connected, by what is waited for.
 #[derive(Drop)]
 pub(crate) enum Client {
@@ -41,8 +54,14 @@ impl Client {
         }
     }
 
-    /// Whether its request isn't whole yet.
-    pub(crate) fn asks(&self) -> bool {
-        matches!(self, Client::Asks(_))
+    /// Whether it is of a kind.
+    pub(crate) fn is(&self, kind: Kind) -> bool {
+        match (self, kind) {
+            (Client::Asks(_), Kind::Asks) => true,
+            (Client::Asks(asking), Kind::HasLargeRoom) => asking.has_large_room(),
+            (Client::Asks(asking), Kind::LacksRoom) => asking.lacks_room(),
+            (Client::Asks(_), Kind::WasServed) => false,
+            (_, kind) => kind == Kind::WasServed,
+        }
     }
 }

@@ -1,13 +1,14 @@
 //! Clients that are connected at the same time.
 
 use crate::asking::Asking;
-use crate::client::Client;
+use crate::client::{Client, Kind};
 use crate::door::{Arrival, DOOR, Door};
 use crate::ending::{LINGER_BYTES, LINGER_MILLISECONDS};
 use crate::peer::Peer;
 use crate::places::{Places, earlier};
 use crate::received::{Readiness, Received};
 use crate::reply::{Reply, Sent};
+use crate::rooms::Rooms;
 use mio::net::TcpStream;
 use mio::{Registry, Token};
 use osb_frames::{LineRoom, NO_LINES};
@@ -19,8 +20,8 @@ use std::time::{Duration, Instant};
 /// How many bytes of a client are read at once.
 const PIECE: usize = 65_536;
 
-/// How long a client keeps its place although another one wants it.
-const GRACE_MILLISECONDS: u64 = 10;
+/// How long a client keeps its place, or its room, although another one wants it.
+const GRACE_MILLISECONDS: u64 = 1000;
 
 /// Clients that are connected at the same time. No call on one of them waits.
 #[derive(Drop)]
@@ -33,6 +34,9 @@ pub(crate) struct Clients<'a> {
     places: Places,
     /// Those who can be served, in the order in which they became ready.
     ready: VecDeque<Asking>,
+    rooms: Rooms,
+    /// Whether somebody may wait for room.
+    lacks_room: bool,
     /// Where a client's bytes are read to first.
     piece: Vec<u8>,
     /// Where the field lines of a head are.
@@ -56,6 +60,8 @@ impl<'a> Clients<'a> {
             door,
             places: Places::new(rt.alloc(), count)?,
             ready: VecDeque::with_capacity(rt.alloc(), count)?,
+            rooms: Rooms::new(rt.alloc())?,
+            lacks_room: false,
             piece: Vec::from_elem(rt.alloc(), 0, PIECE)?,
             lines: NO_LINES,
         })
@@ -140,6 +146,21 @@ impl<'a> Clients<'a> {
         true
     }
 
+    /// Ends the one of a kind who has waited longest, once that is long enough. Whether one was ended.
+    fn end_longest_of(&mut self, kind: Kind, now: Instant) -> bool {
+        let Some((place, since)) = self.places.longest(kind) else {
+            return false;
+        };
+        let grace = Duration::from_millis(GRACE_MILLISECONDS);
+        let end = since.checked_add(grace).unwrap_or(now);
+        if now < end {
+            self.places.wake_by(end);
+            return false;
+        }
+        self.end_at(place);
+        true
+    }
+
     /// Ends the one who has waited longest: one whose request isn't whole, or else one who was served. Where
     /// some are ready, these are served first.
     fn end_longest(&mut self, now: Instant) {
@@ -147,17 +168,27 @@ impl<'a> Clients<'a> {
             self.places.wake_by(now);
             return;
         }
-        let longest = match self.places.longest(true) {
-            Some(longest) => Some(longest),
-            None => self.places.longest(false),
-        };
-        let Some((place, since)) = longest else {
+        if !self.end_longest_of(Kind::Asks, now) {
+            self.end_longest_of(Kind::WasServed, now);
+        }
+    }
+
+    /// Where somebody waits for room, ends the one who has waited longest among those that have a large one.
+    pub(crate) fn end_for_room(&mut self, now: Instant) {
+        self.lacks_room = self.lacks_room && self.places.longest(Kind::LacksRoom).is_some();
+        if self.lacks_room && self.ready.is_empty() {
+            self.end_longest_of(Kind::HasLargeRoom, now);
+        }
+    }
+
+    /// Takes the room of one who was served back. Who has waited for one longest is read from again.
+    pub(crate) fn take_back(&mut self, received: Received) {
+        self.rooms.give_back(received.into_room());
+        if !self.lacks_room {
             return;
-        };
-        let grace = Duration::from_millis(GRACE_MILLISECONDS);
-        match since.checked_add(grace) {
-            Some(end) if now < end => self.places.wake_by(end),
-            _ => self.end_at(place),
+        }
+        if let Some((place, _)) = self.places.longest(Kind::LacksRoom) {
+            self.hear(Token(place));
         }
     }
 
@@ -192,6 +223,8 @@ impl<'a> Clients<'a> {
     /// Closes a connection.
     fn forget(&mut self, peer: Peer) {
         self.places.release(peer.place);
+        drop(peer);
+        self.door.try_again();
     }
 
     /// Has one be served.
@@ -210,9 +243,13 @@ impl<'a> Clients<'a> {
 
     /// Reads what one has sent.
     fn read(&mut self, mut asking: Asking) {
-        match asking.hear(&mut self.piece, &mut self.lines) {
+        match asking.hear(&mut self.rooms, &mut self.piece, &mut self.lines) {
             Readiness::Ready => self.make_ready(asking),
             Readiness::NotYet => self.wait_for(Client::Asks(asking)),
+            Readiness::NoRoom => {
+                self.lacks_room = true;
+                self.places.put(Client::Asks(asking));
+            }
         }
     }
 

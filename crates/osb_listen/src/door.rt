@@ -68,6 +68,11 @@ impl Door {
         self.waits = Some(stream);
     }
 
+    /// Hears that a descriptor may be free again.
+    pub(crate) fn try_again(&mut self) {
+        self.rests = None;
+    }
+
     /// Whether somebody may come in now.
     pub(crate) fn may_open(&self) -> bool {
         self.waits.is_some() || (self.may_come && self.rests.is_none())

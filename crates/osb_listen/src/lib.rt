@@ -23,6 +23,7 @@ mod places;
 mod received;
 mod refused;
 mod reply;
+mod rooms;
 mod seat;
 mod serving;
 mod tcp;

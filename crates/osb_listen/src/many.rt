@@ -60,6 +60,7 @@ impl<'a> ManyClients<'a> {
         }
         let now = Instant::now(self.rt)?;
         self.clients.end_late(now);
+        self.clients.end_for_room(now);
         Ok(now)
     }
 
@@ -90,6 +91,11 @@ impl<'a> ManyClients<'a> {
     /// Another client that can be served now.
     pub(crate) fn next_ready(&mut self) -> Option<(Received, Reply)> {
         self.clients.next_ready()
+    }
+
+    /// Takes back the room of what came of a client that was served.
+    pub(crate) fn take_back(&mut self, received: Received) {
+        self.clients.take_back(received);
     }
 
     /// Has a client that was served take its reply. Nobody waits for that.

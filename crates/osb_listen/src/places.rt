@@ -1,6 +1,6 @@
 //! The places of clients that are connected.
 
-use crate::client::Client;
+use crate::client::{Client, Kind};
 use std::alloc::{AllocError, Global};
 use std::time::Instant;
 
@@ -111,7 +111,7 @@ impl Places {
     pub(crate) fn has_served(&self) -> bool {
         for client in &self.clients {
             if let Some(client) = client {
-                if !client.asks() {
+                if client.is(Kind::WasServed) {
                     return true;
                 }
             }
@@ -119,16 +119,13 @@ impl Places {
         false
     }
 
-    /// The place of the one who has waited longest, among those whose request isn't whole or among the others, and
-    /// since when.
-    pub(crate) fn longest(&self, asks: bool) -> Option<(usize, Instant)> {
+    /// The place of the one of a kind who has waited longest, and since when.
+    pub(crate) fn longest(&self, kind: Kind) -> Option<(usize, Instant)> {
         let mut found: Option<(usize, Instant)> = None;
         for client in &self.clients {
             if let Some(client) = client {
                 let peer = client.peer();
-                if client.asks() == asks
-                    && !matches!(found, Some((_, since)) if since <= peer.since)
-                {
+                if client.is(kind) && !matches!(found, Some((_, since)) if since <= peer.since) {
                     found = Some((peer.place, peer.since));
                 }
             }

@@ -1,15 +1,11 @@
 //! What has come of a client.
 
 use crate::peer::Peer;
-use osb_frames::{Limits, LineRoom, MOST_BODY, MOST_HEAD, Step, next_at_once};
-use std::alloc::{AllocError, Global};
+use crate::rooms::{LARGE, Rooms, SMALL};
+use osb_frames::{Limits, LineRoom, Step, next_at_once};
+use std::alloc::Global;
 use std::io::{self, ErrorKind, Read};
-
-/// The most bytes that are kept of a client.
-const MOST: usize = MOST_HEAD + MOST_BODY;
-
-/// Up to so many there is only room for as many as came.
-const FEW: usize = MOST_HEAD;
+use std::mem;
 
 /// Whether a client can be served.
 #[derive(Clone, Copy, Debug, PartialEq, Eq)]
@@ -18,6 +14,8 @@ pub(crate) enum Readiness {
     Ready,
     /// More has to come.
     NotYet,
+    /// There is no room for more now.
+    NoRoom,
 }
 
 /// What has come of a client. It is read as if it came now: behind it is the end, or a failure where the
@@ -40,36 +38,69 @@ impl Received {
         }
     }
 
-    /// Makes room for so many bytes more.
-    fn make_room(&mut self, more: usize) -> Result<(), AllocError> {
-        let length = self.bytes.len();
-        if length.saturating_add(more) > FEW && self.bytes.capacity() < MOST {
-            self.bytes.reserve_exact(MOST.saturating_sub(length))?;
+    /// Whether it has a large room.
+    pub(crate) fn has_large_room(&self) -> bool {
+        self.bytes.capacity() > SMALL
+    }
+
+    /// Whether its room is full.
+    pub(crate) fn is_full(&self) -> bool {
+        !self.bytes.is_empty() && self.bytes.len() == self.bytes.capacity()
+    }
+
+    /// Gives up its room.
+    pub(crate) fn into_room(self) -> Vec<u8> {
+        self.bytes
+    }
+
+    /// Has room for more bytes from now on. Whether there is some.
+    fn make_room(&mut self, rooms: &mut Rooms) -> bool {
+        if self.bytes.len() < self.bytes.capacity() || self.bytes.capacity() >= LARGE {
+            return true;
         }
-        Ok(())
+        let found = if self.bytes.is_empty() {
+            rooms.take_small()
+        } else {
+            rooms.take_large()
+        };
+        let Some(mut room) = found else {
+            return false;
+        };
+        let copied = room.extend_from_slice(&self.bytes).is_ok();
+        rooms.give_back(mem::replace(&mut self.bytes, room));
+        copied
     }
 
     /// Takes in what lies there. Whether anything did.
     fn take_piece(&mut self, peer: &Peer, piece: &mut [u8]) -> io::Result<bool> {
-        let room = MOST.saturating_sub(self.bytes.len()).min(piece.len());
-        let Some(count) = peer.read(&mut piece[..room])? else {
+        let free = self.bytes.capacity().saturating_sub(self.bytes.len());
+        let free = free.min(piece.len());
+        let Some(count) = peer.read(&mut piece[..free])? else {
             return Ok(false);
         };
-        self.make_room(count)?;
         self.bytes.extend_from_slice(&piece[..count])?;
         self.ended = count == 0;
         Ok(true)
     }
 
-    /// Takes in what lies there. Whether the client can be served then. One whose connection is broken,
-    /// or for whose bytes memory is refused, can: it is served as one whose read failed.
+    /// Takes in what lies there. Whether the client can be served then. One whose connection is broken can: it is
+    /// served as one whose read failed. One who sent nothing has no room.
     pub(crate) fn take_in(
         &mut self,
         peer: &Peer,
+        rooms: &mut Rooms,
         piece: &mut [u8],
         lines: &mut LineRoom,
     ) -> Readiness {
-        let Ok(came) = self.take_piece(peer, piece) else {
+        if !self.make_room(rooms) {
+            return Readiness::NoRoom;
+        }
+        let taken = self.take_piece(peer, piece);
+        if self.bytes.is_empty() {
+            let nothing = rooms.nothing();
+            rooms.give_back(mem::replace(&mut self.bytes, nothing));
+        }
+        let Ok(came) = taken else {
             return Readiness::Ready;
         };
         if !came

@@ -69,6 +69,13 @@ impl<'a> Way<'a> {
         Some((Incoming::Received(received), Outgoing::Reply(reply)))
     }
 
+    /// Takes back the room of what came of the client that was served.
+    fn take_back(&mut self, input: Incoming<'a>) {
+        if let (Way::Together(many), Incoming::Received(received)) = (self, input) {
+            many.take_back(received);
+        }
+    }
+
     /// Lets the client go that was served.
     fn let_go(&mut self, output: Outgoing<'a>, met_fault: bool) {
         match (self, output) {
@@ -196,7 +203,7 @@ impl<'a> Entrance for TcpEntrance<'a> {
     fn leave(&mut self, input: Self::In, output: Self::Out, met_fault: bool) {
         let written = (output, met_fault);
         self.served = self.served.and(&input, &written);
-        drop(input);
+        self.way.take_back(input.into_inner());
         self.way.let_go(written.0.into_inner(), met_fault);
     }
 }

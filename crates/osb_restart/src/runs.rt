@@ -15,7 +15,7 @@ ghost use Rattle.osb_broker.specs.Served.{AreStandard};
 ghost use Rattle.osb_restart.specs.Runs.{HoldsSome, Leads};
 
 use osb_catalog::Settings;
-use osb_file::Database;
+use osb_file::{Database, DatabaseFile};
 use osb_frames::Sink;
 use osb_listen::{Entrance, ListenOptions, serve_file};
 use sqlite::{Connection, FileStore, Files, Options};
@@ -72,7 +72,7 @@ impl<D: Crash + Drop> Database for AtRest<D> {
 
     ghost is_honest = { λ it. AreClean D.Disk it.files.log it.files.db };
 
-    fn open(self, rt: &HostRuntime, _path: &str) -> Option<Connection<FileStore<D>>> {
+    fn open(self, rt: &HostRuntime, _file: &DatabaseFile<'_>) -> Option<Connection<FileStore<D>>> {
         match Connection::open_files(rt.alloc(), self.files, self.options) {
             Ok(conn) => Some(conn),
             Err(_) => None,

@@ -1,7 +1,7 @@
 //! Remarks on settings files.
 
 use crate::settings::{changed, changed_by};
-use osb_advice::remarks;
+use osb_advice::{remarks, shown};
 use osb_catalog::BUILT_IN;
 use std::alloc::Global;
 use std::process::Abort;
@@ -15,9 +15,15 @@ const PLANS: &str = "plan p-sync: instances synchronous, bindings synchronous
 plan p-async: instances asynchronous, bindings asynchronous
 ";
 
+/// The remarks on a file whose passwords aren't guessed easily.
+fn remarks_on(alloc: Global, file: &str) -> Result<String, Fail> {
+    let file = file.replace(alloc, "\"password\":\"", "\"password\":\"long enough ")?;
+    Ok(remarks(alloc, file.as_bytes())?)
+}
+
 fn remarks_with(alloc: Global, from: &str, to: &str) -> Result<String, Fail> {
     let file = changed(alloc, BUILT_IN, from, to)?;
-    Ok(remarks(alloc, file.as_bytes())?)
+    remarks_on(alloc, file.as_str())
 }
 
 fn finds_remarks(rt: &(impl Abort + AllocGlobal), cases: &[Case]) -> Result<(), Fail> {
@@ -34,7 +40,14 @@ fn finds_remarks(rt: &(impl Abort + AllocGlobal), cases: &[Case]) -> Result<(), 
 #[test]
 fn the_built_in_settings(rt: HostRuntime) -> Result<(), Fail> {
     let found = remarks(rt.alloc(), BUILT_IN.as_bytes())?;
-    assert!(rt; found.as_str() == PLANS);
+    assert!(rt;
+        found.strip_prefix(PLANS)
+            == Some(
+                "a password that is easily guessed: platform
+a password that is easily guessed: backend
+"
+            )
+    );
     Ok(())
 }
 
@@ -55,11 +68,12 @@ fn timings(rt: HostRuntime) -> Result<(), Fail> {
             (r#""p-async":{"#, r#""p-other":{"#),
         ],
     )?;
-    let found = remarks(rt.alloc(), file.as_bytes())?;
+    let found = remarks_on(rt.alloc(), file.as_str())?;
     assert!(rt;
         found.as_str()
             == "plan p-sync: instances asynchronous, bindings synchronous
 plan p-async: instances synchronous, bindings synchronous
+bindings give {}: catalog.services[0].plans[1]
 "
     );
     Ok(())
@@ -202,7 +216,7 @@ fn second_logins_of_both_doors(rt: HostRuntime) -> Result<(), Fail> {
             ),
         ],
     )?;
-    let found = remarks(rt.alloc(), file.as_bytes())?;
+    let found = remarks_on(rt.alloc(), file.as_str())?;
     assert!(rt; found.strip_prefix(PLANS) == Some("one login for both doors\n"));
     Ok(())
 }
@@ -220,7 +234,7 @@ fn plans_of_one_name(rt: HostRuntime) -> Result<(), Fail> {
             (r#""name":"large""#, r#""name":"small""#),
         ],
     )?;
-    let found = remarks(rt.alloc(), file.as_bytes())?;
+    let found = remarks_on(rt.alloc(), file.as_str())?;
     assert!(rt;
         found.ends_with(
             "two plans of one name: catalog.services[0].plans[2]
@@ -280,7 +294,7 @@ fn spaces_in_the_order_of_the_file(rt: HostRuntime) -> Result<(), Fail> {
             (r#""name":"small""#, r#""name":"very small""#),
         ],
     )?;
-    let found = remarks(rt.alloc(), file.as_bytes())?;
+    let found = remarks_on(rt.alloc(), file.as_str())?;
     assert!(rt;
         found.ends_with(
             "a space in a name: catalog.services[0]
@@ -291,6 +305,129 @@ a space in a name: catalog.services[1].plans[0]
 "
         )
     );
+    Ok(())
+}
+
+#[test]
+fn names_as_lines_show_them(rt: HostRuntime) -> Result<(), Fail> {
+    assert!(rt; [shown("own plan"), shown("a\nb"), shown("\u{9f}")] == ["own plan", "?", "?"]);
+    Ok(())
+}
+
+/// A password in the place of the platform's, and whether it is guessed easily.
+const PASSWORDS: [(&str, bool); 7] = [
+    ("", true),
+    ("elf letters", true),
+    ("zwölf letter", false),
+    ("ö234567890", true),
+    ("twelve chars", false),
+    ("correct horse", true),
+    ("battery staple", true),
+];
+
+fn is_guessed(alloc: Global, password: &str) -> Result<bool, Fail> {
+    let file = changed(alloc, BUILT_IN, "secret", password)?;
+    let found = remarks(alloc, file.as_bytes())?;
+    Ok(
+        found
+            .find("a password that is easily guessed: platform\n")
+            .is_some(),
+    )
+}
+
+#[test]
+fn passwords_that_are_easily_guessed(rt: HostRuntime) -> Result<(), Fail> {
+    for (password, expected) in PASSWORDS {
+        assert!(rt; is_guessed(rt.alloc(), password)? == expected, "{password}");
+    }
+    Ok(())
+}
+
+#[test]
+fn passwords_of_second_logins(rt: HostRuntime) -> Result<(), Fail> {
+    let file = changed_by(
+        rt.alloc(),
+        &[
+            (
+                r#""secret""#,
+                r#""a long one, too","also":{"user":"u","password":"p"}"#,
+            ),
+            (
+                r#""worker""#,
+                r#""short","also":{"user":"u","password":"long enough"}"#,
+            ),
+        ],
+    )?;
+    let found = remarks(rt.alloc(), file.as_bytes())?;
+    assert!(rt;
+        found.strip_prefix(PLANS)
+            == Some(
+                "a password that is easily guessed: platform.also
+a password that is easily guessed: backend
+a password that is easily guessed: backend.also
+"
+            )
+    );
+    Ok(())
+}
+
+static NOTHING: [Case; 4] = [
+    (
+        r#""credentials":{"uri":"mem:1"}"#,
+        r#""credentials":{}"#,
+        "bindings give {}: catalog.services[0].plans[0]\n",
+    ),
+    (
+        r#""credentials":{"uri":"mem:1"}"#,
+        r#""credentials":null"#,
+        "bindings give {}: catalog.services[0].plans[0]\n",
+    ),
+    (
+        r#""bindings":"asynchronous""#,
+        r#""bindings":"asynchronous","credentials":{}"#,
+        "",
+    ),
+    (
+        r#""description":"At once""#,
+        r#""description":"At once","bindable":false"#,
+        "",
+    ),
+];
+
+#[test]
+fn bindings_that_give_nothing(rt: HostRuntime) -> Result<(), Fail> {
+    finds_remarks(&rt, &NOTHING)
+}
+
+/// What is said behind the lines of the plans, of which the second has a backend for its instances only.
+fn said_of_bindings(alloc: Global, bindings: &str) -> Result<bool, Fail> {
+    let found = remarks_with(alloc, r#""bindings":"asynchronous""#, bindings)?;
+    Ok(found.ends_with("bindings synchronous\nbindings give {}: catalog.services[0].plans[1]\n"))
+}
+
+#[test]
+fn bindings_at_once_beside_instances_by_a_backend(rt: HostRuntime) -> Result<(), Fail> {
+    let nothing = said_of_bindings(rt.alloc(), r#""bindings":"synchronous""#)?;
+    let something = said_of_bindings(
+        rt.alloc(),
+        r#""bindings":"synchronous","credentials":{"x":1}"#,
+    )?;
+    assert!(rt; nothing && !something);
+    Ok(())
+}
+
+/// A plan goes before its service in what may be bound.
+#[test]
+fn plans_that_may_not_be_bound(rt: HostRuntime) -> Result<(), Fail> {
+    let file = changed_by(
+        rt.alloc(),
+        &[
+            (r#""credentials":{"uri":"mem:1"}"#, r#""credentials":{}"#),
+            (r#""bindable":true"#, r#""bindable":false"#),
+        ],
+    )?;
+    let found = remarks_on(rt.alloc(), file.as_str())?;
+    assert!(rt; found.as_str() == PLANS);
     Ok(())
 }
 
@@ -308,7 +445,7 @@ fn all_kinds_in_order(rt: HostRuntime) -> Result<(), Fail> {
             (r#"{"platform""#, r#"{"also":{},"platform""#),
         ],
     )?;
-    let found = remarks(rt.alloc(), file.as_bytes())?;
+    let found = remarks_on(rt.alloc(), file.as_str())?;
     assert!(rt;
         found.strip_prefix(PLANS)
             == Some(
