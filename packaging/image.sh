@@ -19,5 +19,6 @@ install -D -m 755 -s "$program" "$root/program/usr/bin/osb-broker"
 for each in $(ldd "$program" | grep -o '/[^ ]*'); do
     install -D -m 755 "$each" "$root/program$each"
 done
-podman build -q -f "$here/Containerfile" -t "$name" "$root" >/dev/null
+# Images of the other format, OCI, have no health check.
+podman build --format docker -q -f "$here/Containerfile" -t "$name" "$root" >/dev/null
 echo "$name"

@@ -35,7 +35,7 @@ SCRIPTS = {"judged": 3, "building": 3, "tried": 1, "greened": 1, "gated": 0.5, "
 TRIALS = {"unproved": 3, "packaged": 8, "imaged": 3, "backends": 5, "power": 3, "refused": 3, "killed": 2, "groups": 2}
 MINUTES_OF_OTHERS = 1
 # The trials that speak of a crate; those of the program are tried with each change of it.
-OF_PROGRAM = ["program", "served", "mistakes"]
+OF_PROGRAM = ["program", "served", "ready", "mistakes"]
 OF_CRATES = {
     "osb_file": ["begun", "database", "backup", "power", "trim"],
     "osb_statements": ["database", "begun", "power"],

@@ -337,7 +337,7 @@ OTHERS = [
     (lacking_descriptors, ONE),
     (lacking_descriptors, MANY),
     (partial(few_descriptors, descriptors=2, number=FEW), MANY),
-    (partial(few_descriptors, descriptors=119, number=300), ["--together", "1024"]),
+    (partial(few_descriptors, descriptors=119, number=300), []),
     (unread_replies, LIMITED + MANY_REQUESTS),
     (shared_time, LIMITED + MANY_REQUESTS),
 ]

@@ -401,17 +401,30 @@ TEXTS = {
 }
 
 
-def unreadable(tables):
-    """Rows that can't be read, in one row of each of these tables: a number that isn't one of 32 bits, a rowid below 0,
-    a text that is no UTF-8."""
+def last_row(table):
+    return f"WHERE rowid = (SELECT max(rowid) FROM {table})"
+
+
+def out_of_range(tables):
+    """Numbers that aren't of 32 bits, in one row of each of these tables."""
     for table in tables:
-        row = f"WHERE rowid = (SELECT max(rowid) FROM {table})"
-        yield f"a rowid of {table} below 0", f"UPDATE {table} SET rowid = -1 {row}"
         for column in NUMBERS[table]:
             for number in (-1, 1 << 32, -(1 << 63), (1 << 63) - 1):
-                yield f"{column} of {table}: {number}", f"UPDATE {table} SET {column} = {number} {row}"
+                yield f"{column} of {table}: {number}", f"UPDATE {table} SET {column} = {number} {last_row(table)}"
+
+
+def unreadable(tables):
+    """A rowid below 0 or a text that is no UTF-8, in one row of each of these tables."""
+    for table in tables:
+        yield f"a rowid of {table} below 0", f"UPDATE {table} SET rowid = -1 {last_row(table)}"
         for column in TEXTS.get(table, []):
-            yield f"{column} of {table} is no UTF-8", f"UPDATE {table} SET {column} = CAST(x'ff' AS TEXT) {row}"
+            yield f"{column} of {table} is no UTF-8", f"UPDATE {table} SET {column} = CAST(x'ff' AS TEXT) {last_row(table)}"
+
+
+def no_rows(tables):
+    """What is done to a row so that it is none of ours or can't be read, each with how a start ends."""
+    yield from ((*it, NOT_OURS) for it in out_of_range(tables))
+    yield from ((*it, REFUSED) for it in unreadable(tables))
 
 
 # What is done to a file of version 1.
@@ -478,11 +491,11 @@ def try_spoiled(program, folder, path):
     yield "another order of the tables", starts(program, other), NOT_OURS
     first = made_before(folder, 2)
     for made, version, has in [(path, 2, TABLES), (first, 1, TABLES_BEFORE)]:
-        for name, statement in unreadable(has):
+        for name, statement, ended in no_rows(has):
             copy = copied(made, folder)
             run(copy, statement)
             before = content(copied(copy, folder))
-            yield f"version {version}, {name}", starts(program, copy), REFUSED
+            yield f"version {version}, {name}", starts(program, copy), ended
             yield f"version {version}, {name}: it stays", content(copy), before
 
 
@@ -1090,9 +1103,10 @@ def try_causes(program, folder, path):
     yield from refused("a row that is no text", unread, "a row that can't be read")
     other = new_database(folder)
     run(other, "CREATE TABLE orders (a)")
-    yield "another database", looked_at(program, other), NOT_OURS
+    yield "another database", looked_at(program, other), (*NOT_OURS[:2], NOT_OURS[2] + b"the tables of another program\n")
     written = copied(path, folder)
-    os.chmod(written, 0o444)
+    for file in (written, written + "-wal"):
+        os.chmod(file, 0o444)
     os.chmod(os.path.dirname(written), 0o755)
     os.chmod(folder, 0o755)
     if os.geteuid():
@@ -1102,7 +1116,7 @@ def try_causes(program, folder, path):
         trimmed = subprocess.run([program, "trim", written], capture_output=True, timeout=60, preexec_fn=lambda: os.setuid(65534))
         yield "a trim of it", (trimmed.returncode, trimmed.stdout, trimmed.stderr), unseen("it can't be written to")
         os.chmod(written, 0)
-        yield "a file that can't be read", looked_at(program, written, given=lambda: os.setuid(65534)), unseen("it can't be read")
+        yield "a file that can't be read", looked_at(program, written, given=lambda: os.setuid(65534)), unseen("it belongs to another user")
 
 
 def try_little_memory(program, folder, path):

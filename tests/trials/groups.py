@@ -8,8 +8,8 @@ The program is stopped (SIGSTOP) while clients connect and send. Then it goes on
 creations have one sync before the first reply. Groups of all kinds of requests, many of them for the same instances,
 are answered as the same requests one after the other. A kill or a power failure leaves the changes of a group all made
 or none, and those of one that was answered all made. Where a growth of memory is refused, each request is answered as
-it should be, or by the 500 or nothing, and then it changed nothing. Where a call of the disk fails, nothing is lost that
-was answered.
+it should be, or by the 500, and then it changed nothing. Where a call of the disk fails, nothing is lost that was
+answered.
 """
 
 import contextlib
@@ -199,11 +199,11 @@ def power_fails(program, folder):
 
 
 def refused(program, folder):
-    """Where a growth is refused, each request is answered as it should be, or it changed nothing."""
+    """Where a growth is refused, each request is answered as it should be, or 500 and it changed nothing."""
     machine = Refusing(program, folder)
     for size in SIZES:
         with machine.serving(*MANY) as serving:
-            growth = failed = 0
+            growth = 0
             was_refused = True
             while was_refused:
                 growth += 1
@@ -213,11 +213,11 @@ def refused(program, folder):
                 was_refused = growth <= machine.growths()[0]
                 machine.refuses(0)
                 again = together(serving, creations(names))
-                right = [(CREATED, THERE), (REFUSED_REPLY, CREATED), (b"", CREATED)]
+                right = [(CREATED, THERE), (REFUSED_REPLY, CREATED)]
                 wrong = [it for it in zip(answers, again) if it not in right]
                 yield f"growth {growth} of {size}", wrong, []
-                failed += answers != [CREATED] * size
-            yield f"growths of {size} that fail a request", failed > 0, True
+            # (the last one wasn't asked for)
+            yield f"growths of {size} that are refused", growth > 1, True
 
 
 class Failing:

@@ -24,6 +24,7 @@ from serving import EXAMPLES, ROOT, SETTINGS, Serving, passed_over, tell
 SCRIPT = os.path.join(ROOT, "packaging", "image.sh")
 PAGE = os.path.join(ROOT, "docs", "PLATFORMS.md")
 NAME = "localhost/osb-broker:tried"
+READY = ["/usr/bin/osb-broker", "ready"]
 USER = 65532
 THERE = (200, '{"parameters":{},"plan_id":"p-sync","service_id":"svc"}')
 # Images, containers and volumes are kept in a folder of the trial.
@@ -42,9 +43,11 @@ volume_path = "{0}/volumes"
 tmp_dir = "{0}/engine"
 """
 
-# How the plans of examples/settings.json are done, as `check --explain` says it.
-MODES = """plan p-sync: instances synchronous, bindings synchronous
+# What `check --explain` says of examples/settings.json, if only its user may read it.
+REMARKS = """plan p-sync: instances synchronous, bindings synchronous
 plan p-async: instances asynchronous, bindings asynchronous
+a password that is easily guessed: platform
+a password that is easily guessed: backend
 """
 
 
@@ -96,10 +99,13 @@ def no_container(folder):
 
 
 def configuration():
-    found = json.loads(run("podman", "image", "inspect", NAME)[1])[0]["Config"]
+    image = json.loads(run("podman", "image", "inspect", NAME)[1])[0]
+    found = image["Config"]
     yield "its user", found["User"], f"{USER}:{USER}"
     yield "its volume", list(found["Volumes"]), ["/var/lib/osb-broker"]
-    yield "its words", found["Entrypoint"] + found["Cmd"][:1] + found["Cmd"][-1:], ["/usr/bin/osb-broker", "serve", "127.0.0.1:8080"]
+    words = found["Entrypoint"] + found["Cmd"][:1] + found["Cmd"][-2:]
+    yield "its words", words, ["/usr/bin/osb-broker", "serve", "127.0.0.1:8080", "--explain"]
+    yield "its health check", (image.get("Healthcheck") or {}).get("Test"), ["CMD", *READY, "127.0.0.1:8080"]
 
 
 def serves(settings):
@@ -107,6 +113,9 @@ def serves(settings):
     with Container(settings) as serving:
         made = serving.sends(request("PUT", at("a"), SYNC, CLOSE))
         yield "an instance is made", replies(made), [(201, "{}")]
+        yield "it is ready", run("podman", "exec", "broker", *READY, serving.address), (0, "")
+        gone = (1, "osb-broker: not ready 127.0.0.1:1\n")
+        yield "another address isn't", run("podman", "exec", "broker", *READY, "127.0.0.1:1", "--within", "1"), gone
     folder = run("podman", "volume", "inspect", "-f", "{{.Mountpoint}}", "records")[1].strip()
     kept = [os.stat(os.path.join(folder, name)) for name in ("broker.db", "broker.db-wal")]
     yield "its files", [(it.st_mode & 0o777, it.st_uid) for it in kept], [(0o600, USER)] * 2
@@ -136,11 +145,12 @@ def tries(program, folder):
         return
     settings = os.path.join(folder, "settings.json")
     shutil.copy(SETTINGS, settings)
-    os.chmod(settings, 0o644)
+    os.chown(settings, USER, USER)
+    os.chmod(settings, 0o600)
     yield "it is made", run(SCRIPT, program, NAME), (0, f"{NAME}\n")
     yield from configuration()
     checks = told("podman run").replace("localhost/osb-broker:VERSION", NAME)
-    yield "the settings are looked at", run("sh", "-c", checks, cwd=folder), (0, "services 1, plans 2\n" + MODES)
+    yield "the settings are looked at", run("sh", "-c", checks, cwd=folder), (0, "services 1, plans 2\n" + REMARKS)
     yield from serves(settings)
 
 
@@ -156,6 +166,8 @@ def main():
             with open(path, "w", encoding="utf-8") as file:
                 file.write(text.format(folder))
             os.environ[f"CONTAINERS_{'STORAGE_' if name == 'storage' else ''}CONF"] = path
+        # Health checks by themselves need systemd.
+        os.environ["DISABLE_HC_SYSTEMD"] = "true"
         try:
             return tell("imaged", tries(os.path.abspath(sys.argv[1]), folder))
         finally:

@@ -8,8 +8,10 @@ usage: tests/trials/mistakes.py PROGRAM
 
 import os
 import pathlib
+import shutil
 import subprocess
 import sys
+import tempfile
 
 sys.path.append(os.path.join(os.path.dirname(os.path.abspath(__file__)), "..", "lib"))
 
@@ -18,6 +20,7 @@ from serving import ROOT, tell
 FOLDER = pathlib.Path(ROOT) / "tests" / "trials" / "mistakes"
 GOOD = pathlib.Path(ROOT) / "examples" / "queues.json"
 ACCEPTED = "services 1, plans 2\n"
+OPEN = "every user may read or write it\n"
 
 
 def checked(program, *words):
@@ -31,19 +34,33 @@ def ends(said):
     return (0, said, "") if said.startswith(ACCEPTED) else (3, "", said)
 
 
-def tries(program):
+def copied(file, folder, mode=0o600):
+    """A copy of a file that only its owner may read, or with another mode."""
+    copy = pathlib.Path(shutil.copy(file, folder))
+    copy.chmod(mode)
+    return copy
+
+
+def tries_over(program, folder):
     files = sorted(FOLDER.glob("*.json"))
     yield "there are so many", len(files) >= 25, True
     for file in files:
         said = file.with_suffix(".said").read_text()
         first = said.partition("\n")[0] + "\n"
-        yield file.stem, checked(program, "--explain", file), ends(said)
+        yield file.stem, checked(program, "--explain", copied(file, folder)), ends(said)
         yield f"{file.stem}, without a word more", checked(program, file), ends(first)
     yield "no mistake", checked(program, GOOD), (0, ACCEPTED, "")
     modes = "plan queues-shared: instances synchronous, bindings synchronous\n"
     modes += "plan queues-own: instances asynchronous, bindings asynchronous\n"
     passwords = "".join(f"a password that is easily guessed: {login}\n" for login in ("platform", "backend"))
-    yield "no mistake but its passwords", checked(program, "--explain", GOOD), (0, ACCEPTED + modes + passwords, "")
+    for mode, more in [(0o600, ""), (0o640, ""), (0o660, ""), (0o604, OPEN), (0o602, OPEN), (0o644, OPEN), (0o666, OPEN)]:
+        found = checked(program, "--explain", copied(GOOD, folder, mode))
+        yield f"no mistake but its passwords, with mode {mode:o}", found, (0, ACCEPTED + modes + passwords + more, "")
+
+
+def tries(program):
+    with tempfile.TemporaryDirectory() as folder:
+        yield from tries_over(program, folder)
 
 
 if __name__ == "__main__":

@@ -47,6 +47,7 @@ until_it() {
     echo "not within half a minute: $*"
 }
 listens() { curl -s http://127.0.0.1:${1:-8080}/; }
+is_up() { listens && systemctl is-active -q osb-broker; }
 password_of() { sed -n "s/.*\"$1\", \"password\": \"\([0-9a-f]\{48\}\)\".*/\1/p" $settings; }
 state() { systemctl show -p ActiveState -p Result -p ExecMainStatus -p NRestarts osb-broker | sort | tr '\n' ' '; echo; }
 call() { curl -s -m 60 $trusting -u "platform:$password" -H 'X-Broker-API-Version: 2.17' -w ' %{http_code}\n' "$@"; }
@@ -83,7 +84,7 @@ stat -c '%a %U' $settings
 password=$(password_of platform) other=$(password_of backend)
 echo "$([ "$password" ] && [ "$password" != "$other" ] && echo two passwords)"
 osb-broker check $settings
-until_it listens; state
+until_it is_up; state
 call http://127.0.0.1:8080/v2/catalog
 
 echo '# behind nginx'
@@ -189,6 +190,18 @@ installs /root/later > /root/installed 2>&1 || cat /root/installed
 until_it listens; dpkg-query -W -f '${Version}\n' osb-broker
 write p | cmp - $settings && call $instance/a
 
+echo '# a restart that fails'
+write p | sed 's/, "bindable": true//' > $settings
+systemctl restart osb-broker 2> /dev/null; echo $?; until_it has_failed; state
+write p > $settings
+python3 -c 'import socket, time; one = socket.create_server(("127.0.0.1", 8080)); print(one, flush=True); time.sleep(600)' > /root/taken &
+taken() { [ -s /root/taken ]; }
+until_it taken
+systemctl restart osb-broker 2> /dev/null; echo $?
+journalctl -q --no-pager -u osb-broker -o cat | grep '^osb-broker: ' | sort -u
+kill $!
+until_it is_up; call $instance/a
+
 echo '# a plan in use is taken away'
 write q > $settings
 (
@@ -197,7 +210,7 @@ told: osb-broker check --explain --database
 before=$(process)
 systemctl reload-or-restart osb-broker 2> /dev/null; echo $?
 [ "$(process)" = "$before" ] && call $instance/a
-systemctl restart osb-broker; until_it has_failed; state
+systemctl restart osb-broker 2> /dev/null; echo $?; until_it has_failed; state
 journalctl -q --no-pager -u osb-broker -o cat | grep '^plan in use' | sort -u
 
 echo '# no settings'
@@ -285,10 +298,18 @@ its owner
 # upgraded
 9.9.9
 {"parameters":{},"plan_id":"p","service_id":"svc"} 200
+# a restart that fails
+1
+ActiveState=failed ExecMainStatus=3 NRestarts=0 Result=exit-code
+1
+osb-broker: cannot listen on 127.0.0.1:8080
+osb-broker: not ready 127.0.0.1:8080
+{"parameters":{},"plan_id":"p","service_id":"svc"} 200
 # a plan in use is taken away
 plan in use: svc p
 1
 {"parameters":{},"plan_id":"p","service_id":"svc"} 200
+1
 ActiveState=failed ExecMainStatus=4 NRestarts=0 Result=exit-code
 plan in use: svc p
 # no settings
@@ -303,11 +324,11 @@ osb-broker: the records are left in /var/lib/private/osb-broker
 # In another Debian, where the package is there when it boots.
 ELSEWHERE = COMMON + r"""
 echo '# booted'
-until_it listens; state
+until_it is_up; state
 
 echo '# restored'
 told: systemctl stop osb-broker
-until_it listens; state
+is_up > /dev/null; echo $?; state
 stat -c '%a %U' $settings
 password=$(password_of platform) instance=http://127.0.0.1:8080/v2/service_instances
 for each in a b c d; do call $instance/$each; done
@@ -377,6 +398,7 @@ EXPECTED_ELSEWHERE = """# booted
 ActiveState=active ExecMainStatus=0 NRestarts=0 Result=success
 # restored
 instances 5, bindings 0, running 0
+0
 ActiveState=active ExecMainStatus=0 NRestarts=0 Result=success
 600 root
 {"parameters":{},"plan_id":"p","service_id":"svc"} 200
@@ -585,7 +607,7 @@ def without_random_bytes(root):
 
 
 def tries(program, folder):
-    yield "the unit of a shard", settings_that_differ(), ["Description", "ExecReload", "ExecStart", "SocketBindAllow", "StateDirectory"]
+    yield "the unit of a shard", settings_that_differ(), ["Description", "Environment", "ExecReload", "ExecStart", "SocketBindAllow", "StateDirectory"]
     made = package(program, folder)
     yield "lintian", run("lintian", "--allow-root", made), (0, "")
     yield "what its pages lead to", list(lead_nowhere(made, folder)), []

@@ -319,7 +319,7 @@ SERVED = ["--settings", "FILE", "--database", "FILE", "--listen", "127.0.0.1:0"]
 
 
 def try_words(tries):
-    for words in [["--help"], ["check", "--help"], ["replay", "--help"], ["replay", "-h"], ["serve", "--help"]]:
+    for words in [["--help"], ["check", "--help"], ["ready", "--help"], ["replay", "--help"], ["replay", "-h"], ["serve", "--help"]]:
         ended = tries.run(words)
         is_help = b"osb-broker" in ended.stdout and len(ended.stdout) > 100
         helps = ended.returncode == 0 and is_help and not ended.stderr
@@ -468,6 +468,7 @@ def try_explain(tries, folder):
     def explain(name, content, status, output, errors):
         with open(path, "wb") as file:
             file.write(content)
+        os.chmod(path, 0o600)
         tries.expect(f"explain {name}", tries.run(["check", "--explain", path]), status, output, errors)
 
     for change, fault, place in PLACES:
@@ -477,7 +478,8 @@ def try_explain(tries, folder):
     explain("no object", b"[]", 3, b"", b"settings: 1 Text\nnot an object\n")
     modes = b"plan p-sync: instances synchronous, bindings synchronous\n"
     modes += b"plan p-async: instances asynchronous, bindings asynchronous\n"
-    explain("good settings", json.dumps(SETTINGS).encode(), 0, b"services 1, plans 2\n" + modes, b"")
+    passwords = b"a password that is easily guessed: platform\na password that is easily guessed: backend\n"
+    explain("good settings", json.dumps(SETTINGS).encode(), 0, b"services 1, plans 2\n" + modes + passwords, b"")
     os.remove(path)
     line = f"osb-broker: cannot read {path}\n".encode()
     tries.expect("explain a missing file", tries.run(["check", path, "--explain"]), 1, b"", line)

@@ -12,12 +12,12 @@ import os
 import subprocess
 import sys
 import tempfile
-from resource import RLIMIT_AS, RLIMIT_STACK, setrlimit
+from resource import RLIMIT_AS, RLIMIT_NOFILE, RLIMIT_STACK, getrlimit, setrlimit
 
 sys.path.append(os.path.join(os.path.dirname(os.path.abspath(__file__)), "..", "lib"))
 
-from conversations import ASYNC, B, BIND, CONTEXT_UPDATED, CONVERSATIONS, I, LATER, LEAVE, REFUSED_REPLY, SYNC
-from conversations import reply, request, with_parameters
+from conversations import ASYNC, B, BIND, CATALOG_REPLY, CONTEXT_UPDATED, CONVERSATIONS, GET_CATALOG, I, LATER, LEAVE
+from conversations import REFUSED_REPLY, SYNC, reply, request, with_parameters
 from serving import BEGUN_LINE, EXAMPLES, SETTINGS, Serving, new_database, settings_with_contexts, tell
 
 PLATFORM = {
@@ -231,7 +231,7 @@ def try_words(program, folder):
         yield f"a time limit of {seconds}", limited, (1, b"", b"osb-broker: cannot listen on nowhere\n")
     for number in ["0", "1025", "-1", "x", ""]:
         yield f"{number} together", ended(*files, *listen, "--together", number)[0], 2
-    for words in [["--together", "1024"], ["--together", "1", "--per-connection", "2"]]:
+    for words in [["--together", "64"], ["--together", "1", "--per-connection", "2"]]:
         found = ended(*files, "--listen", "nowhere", *words)
         yield f"{words}", found, (1, b"", b"osb-broker: cannot listen on nowhere\n")
     both = ended(*files, *listen, "--together", "2", "--per-connection", "2")
@@ -281,9 +281,23 @@ def try_stack(program, folder):
         serving.kill()
 
 
+def try_descriptors(program, folder):
+    """Who asks for more clients than there are descriptors for is told so, before anything is opened."""
+    _, hard = getrlimit(RLIMIT_NOFILE)
+    for number, most in [("1024", 128), ("1024", 1032), ("64", 72), ("1", 9)]:
+        path = new_database(folder)
+        serving = Serving(program, path, "--together", number, preexec_fn=lambda most=most: setrlimit(RLIMIT_NOFILE, (most, hard)))
+        line = f"osb-broker: too few descriptors: {int(number) + 9} needed, {most} allowed\n".encode()
+        yield f"{number} clients with {most} descriptors", serving.ended(), (1, b"", line)
+        yield f"{number} clients with {most} descriptors: the database", os.path.exists(path), False
+    for words, most in [(["--together", "1024"], 1033), (["--together", "64"], 73), ([], 64)]:
+        with Serving(program, new_database(folder), *words, preexec_fn=lambda most=most: setrlimit(RLIMIT_NOFILE, (most, hard))) as serving:
+            yield f"{words} with {most} descriptors", serving.sends(GET_CATALOG), CATALOG_REPLY
+
+
 def tries(program):
     with tempfile.TemporaryDirectory() as folder:
-        for trial in (try_life, try_conversations, try_contexts, try_sockets, try_words, try_stack):
+        for trial in (try_life, try_conversations, try_contexts, try_sockets, try_words, try_stack, try_descriptors):
             yield from trial(program, folder)
 
 

@@ -56,7 +56,7 @@ module _ (contents : Contents) (name database : List ℕ) (settings : SettingsDa
   }
 
   -- both were checked, and no plan is lacking
-  pub accepts : (explain : Bool) (old between new : List ℕ) (seen : Seen) → IsChecked contents name explain old between → IsLookedAt contents database between new
+  pub accepts : (explain : Bool) (old between new : List ℕ) (seen : Seen) → IsChecked contents name explain old between → IsLookedAt contents database explain between new
       → IsOfCopy contents database seen → OffersSeen (rules_of settings) seen → AreChecked contents explain (Some name) (Some database) old new
   accepts explain old between new seen checked looked copy offers = record {
     between = between;

@@ -5,14 +5,15 @@ use Rattle.std.proofs.lemmas.Slice.Eq.{bytes_eq-Decides}
 use Rattle.clap.specs.Words.{subcommand_of, takes}
 use Rattle.clap.proofs.OnLiterals.{clap_on_literals}
 use Rattle.osb_cli.specs.Done.{AreChecked, AreConnections, IsBackedUp, IsDone, IsReplayedBy, IsTrimmed}
-use Rattle.osb_listen.specs.Listen.{listening_line}
+use Rattle.osb_listen.specs.Listen.{IsAddress, listening_line}
 use Rattle.osb_cli.specs.Files.{AreBytesOfAll, Contents}
-use Rattle.osb_cli.specs.Inside.{IsReplayedFor, AsksBackup, AsksCheck, AsksReplay, AsksServe, AsksTrim}
+use Rattle.osb_cli.specs.Inside.{IsReplayedFor, AsksBackup, AsksCheck, AsksReady, AsksReplay, AsksServe, AsksTrim}
 use Rattle.osb_cli.specs.Grammar.{osb_broker}
 use Rattle.osb_cli.specs.Words.{FoundCommand, Names}
 use Rattle.osb_cli.specs.declared.words.Backup.{Backup}
 use Rattle.osb_cli.specs.declared.words.Check.{Check}
 use Rattle.osb_cli.specs.declared.words.Listen.{Listen}
+use Rattle.osb_cli.specs.declared.words.Ready.{Ready}
 use Rattle.osb_cli.specs.declared.words.Replay.{Replay}
 use Rattle.osb_cli.specs.declared.words.Trim.{Trim}
 
@@ -57,9 +58,10 @@ module _ (contents : Contents) (IsMade : List ℕ → List ℕ → Type 0) (foun
   is_backed_up asked asks done = record {
     backup = λ _. rw (asks.database, asks.to) at done;
     check = λ is. absurd (not_both found (codes "backup") (codes "check") refl asks.named is);
+    ready = λ is. absurd (not_both found (codes "backup") (codes "ready") refl asks.named is);
     serve = λ is. absurd (not_both found (codes "backup") (codes "serve") refl asks.named is);
     trim = λ is. absurd (not_both found (codes "backup") (codes "trim") refl asks.named is);
-    replay = λ other _ _ _. absurd (other asks.named);
+    replay = λ other _ _ _ _. absurd (other asks.named);
   }
 
   pub is_checked : (asked : Check) → AsksCheck found asked
@@ -68,9 +70,10 @@ module _ (contents : Contents) (IsMade : List ℕ → List ℕ → Type 0) (foun
   is_checked asked asks checked = record {
     backup = λ is. absurd (not_both found (codes "check") (codes "backup") refl asks.named is);
     check = λ _. (asked.explain, asks.explain, rw (asks.settings, asks.database) at checked);
+    ready = λ is. absurd (not_both found (codes "check") (codes "ready") refl asks.named is);
     serve = λ is. absurd (not_both found (codes "check") (codes "serve") refl asks.named is);
     trim = λ is. absurd (not_both found (codes "check") (codes "trim") refl asks.named is);
-    replay = λ _ other _ _. absurd (other asks.named);
+    replay = λ _ other _ _ _. absurd (other asks.named);
   }
 
   pub is_replayed : (asked : Replay) → AsksReplay found asked
@@ -79,9 +82,10 @@ module _ (contents : Contents) (IsMade : List ℕ → List ℕ → Type 0) (foun
   is_replayed asked asks replayed = record {
     backup = λ is. absurd (asks.no_backup is);
     check = λ is. absurd (asks.no_check is);
+    ready = λ is. absurd (asks.no_ready is);
     serve = λ is. absurd (asks.no_serve is);
     trim = λ is. absurd (asks.no_trim is);
-    replay = λ _ _ _ _. (asked.per_connection.number, asks.per_connection, rw (asks.settings, asks.connections) at replayed);
+    replay = λ _ _ _ _ _. (asked.per_connection.number, asks.per_connection, rw (asks.settings, asks.connections) at replayed);
   }
 
   pub is_listened : (asked : Listen) → AsksServe found asked → new ≡ old ++ listening_line asked.place.address.now
@@ -89,9 +93,20 @@ module _ (contents : Contents) (IsMade : List ℕ → List ℕ → Type 0) (foun
   is_listened asked asks told = record {
     backup = λ is. absurd (not_both found (codes "serve") (codes "backup") refl asks.named is);
     check = λ is. absurd (not_both found (codes "serve") (codes "check") refl asks.named is);
+    ready = λ is. absurd (not_both found (codes "serve") (codes "ready") refl asks.named is);
     serve = λ _. rw asks.address at told;
     trim = λ is. absurd (not_both found (codes "serve") (codes "trim") refl asks.named is);
-    replay = λ _ _ other _. absurd (other asks.named);
+    replay = λ _ _ _ other _. absurd (other asks.named);
+  }
+
+  pub is_answered : (asked : Ready) → AsksReady found asked → IsAddress asked.address.now → new ≡ old → IsDone contents IsMade found input old new
+  is_answered asked asks at same = record {
+    backup = λ is. absurd (not_both found (codes "ready") (codes "backup") refl asks.named is);
+    check = λ is. absurd (not_both found (codes "ready") (codes "check") refl asks.named is);
+    ready = λ _. (rw asks.address at at, same);
+    serve = λ is. absurd (not_both found (codes "ready") (codes "serve") refl asks.named is);
+    trim = λ is. absurd (not_both found (codes "ready") (codes "trim") refl asks.named is);
+    replay = λ _ _ other _ _. absurd (other asks.named);
   }
 
   pub is_trimmed : (asked : Trim) → AsksTrim found asked → IsTrimmed contents IsMade asked.database.now old new
@@ -99,9 +114,10 @@ module _ (contents : Contents) (IsMade : List ℕ → List ℕ → Type 0) (foun
   is_trimmed asked asks done = record {
     backup = λ is. absurd (not_both found (codes "trim") (codes "backup") refl asks.named is);
     check = λ is. absurd (not_both found (codes "trim") (codes "check") refl asks.named is);
+    ready = λ is. absurd (not_both found (codes "trim") (codes "ready") refl asks.named is);
     serve = λ is. absurd (not_both found (codes "trim") (codes "serve") refl asks.named is);
     trim = λ _. rw asks.database at done;
-    replay = λ _ _ _ other. absurd (other asks.named);
+    replay = λ _ _ _ _ other. absurd (other asks.named);
   }
 
   -- without words the input is replayed
@@ -110,5 +126,5 @@ module _ (contents : Contents) (IsMade : List ℕ → List ℕ → Type 0) (foun
     where
       plain : IsDone contents IsMade None input old new → IsReplayedBy contents None 1 [] input old new
       plain it =
-          let replay = it.replay (λ is. cc) (λ is. cc) (λ is. cc) (λ is. cc) in
+          let replay = it.replay (λ is. cc) (λ is. cc) (λ is. cc) (λ is. cc) (λ is. cc) in
           subst (λ most. IsReplayedBy contents None most [] input old new) replay.1 replay.2

@@ -1,22 +1,24 @@
 -- What a command that ends with status 0 has written.
-use Rattle.std.specs.Prelude.{◌≡◌, ⊤, Bool, true, false, ℕ, List, [], ◌∷◌, ◌+◌, ◌++◌, length, codes, decimal, Option, None, Some, IfSome, unwrap_or}
+use Rattle.std.specs.Prelude.{◌≡◌, ◌⊎◌, ⊤, Bool, true, false, ℕ, List, [], ◌∷◌, ◌++◌, length, codes, decimal, Option, None, Some, IfSome, unwrap_or}
 use Rattle.sqlite_trees.specs.Tree.{Trees}
 use Rattle.osb_catalog.specs.Rules.{rules_of}
 use Rattle.osb_catalog.specs.SettingsData.{SettingsData}
 use Rattle.osb_file.specs.declared.copied.Copied.{Copied}
 use Rattle.osb_file.specs.declared.seen.Seen.{Seen}
+use Rattle.osb_file.specs.declared.unseen.Unseen.{Unseen}
+use Rattle.osb_file.specs.Faults.{unseen_text}
 use Rattle.osb_file.specs.declared.seen.Seen.TheVariants.{New, Counted}
 use Rattle.osb_orders.specs.Lives.{Lives}
 use Rattle.osb_broker.specs.Plans.{OffersInUse}
 use Rattle.osb_file.specs.File.{AreLivesOf, HasNoTables, HasTrees}
-use Rattle.osb_file.specs.Looked.{IsSeenAs, image_in}
+use Rattle.osb_file.specs.Looked.{IsSeenAs, image_in, length_of}
 use Rattle.osb_file.specs.OneFile.{IsInOne}
 use Rattle.osb_file.specs.Trimmed.{IsTrimmedInOne}
 use Rattle.osb_audit.specs.declared.counting.Counts.{Counts}
 use Rattle.osb_cli.specs.Replay.{IsReplayed}
-use Rattle.osb_listen.specs.Listen.{listening_line}
+use Rattle.osb_listen.specs.Listen.{IsAddress, listening_line}
 use Rattle.osb_advice.specs.Remarks.{remarks_of}
-use Rattle.osb_cli.specs.Files.{AreBytesOf, AreBytesOfAll, Contents, IsCopyOf}
+use Rattle.osb_cli.specs.Files.{AreBytesOf, AreBytesOfAll, Contents, IsCopyOf, IsShared}
 use Rattle.osb_cli.specs.Settings.{AreOfFile, AreSettingsOf}
 use Rattle.osb_cli.specs.Words.{FoundCommand, HasExplain, HasPerConnection, Names, text_in, texts_in}
 
@@ -24,11 +26,18 @@ abbrev pub counts_line : ℕ → ℕ → List ℕ
 counts_line services plans =
     codes "services " ++ (decimal services ++ (codes ", plans " ++ (decimal plans ++ codes "\n")))
 
+-- the remark on a file that every user may read or write
+abbrev pub shared_line : Bool → List ℕ
+shared_line true = codes "every user may read or write it\n"
+shared_line false = []
+
 -- these are the remarks on a file that are asked for
 abbrev pub AreRemarks : Contents → List ℕ → Bool → List ℕ → Type 0
 AreRemarks contents name false remarks = remarks ≡ []
 AreRemarks contents name true remarks =
-    (text : List ℕ) × AreBytesOf contents name text × (remarks ≡ remarks_of text)
+    (text : List ℕ) × AreBytesOf contents name text
+    × (shared : Bool) × IsShared contents name shared
+    × (remarks ≡ remarks_of text ++ shared_line shared)
 
 -- the line of the settings of a file was written, and the remarks on it
 pub record IsChecked (contents : Contents) (name : List ℕ) (explain : Bool)
@@ -50,13 +59,24 @@ abbrev pub database_line : Seen → List ℕ
 database_line New = codes "new\n"
 database_line (Counted counts plans) = counted_line counts
 
+abbrev pub refused_line : Unseen → List ℕ
+refused_line cause = codes "a start is refused: " ++ (unseen_text cause ++ codes "\n")
+
+-- behind that of a file that can be read it may be said why a start refuses it, if it is explained
+abbrev pub IsNote : Bool → List ℕ → Type 0
+IsNote false note = note ≡ []
+IsNote true note = (note ≡ []) ⊎ ((cause : Unseen) × (note ≡ refused_line cause))
+
 -- the line of a database file was written, by what any database has that is in it and its log
-pub record IsLookedAt (contents : Contents) (name old new : List ℕ) : Type 0 where
+pub record IsLookedAt (contents : Contents) (name : List ℕ) (explain : Bool)
+    (old new : List ℕ) : Type 0 where
   pub files : Copied
   pub copy : IsCopyOf contents name files
   pub seen : Seen
   pub is : (db : Trees) → HasTrees (image_in files) db → IsSeenAs db seen
-  pub written : new ≡ old ++ database_line seen
+  pub note : List ℕ
+  pub noted : IsNote explain note
+  pub written : new ≡ old ++ (database_line seen ++ note)
 
 -- One file was made of a database file and its log, and needs none. It has their database, and its line was written.
 pub record IsBackedUp (contents : Contents) (IsMade : List ℕ → List ℕ → Type 0)
@@ -74,9 +94,9 @@ abbrev pub AreSettingsChecked : Contents → Bool → Option (List ℕ) → List
 AreSettingsChecked contents explain None old new = new ≡ old
 AreSettingsChecked contents explain (Some name) old new = IsChecked contents name explain old new
 
-abbrev pub IsDatabaseChecked : Contents → Option (List ℕ) → List ℕ → List ℕ → Type 0
-IsDatabaseChecked contents None old new = new ≡ old
-IsDatabaseChecked contents (Some name) old new = IsLookedAt contents name old new
+abbrev pub IsDatabaseChecked : Contents → Bool → Option (List ℕ) → List ℕ → List ℕ → Type 0
+IsDatabaseChecked contents explain None old new = new ≡ old
+IsDatabaseChecked contents explain (Some name) old new = IsLookedAt contents name explain old new
 
 -- The settings of a file have each plan that the database of another file has in use, unless that has no tables.
 pub record HasItsPlans (contents : Contents) (name database : List ℕ) : Type 0 where
@@ -98,7 +118,7 @@ pub record AreChecked (contents : Contents) (explain : Bool) (settings database 
     (old new : List ℕ) : Type 0 where
   pub between : List ℕ
   pub settings_checked : AreSettingsChecked contents explain settings old between
-  pub database_checked : IsDatabaseChecked contents database between new
+  pub database_checked : IsDatabaseChecked contents explain database between new
   pub accepted : AreAccepted contents settings database
 
 -- each of these files is a connection; without any, all of the input is one, as far as it is known
@@ -132,11 +152,10 @@ pub record IsTrimmed (contents : Contents) (IsMade : List ℕ → List ℕ → T
   pub made : IsMade name bytes
   pub trimmed : IsTrimmedInOne (image_in files) bytes
   pub count : ℕ
-  pub written : new ≡ old ++ trimmed_line count
-      (length files.database.items + length files.log.items) (length bytes)
+  pub written : new ≡ old ++ trimmed_line count (length_of files) (length bytes)
 
 -- what `backup` has made and written, what `check` has written, what `serve`, what `trim` has made and written, and what
--- `replay` has written, also without its name
+-- `replay` has written, also without its name; `ready` was given an address, and has written nothing
 pub record IsDone (contents : Contents) (IsMade : List ℕ → List ℕ → Type 0) (found : FoundCommand)
     (input : Option (List ℕ)) (old new : List ℕ) : Type 0 where
   pub backup : Names (codes "backup") found → IsBackedUp contents IsMade
@@ -145,12 +164,14 @@ pub record IsDone (contents : Contents) (IsMade : List ℕ → List ℕ → Type
   pub check : Names (codes "check") found → (explain : Bool) × HasExplain found explain
       × AreChecked contents explain (text_in (codes "settings") found)
       (text_in (codes "database") found) old new
+  pub ready : Names (codes "ready") found →
+      IsAddress (unwrap_or (text_in (codes "address") found) []) × (new ≡ old)
   pub serve : Names (codes "serve") found →
       new ≡ old ++ listening_line (unwrap_or (text_in (codes "listen") found) [])
   pub trim : Names (codes "trim") found →
       IsTrimmed contents IsMade (unwrap_or (text_in (codes "database") found) []) old new
   pub replay : ¬ Names (codes "backup") found → ¬ Names (codes "check") found →
-      ¬ Names (codes "serve") found
+      ¬ Names (codes "ready") found → ¬ Names (codes "serve") found
       → ¬ Names (codes "trim") found → (most : ℕ) × HasPerConnection found most
       × IsReplayedBy contents (text_in (codes "settings") found) most
       (texts_in (codes "connections") found) input old new

@@ -49,6 +49,11 @@ abbrev pub check_command : App
 check_command = with_rule (with_rule (with_rule (new_app (codes "check"))
     settings_word) (flag_option (codes "explain"))) (text_option (codes "database"))
 
+abbrev pub ready_command : App
+ready_command = with_rule (with_rule (with_rule (new_app (codes "ready"))
+    (required_word (codes "address"))) (number_option (codes "within") 86400))
+    (number_option (codes "pid") 4194304)
+
 abbrev pub replay_command : App
 replay_command = with_rule (with_rule (with_rule (new_app (codes "replay"))
     (text_option (codes "settings"))) per_connection_option) files_word
@@ -56,12 +61,12 @@ replay_command = with_rule (with_rule (with_rule (new_app (codes "replay"))
 abbrev pub serve_command : App
 serve_command =
     with_rule (with_rule (with_rule (with_rule (with_rule (with_rule (with_rule (with_rule
-    (new_app (codes "serve"))
+    (with_rule (new_app (codes "serve"))
     (required_option (codes "settings"))) (required_option (codes "database")))
     (flag_option (codes "existing")))
     (required_option (codes "listen"))) per_connection_option)
     (number_option (codes "connections") 1000000)) (number_option (codes "time-limit") 86400))
-    (number_option (codes "together") 1024)
+    (number_option (codes "together") 1024)) (flag_option (codes "explain"))
 
 abbrev pub trim_command : App
 trim_command = with_rule (new_app (codes "trim")) (required_word (codes "database"))
@@ -69,11 +74,11 @@ trim_command = with_rule (new_app (codes "trim")) (required_word (codes "databas
 -- the words come without the program's name, and `help` is no command
 abbrev pub osb_broker : App
 osb_broker = with_subcommand (with_subcommand (with_subcommand (with_subcommand (with_subcommand
-    (on_top (λ s. record s {
+    (with_subcommand (on_top (λ s. record s {
       no_binary_name = true;
       disable_help_subcommand = true;
       has_version = true;
     })
     (new_app (codes "osb-broker")))
-    backup_command.top) check_command.top) replay_command.top) serve_command.top)
-    trim_command.top
+    backup_command.top) check_command.top) ready_command.top) replay_command.top)
+    serve_command.top) trim_command.top

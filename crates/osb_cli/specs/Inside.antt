@@ -1,9 +1,12 @@
 -- What the words ask for, and what was done of it. For contracts inside the crate.
-use Rattle.std.specs.Prelude.{ℕ, List, length, map, Option, None, Some, option_map, ◌≡◌, ⊤, ◌+◌, ◌*◌, [], codes, string_bytes, unwrap_or}
+use Rattle.std.specs.Prelude.{ℕ, List, map, Option, None, Some, option_map, ◌≡◌, ⊤, ◌*◌, [], codes, string_bytes, unwrap_or}
 use Rattle.osb_cli.specs.declared.words.Replay.{Replay}
 use Rattle.osb_file.specs.declared.copied.Copied.{Copied}
+use Rattle.osb_file.specs.declared.fault.FileFault.{FileFault}
+use Rattle.osb_file.specs.declared.fault.FileFault.TheVariants.{NotOurs, Refused}
+use Rattle.osb_file.specs.Faults.{unseen_fault_of}
 use Rattle.osb_file.specs.File.{HasTrees}
-use Rattle.osb_file.specs.Looked.{IsSeenAs, image_in}
+use Rattle.osb_file.specs.Looked.{IsSeenAs, image_in, length_of}
 use Rattle.osb_file.specs.Trimmed.{IsTrimmedInOne}
 use Rattle.osb_cli.specs.declared.trim.Trimmed.{Trimmed}
 use Rattle.osb_cli.specs.Files.{Contents, IsCopyOf}
@@ -29,6 +32,7 @@ use Rattle.clap.specs.declared.parser.matches.ArgMatches.{ArgMatches}
 use Rattle.osb_cli.specs.declared.words.Backup.{Backup}
 use Rattle.osb_cli.specs.declared.words.Check.{Check}
 use Rattle.osb_cli.specs.declared.words.Listen.{Listen}
+use Rattle.osb_cli.specs.declared.words.Ready.{Ready}
 use Rattle.osb_cli.specs.declared.words.Trim.{Trim}
 use Rattle.osb_cli.specs.declared.words.Job.{Job}
 use Rattle.osb_cli.specs.declared.words.Job.TheVariants as order
@@ -74,6 +78,19 @@ NameOne (listen.PlanInUse service plan) (PlanInUse found named) = (found ≡ ser
 NameOne fault (PlanInUse found named) = ⊥
 NameOne fault (Fault other) = ⊤
 
+-- it is this fault of a database, maybe with a cause
+abbrev pub IsFaultOf : FileFault → faults.Fault → Type 0
+IsFaultOf of (fault.Database found) = found ≡ of
+IsFaultOf of (fault.Unseen cause) = unseen_fault_of cause ≡ of
+IsFaultOf of (fault.Differs difference) = of ≡ NotOurs
+IsFaultOf of _ = ⊥
+
+-- a fault of a database stays that; a file that was taken away is refused
+abbrev pub KeepsDatabase : ListenFault → Unserved → Type 0
+KeepsDatabase (listen.Database found) (Fault other) = IsFaultOf found other
+KeepsDatabase listen.FileTaken (Fault other) = IsFaultOf Refused other
+KeepsDatabase _ told = ⊤
+
 -- the fault names a plan
 abbrev pub IsPlan : Unserved → Type 0
 IsPlan (PlanInUse service plan) = ⊤
@@ -92,6 +109,7 @@ HasTimeLimit found = HasNumber 86400 10 (one_text_in (codes "time-limit") found)
 pub record AsksReplay (found : FoundCommand) (asked : Replay) : Type 0 where
   pub no_backup : ¬ Names (codes "backup") found
   pub no_check : ¬ Names (codes "check") found
+  pub no_ready : ¬ Names (codes "ready") found
   pub no_serve : ¬ Names (codes "serve") found
   pub no_trim : ¬ Names (codes "trim") found
   pub settings : option_map (λ it. it.now) asked.settings ≡ text_in (codes "settings") found
@@ -111,6 +129,8 @@ pub record AsksServe (found : FoundCommand) (asked : Listen) : Type 0 where
   pub time_limit : as_nanos asked.place.time_limit ≡ seconds * 1000000000
   pub limit : HasTimeLimit found seconds
   pub together : HasTogether found asked.per_connection.number asked.place.together
+  pub explain : HasExplain found asked.explain
+  pub wanted : HasNumber 1024 0 (one_text_in (codes "together") found) (unwrap_or asked.wanted 0)
 
 pub record AsksCheck (found : FoundCommand) (asked : Check) : Type 0 where
   pub named : Names (codes "check") found
@@ -123,6 +143,15 @@ pub record AsksBackup (found : FoundCommand) (asked : Backup) : Type 0 where
   pub database : asked.database.now ≡ unwrap_or (text_in (codes "database") found) []
   pub to : asked.to.now ≡ unwrap_or (text_in (codes "to") found) []
 
+-- without a number of seconds it is 10, and without one of a process none, or 0, which no process has
+pub record AsksReady (found : FoundCommand) (asked : Ready) : Type 0 where
+  pub named : Names (codes "ready") found
+  pub address : asked.address.now ≡ unwrap_or (text_in (codes "address") found) []
+  pub seconds : ℕ
+  pub within : as_nanos asked.within ≡ seconds * 1000000000
+  pub limit : HasNumber 86400 10 (one_text_in (codes "within") found) seconds
+  pub process : HasNumber 4194304 0 (one_text_in (codes "pid") found) (unwrap_or asked.process 0)
+
 pub record AsksTrim (found : FoundCommand) (asked : Trim) : Type 0 where
   pub named : Names (codes "trim") found
   pub database : asked.database.now ≡ unwrap_or (text_in (codes "database") found) []
@@ -132,12 +161,13 @@ pub record IsTrimmedOf (contents : Contents) (name : List ℕ) (trimmed : Trimme
   pub files : Copied
   pub copy : IsCopyOf contents name files
   pub is : IsTrimmedInOne (image_in files) trimmed.file.bytes.items
-  pub before : trimmed.before ≡ length files.database.items + length files.log.items
+  pub before : trimmed.before ≡ length_of files
 
 -- the order is what the words ask for
 abbrev pub Asks : FoundCommand → Job → Type 0
 Asks found (order.Backup asked) = AsksBackup found asked
 Asks found (order.Check asked) = AsksCheck found asked
+Asks found (order.Ready asked) = AsksReady found asked
 Asks found (order.Replay asked) = AsksReplay found asked
 Asks found (order.Serve asked) = AsksServe found asked
 Asks found (order.Trim asked) = AsksTrim found asked
@@ -152,6 +182,10 @@ IsOther _ = ⊤
 abbrev pub IsOtherUnserved : Unserved → Type 0
 IsOtherUnserved (Fault other) = IsOther other
 IsOtherUnserved (PlanInUse service plan) = ⊤
+
+-- what the command says of a fault of serving: the same plan or none, no fault of settings, and the same of a database
+abbrev pub IsSaidOf : ListenFault → Unserved → Type 0
+IsSaidOf fault told = NameOne fault told × IsOtherUnserved told × KeepsDatabase fault told
 
 -- the same fault of settings, at its place where one was found, or with the reason why there is no object
 abbrev pub IsPlacedBy : (List ℕ → Type 0) → SettingsFault → faults.Fault → Type 0

@@ -15,6 +15,10 @@ use Rattle.osb_file.specs.declared.fault.FileFault.TheVariants as file
 use Rattle.osb_file.specs.declared.unseen.Unseen.{Unseen}
 use Rattle.osb_file.specs.declared.unseen.Unseen.TheVariants as unseen
 use Rattle.osb_file.specs.Faults.{unseen_fault_of, unseen_text}
+use Rattle.osb_file.specs.declared.difference.Difference.{Difference}
+use Rattle.osb_file.specs.declared.difference.Difference.TheVariants as differs
+use Rattle.osb_listen.specs.declared.unbound.Unbound.{Unbound}
+use Rattle.osb_listen.specs.Listen.{unbound_text}
 use Rattle.osb_cli.specs.declared.fault.Fault.{Fault}
 use Rattle.osb_cli.specs.declared.fault.Fault.TheVariants as the
 use Rattle.osb_cli.specs.declared.fault.Unserved.{Unserved}
@@ -57,6 +61,30 @@ unseen_lines unseen.NotOurs = database_fault_line file.NotOurs ∷ []
 unseen_lines cause = database_fault_line (unseen_fault_of cause)
     ∷ concat (unseen_text cause ∷ codes "\n" ∷ []) ∷ []
 
+-- in what a database differs from one of this broker
+abbrev pub difference_line : Difference → List ℕ
+difference_line differs.Tables = concat (codes "the tables of another program\n" ∷ [])
+difference_line (differs.Newer version) =
+    concat (codes "version " ∷ decimal version ∷ codes ": newer\n" ∷ [])
+difference_line (differs.TableMore name) =
+    concat (codes "a table more: " ∷ shown (string_bytes name) ∷ codes "\n" ∷ [])
+difference_line (differs.IndexMore name) =
+    concat (codes "an index more: " ∷ shown (string_bytes name) ∷ codes "\n" ∷ [])
+difference_line (differs.ViewMore name) =
+    concat (codes "a view more: " ∷ shown (string_bytes name) ∷ codes "\n" ∷ [])
+difference_line differs.Rows = concat (codes "rows that don't fit\n" ∷ [])
+
+-- connections can't be taken at an address, and why
+abbrev pub unbound_lines : List ℕ → Unbound → List (List ℕ)
+unbound_lines address cause =
+    concat (codes "osb-broker: cannot listen on " ∷ address ∷ codes "\n" ∷ [])
+    ∷ concat (unbound_text cause ∷ codes "\n" ∷ []) ∷ []
+
+-- how many descriptors are needed, and how many allowed
+abbrev pub descriptors_line : ℕ → ℕ → List ℕ
+descriptors_line needed allowed = concat (codes "osb-broker: too few descriptors: " ∷ decimal needed
+    ∷ codes " needed, " ∷ decimal allowed ∷ codes " allowed\n" ∷ [])
+
 -- those of a fault; the text for words that aren't those of a command is clap's
 abbrev pub fault_lines : Fault → List (List ℕ)
 fault_lines (the.CannotRead name) =
@@ -68,7 +96,13 @@ fault_lines (the.Database fault) = database_fault_line fault ∷ []
 fault_lines the.CannotWrite = concat (codes "osb-broker: cannot write\n" ∷ []) ∷ []
 fault_lines (the.CannotListen address) =
     concat (codes "osb-broker: cannot listen on " ∷ address.now ∷ codes "\n" ∷ []) ∷ []
+fault_lines (the.Unbound address cause) = unbound_lines address.now cause
 fault_lines the.CannotAccept = concat (codes "osb-broker: cannot accept\n" ∷ []) ∷ []
+fault_lines (the.NoAddress text) =
+    concat (codes "osb-broker: no address " ∷ text.now ∷ codes "\n" ∷ []) ∷ []
+fault_lines (the.NotReady address) =
+    concat (codes "osb-broker: not ready " ∷ address.now ∷ codes "\n" ∷ []) ∷ []
+fault_lines (the.TooFewDescriptors needed allowed) = descriptors_line needed allowed ∷ []
 fault_lines (the.Words text) = concat (string_bytes text ∷ []) ∷ []
 fault_lines (the.Settings fault) = settings_line fault (field_in fault) ∷ []
 fault_lines (the.Placed fault at) =
@@ -76,6 +110,8 @@ fault_lines (the.Placed fault at) =
 fault_lines (the.Unreadable reason) =
     settings_line a.Text None ∷ concat (string_bytes reason ∷ codes "\n" ∷ []) ∷ []
 fault_lines (the.Unseen cause) = unseen_lines cause
+fault_lines (the.Differs difference) =
+    database_fault_line file.NotOurs ∷ difference_line difference ∷ []
 fault_lines (the.IsThere name) =
     concat (codes "osb-broker: already there " ∷ name.now ∷ codes "\n" ∷ []) ∷ []
 fault_lines (the.DraftIsThere name) =

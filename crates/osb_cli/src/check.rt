@@ -1,15 +1,16 @@
 //! `check`: whether a settings file is accepted, what a database file has, and whether a start with
 //! both lacks a plan.
 
-ghost use Rattle.std.specs.Prelude.{◌≡◌, ◌++◌, ℕ, List, true, IfErr, IfOk, OnOk, Some, decimal, length, option_map};
+ghost use Rattle.std.specs.Prelude.{◌≡◌, ◌++◌, ℕ, Bool, List, true, IfErr, IfOk, OnOk, Some, decimal, length, option_map};
 ghost use Rattle.osb_advice.specs.Remarks.{remarks_of};
 ghost use Rattle.osb_catalog.specs.Rules.{rules_of};
-ghost use Rattle.osb_cli.specs.Done.{AreChecked, IsChecked, IsLookedAt, counted_line, counts_line, database_line};
-ghost use Rattle.osb_cli.specs.Files.{AreBytesOf};
+ghost use Rattle.osb_cli.specs.Done.{AreChecked, IsChecked, IsLookedAt, IsNote, counted_line, counts_line, database_line, refused_line, shared_line};
+ghost use Rattle.osb_cli.specs.Files.{AreBytesOf, IsShared};
 ghost use Rattle.osb_cli.specs.Inside.{FindsInUse, IsOfCopy, IsOther, IsPlacedBy, LacksSeen, OffersSeen};
 ghost use Rattle.osb_cli.specs.Reported.{IsOfText, IsTextOf, IsUnservedOf};
 ghost use Rattle.osb_cli.specs.Settings.{AreOfFile};
 
+use crate::explaining::differs;
 use crate::fault::{Fault, Unserved};
 use crate::files::NamedFiles;
 use crate::input::read_file;
@@ -21,7 +22,7 @@ use osb_advice::{remarks, unreadable};
 use osb_audit::Counts;
 use osb_broker::first_lacking;
 use osb_catalog::{Settings, SettingsFault, place_of};
-use osb_file::Seen;
+use osb_file::{Seen, Unseen};
 use osb_frames::Sink;
 use std::alloc::Global;
 
@@ -124,7 +125,7 @@ fn with_reason(alloc: Global, text: &[u8]) -> Fault<'static>
 }
 
 /// The fault of the file, with its place or its reason. The file is read again.
-fn placed<'a, F: NamedFiles>(
+pub(crate) fn placed<'a, F: NamedFiles>(
     alloc: Global,
     files: &F,
     name: &'a str,
@@ -142,6 +143,30 @@ fn placed<'a, F: NamedFiles>(
     }
 }
 
+/// The remark on a file that every user may read or write.
+fn shared_line(shared: bool) -> &'static [u8]
+    ensures { result.now ≡ shared_line shared }
+{
+    if shared {
+        b"every user may read or write it\n"
+    } else {
+        b""
+    }
+}
+
+/// Prints whether every user may read or write a file.
+fn write_shared<F: NamedFiles, W: Sink>(
+    files: &F,
+    name: &str,
+    output: &mut W,
+) -> Result<(), Fault<'static>>
+    ensures written { OnOk result ((shared : Bool) × IsShared (F.contents files.now) name.now shared
+        × (W.taken output.new ≡ W.taken output.old ++ shared_line shared)) }
+    ensures other { IfErr result IsOther }
+{
+    write(output, shared_line(files.is_shared(name)))
+}
+
 /// Prints the remarks on a settings file. The file is read again.
 fn write_remarks<'a, F: NamedFiles, W: Sink>(
     alloc: Global,
@@ -151,12 +176,14 @@ fn write_remarks<'a, F: NamedFiles, W: Sink>(
 ) -> Result<(), Fault<'a>>
     ensures written { OnOk result ((text : List ℕ)
         × AreBytesOf (F.contents files.now) name.entry.now text
-        × (W.taken output.new ≡ W.taken output.old ++ remarks_of text)) }
+        × (shared : Bool) × IsShared (F.contents files.now) name.entry.now shared
+        × (W.taken output.new ≡ W.taken output.old ++ (remarks_of text ++ shared_line shared))) }
     ensures other { IfErr result IsOther }
 {
     let text = read_file(alloc, files, name)?;
     let remarks = remarks(alloc, text.as_slice())?;
-    write(output, remarks.as_bytes())
+    write(output, remarks.as_bytes())?;
+    write_shared(files, name, output)
 }
 
 /// Checks a settings file, and says more of it than whether it is accepted.
@@ -201,21 +228,57 @@ fn check_settings<'a, F: NamedFiles, W: Sink>(
     }
 }
 
+/// Prints why a start refuses a file that can be read, if that is explained.
+fn write_note<F: NamedFiles, W: Sink>(
+    files: &F,
+    path: &str,
+    explain: bool,
+    output: &mut W,
+) -> Result<(), Fault<'static>>
+    ensures written { OnOk result ((note : List ℕ) × IsNote explain note
+        × (W.taken output.new ≡ W.taken output.old ++ note)) }
+    ensures other { IfErr result IsOther }
+{
+    if !explain {
+        return Ok(());
+    }
+    match files.check_mode(path) {
+        Ok(()) => Ok(()),
+        Err(cause) => write_refused(cause, output),
+    }
+}
+
+fn write_refused<W: Sink>(cause: Unseen, output: &mut W) -> Result<(), Fault<'static>>
+    ensures written { OnOk result (W.taken output.new
+        ≡ W.taken output.old ++ refused_line cause) }
+    ensures other { IfErr result IsOther }
+{
+    write(output, b"a start is refused: ")?;
+    write(output, cause.text().as_bytes())?;
+    write(output, b"\n")
+}
+
 /// Prints what the database of a file has, and gives it.
 fn look_at<'a, F: NamedFiles, W: Sink>(
     alloc: Global,
     files: &F,
     path: &str,
+    explain: bool,
     output: &mut W,
 ) -> Result<Seen, Fault<'a>>
-    ensures looked { OnOk result (IsLookedAt (F.contents files.now) path.now
+    ensures looked { OnOk result (IsLookedAt (F.contents files.now) path.now explain
         (W.taken output.old) (W.taken output.new)) }
     ensures seen { IfOk result (IsOfCopy (F.contents files.now) path.now) }
     ensures other { IfErr result IsOther }
 {
     let copied = files.read_database(path)?;
-    let seen = copied.look(alloc)?;
+    let seen = match copied.look(alloc) {
+        Ok(seen) => seen,
+        Err(Unseen::NotOurs) => return Err(differs(alloc, &copied)),
+        Err(unseen) => return Err(Fault::Unseen(unseen)),
+    };
     write_database(&seen, output)?;
+    write_note(files, path, explain, output)?;
     Ok(seen)
 }
 
@@ -250,7 +313,7 @@ fn check_both<'a, F: NamedFiles, W: Sink>(
         (AreBytesOf (F.contents files.now) name.entry.now)) }
 {
     let settings = check_settings(alloc, files, name, explain, output)?;
-    let seen = look_at(alloc, files, path, output)?;
+    let seen = look_at(alloc, files, path, explain, output)?;
     check_plans(&settings, seen)
 }
 
@@ -290,7 +353,7 @@ pub(crate) fn check<'a, F: NamedFiles, W: Sink>(
             Ok(())
         }
         (None, Some(path)) => {
-            look_at(alloc, files, path, output)?;
+            look_at(alloc, files, path, asked.explain, output)?;
             Ok(())
         }
         (Some(name), Some(path)) => { check_both(alloc, files, name, asked.explain, path, output) }

@@ -21,6 +21,7 @@ use crate::fault::{Fault, Unserved};
 use crate::files::NamedFiles;
 use crate::listen::listen;
 use crate::output::write;
+use crate::ready::ready;
 use crate::replay::{replay_files, replay_input};
 use crate::settings::settings_or_built_in;
 use crate::trim::trim;
@@ -138,6 +139,7 @@ fn perform<'a, D: Database, F: NamedFiles, L: Entrance, R: Source, W: Sink, E: S
     match order {
         Job::Backup(asked) => without_file::<D>(backup(rt.alloc(), files, &asked, output)),
         Job::Check(asked) => (check(rt.alloc(), files, &asked, output), None),
+        Job::Ready(asked) => without_file::<D>(ready(rt, &asked)),
         Job::Replay(asked) => without_file::<D>(replay(rt.alloc(), files, &asked, input, output)),
         Job::Trim(asked) => without_file::<D>(trim(rt.alloc(), files, &asked, output)),
         Job::Serve(asked) => listen(rt, files, &asked, database, entrance, output, errors),
@@ -167,7 +169,7 @@ fn status_of<E: Sink>(done: Result<(), Unserved<'_>>, errors: &mut E) -> u8
 ///
 /// The status is 0 where all went well or help or the version was asked for, 1 where a file, memory or
 /// standard output failed, a file that is to be made is there already, the database can't be used or its file is taken away, the address can't be
-/// listened at or a connection can't be taken, 2 where the words aren't those of a command, 3 where
+/// listened at, a connection can't be taken or nobody answers in time, 2 where the words aren't those of a command, 3 where
 /// settings aren't accepted, and 4 where the catalog lacks a plan that the database has in use. A status
 /// other than 0 has its line on `errors`, behind all that `serve` wrote there; a failed write there is
 /// passed over. While `serve` goes on, a fault of a connection is a line there, and the next connection
@@ -175,7 +177,7 @@ fn status_of<E: Sink>(done: Result<(), Unserved<'_>>, errors: &mut E) -> u8
 ///
 /// Where the words are those of a command, so no help was asked for, what was written with status 0 is
 /// the lines of `check`, the line of `backup` or `trim`, which made its file before, the listening line of
-/// `serve`, or exactly the replies of `replay`. Without any words it replays the whole input with the built-in
+/// `serve`, or exactly the replies of `replay`; `ready` writes nothing. Without any words it replays the whole input with the built-in
 /// settings, one request.
 ///
 /// `files` are the files that the words name, but for the database of `serve`, which is `database`: what

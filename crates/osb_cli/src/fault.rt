@@ -3,14 +3,14 @@
 ghost use Rattle.std.specs.Prelude.{◌≡◌, ◌≤◌, ◌∷◌, []};
 ghost use Rattle.osb_catalog.specs.FaultNames.{field_in};
 ghost use Rattle.osb_listen.specs.Lines.{Says};
-ghost use Rattle.osb_cli.specs.Lines.{database_fault_line, place_line, settings_line, unseen_lines};
+ghost use Rattle.osb_cli.specs.Lines.{database_fault_line, descriptors_line, difference_line, place_line, settings_line, unbound_lines, unseen_lines};
 
 use itoa::Buffer;
 use osb_advice::{shown, wanted};
 use osb_catalog::{Place, SettingsFault};
-use osb_file::{FileFault, Unseen};
+use osb_file::{Difference, FileFault, Unseen};
 use osb_frames::Sink;
-use osb_listen::say;
+use osb_listen::{Unbound, say};
 use osb_records::StoreFault;
 use osb_text::Text;
 use std::alloc::AllocError;
@@ -30,8 +30,16 @@ pub(crate) enum Fault<'a> {
     CannotWrite,
     /// Connections can't be taken at that address.
     CannotListen(&'a str),
+    /// The same, and why.
+    Unbound(&'a str, Unbound),
     /// The next connection can't be taken.
     CannotAccept,
+    /// That isn't an address.
+    NoAddress(&'a str),
+    /// The program doesn't answer at that address.
+    NotReady(&'a str),
+    /// So many descriptors are needed, and only so many allowed.
+    TooFewDescriptors(usize, usize),
     /// The words aren't those of a command, as this text says.
     Words(String),
     /// The settings aren't accepted.
@@ -40,8 +48,10 @@ pub(crate) enum Fault<'a> {
     Placed(SettingsFault, Place),
     /// The settings have no object, for this reason.
     Unreadable(String),
-    /// The database file can't be looked at.
+    /// The database file can't be looked at, or served from.
     Unseen(Unseen),
+    /// The database isn't one of this broker, and differs in this.
+    Differs(Difference),
     /// The file of that name, which is to be made, is there already.
     IsThere(&'a str),
     /// The same of its name with `-new` behind.
@@ -168,6 +178,38 @@ fn print_unseen<E: Sink>(unseen: Unseen, errors: &mut E)
     }
 }
 
+/// Writes in what a database differs from one of this broker.
+fn print_difference<E: Sink>(difference: &Difference, errors: &mut E)
+    ensures { Says (difference_line difference.now ∷ [])
+        (E.taken errors.old) (E.taken errors.new)
+        (E.failed_or_empty errors.old) (E.failed_or_empty errors.new) }
+{
+    let mut digits = Buffer::new();
+    match difference {
+        Difference::Tables => say(errors, &["the tables of another program\n"]),
+        Difference::Newer(version) => {
+            say(errors, &["version ", digits.format(*version), ": newer\n"]);
+        }
+        Difference::TableMore(name) => say(errors, &["a table more: ", shown(name.as_str()), "\n"]),
+        Difference::IndexMore(name) => say(
+            errors,
+            &["an index more: ", shown(name.as_str()), "\n"],
+        ),
+        Difference::ViewMore(name) => say(errors, &["a view more: ", shown(name.as_str()), "\n"]),
+        Difference::Rows => say(errors, &["rows that don't fit\n"]),
+    }
+}
+
+/// Writes that connections can't be taken at an address, and why.
+fn print_unbound<E: Sink>(address: &str, cause: Unbound, errors: &mut E)
+    ensures { Says (unbound_lines address.now cause)
+        (E.taken errors.old) (E.taken errors.new)
+        (E.failed_or_empty errors.old) (E.failed_or_empty errors.new) }
+{
+    say(errors, &["osb-broker: cannot listen on ", address, "\n"]);
+    say(errors, &[cause.text(), "\n"]);
+}
+
 /// Writes the line of a fault of the database: its number and its name.
 fn print_database_fault<E: Sink>(fault: FileFault, errors: &mut E)
     ensures { Says (database_fault_line fault ∷ [])
@@ -179,6 +221,25 @@ fn print_database_fault<E: Sink>(fault: FileFault, errors: &mut E)
         FileFault::NotOurs => say(errors, &["database: 2 NotOurs\n"]),
         FileFault::Missing => say(errors, &["database: 3 Missing\n"]),
     }
+}
+
+/// Writes how many descriptors are needed, and how many allowed.
+fn print_descriptors<E: Sink>(needed: usize, allowed: usize, errors: &mut E)
+    ensures { Says (descriptors_line needed allowed ∷ [])
+        (E.taken errors.old) (E.taken errors.new)
+        (E.failed_or_empty errors.old) (E.failed_or_empty errors.new) }
+{
+    let (mut digits, mut more) = (Buffer::new(), Buffer::new());
+    say(
+        errors,
+        &[
+            "osb-broker: too few descriptors: ",
+            digits.format(needed),
+            " needed, ",
+            more.format(allowed),
+            " allowed\n",
+        ],
+    );
 }
 
 impl Fault<'_> {
@@ -197,8 +258,13 @@ impl Fault<'_> {
             | Fault::Database(_)
             | Fault::CannotWrite
             | Fault::CannotListen(_)
+            | Fault::Unbound(_, _)
             | Fault::CannotAccept
+            | Fault::NoAddress(_)
+            | Fault::NotReady(_)
+            | Fault::TooFewDescriptors(_, _)
             | Fault::Unseen(_)
+            | Fault::Differs(_)
             | Fault::IsThere(_)
             | Fault::DraftIsThere(_)
             | Fault::CannotMake(_) => 1,
@@ -223,7 +289,15 @@ impl Fault<'_> {
                 errors,
                 &["osb-broker: cannot listen on ", address, "\n"],
             ),
+            Fault::Unbound(address, cause) => print_unbound(address, *cause, errors),
             Fault::CannotAccept => say(errors, &["osb-broker: cannot accept\n"]),
+            Fault::NoAddress(address) => {
+                say(errors, &["osb-broker: no address ", address, "\n"]);
+            }
+            Fault::NotReady(address) => say(errors, &["osb-broker: not ready ", address, "\n"]),
+            Fault::TooFewDescriptors(needed, allowed) => {
+                print_descriptors(*needed, *allowed, errors);
+            }
             Fault::Words(text) => say(errors, &[text.as_str()]),
             Fault::Settings(fault) => print_settings_fault(*fault, errors),
             Fault::Placed(fault, place) => {
@@ -236,6 +310,10 @@ impl Fault<'_> {
                 say(errors, &[reason.as_str(), "\n"]);
             }
             Fault::Unseen(unseen) => print_unseen(*unseen, errors),
+            Fault::Differs(difference) => {
+                print_database_fault(FileFault::NotOurs, errors);
+                print_difference(difference, errors);
+            }
             Fault::IsThere(file) => say(errors, &["osb-broker: already there ", file, "\n"]),
             Fault::DraftIsThere(file) => {
                 say(errors, &["osb-broker: already there ", file, "-new\n"]);

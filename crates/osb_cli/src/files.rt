@@ -1,13 +1,17 @@
 //! The files that a command names.
 
 ghost use Rattle.std.specs.Prelude.{ℕ, List, IfOk, OnOk};
-ghost use Rattle.osb_cli.specs.Files.{AreBytesOf, Contents, IsCopyOf};
+ghost use Rattle.osb_cli.specs.Files.{AreBytesOf, Contents, IsCopyOf, IsShared};
 
 use crate::input::{ReadFault, read_whole};
-use osb_file::{Copied, Held, OneFile, Unseen, Unwritten, hold, replace};
+use osb_file::{Copied, Held, OneFile, Unseen, Unwritten, cause_of, check_mode, hold, replace};
 use osb_frames::Counted;
 use std::alloc::Global;
 use std::fs::{self, File};
+use std::os::unix::fs::MetadataExt;
+
+/// The bits of a file's mode by which every user may read or write it.
+const FOR_ALL: u32 = 0o006;
 
 /// The files that a command can name. What is said over `F: NamedFiles` is said of all that they may have.
 pub trait NamedFiles {
@@ -21,9 +25,19 @@ pub trait NamedFiles {
     fn read(&self, alloc: Global, name: &str) -> Result<Vec<u8>, ReadFault>
         ensures { IfOk result (λ bytes. AreBytesOf (contents self.now) name.now bytes.items) };
 
+    /// Whether every user may read or write a file.
+    fn is_shared(&self, name: &str) -> bool
+        ensures { IsShared (contents self.now) name.now result };
+
     /// Reads a database file and its log, as `Copied::read` does.
     fn read_database(&self, path: &str) -> Result<Copied, Unseen>
         ensures { IfOk result (IsCopyOf (contents self.now) path.now) };
+
+    /// Refuses a database file that can't be written to, as `check_mode` of osb_file does.
+    fn check_mode(&self, path: &str) -> Result<(), Unseen>;
+
+    /// Why a start has refused a database file, as `cause_of` of osb_file finds it.
+    fn cause_of(&self, path: &str, is_open: bool) -> Option<Unseen>;
 
     /// Makes a file that has a database, as `OneFile::write` does.
     fn make(&self, name: &str, database: &OneFile) -> Result<(), Unwritten>
@@ -57,7 +71,7 @@ impl<'a> HostFiles<'a> {
 impl NamedFiles for HostFiles<'_> {
     ghost use Rattle.std.specs.Prelude.{None, ⊤};
 
-    ghost contents = { λ _. record { file = λ _. None; log = λ _. None } };
+    ghost contents = { λ _. record { file = λ _. None; log = λ _. None; is_shared = λ _. None } };
 
     ghost is_made = { λ _ _ _. ⊤ };
 
@@ -68,8 +82,23 @@ impl NamedFiles for HostFiles<'_> {
         read_whole(alloc, &mut Counted::new(file))
     }
 
+    fn is_shared(&self, name: &str) -> bool {
+        match fs::metadata(self.rt, name) {
+            Ok(found) => found.mode() & FOR_ALL != 0,
+            Err(_) => false,
+        }
+    }
+
     fn read_database(&self, path: &str) -> Result<Copied, Unseen> {
         Copied::read(self.rt, path)
+    }
+
+    fn check_mode(&self, path: &str) -> Result<(), Unseen> {
+        check_mode(self.rt, path)
+    }
+
+    fn cause_of(&self, path: &str, is_open: bool) -> Option<Unseen> {
+        cause_of(self.rt, path, is_open)
     }
 
     fn make(&self, name: &str, database: &OneFile) -> Result<(), Unwritten> {

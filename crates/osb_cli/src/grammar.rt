@@ -2,7 +2,7 @@
 
 ghost use Rattle.std.specs.Prelude.{◌≡◌, false, IfOk, IfErr, codes};
 ghost use Rattle.clap.specs.Words.{app_of, new_app, rule_of, kind_of};
-ghost use Rattle.osb_cli.specs.Grammar.{backup_command, check_command, files_word, flag_option, number_option, osb_broker, replay_command, required_option, required_word, serve_command, settings_word, text_option, trim_command};
+ghost use Rattle.osb_cli.specs.Grammar.{backup_command, check_command, files_word, flag_option, number_option, osb_broker, ready_command, replay_command, required_option, required_word, serve_command, settings_word, text_option, trim_command};
 
 use clap::error::ErrorKind;
 use clap::{Arg, ArgAction, Command, Error, value_parser};
@@ -20,7 +20,7 @@ Status:
   1  a file can't be read or is too large, can't be made or is there already,
      the database is refused, isn't one of this broker or is missing, its file
      is taken away, memory is refused, standard output doesn't take what is
-     written, or connections can't be taken
+     written, connections can't be taken, or `ready` got no answer in time
   2  the words are not those of a command
   3  the settings are not accepted
   4  the settings lack a plan that the database has in use
@@ -55,6 +55,14 @@ file and its log into memory and changes neither, so it may look at a backup, or
 at the file of a broker that runs.
 With both, a plan in use that the settings lack is reported as by a start, as
 `plan in use: SERVICE PLAN`, with status 4.";
+
+const READY: &str = "Wait until a broker answers at an address";
+
+const READY_MORE: &str =
+    "It sends the request `GET /`, which takes no login, and ends with status 0 once
+the answer is that of this program. Until then it tries again, ten times a
+second. Once the time is over it prints `osb-broker: not ready ADDR` on standard
+error, and at once where the process PID isn't there any longer.";
 
 const REPLAY: &str = "Answer the requests in files or on standard input";
 
@@ -91,11 +99,12 @@ says how many orders were erased and how many bytes the file had with its log
 and has now, as `trimmed 3, bytes 12288, now 8192`.
 No broker may run over the file meanwhile. Whatever stops the command, the file
 is the old one or the new one. Otherwise a line on standard error says why, and
-the file stays as it was; only behind `cannot write` it was replaced. Until the new file is whole its name is FILE with
-`-new` behind. Copies made before, as by `backup`, keep what they have.";
+the file stays as it was; only behind `cannot write` it was replaced. Until the
+new file is whole its name is FILE with `-new` behind. Copies made before, as by
+`backup`, keep what they have.";
 
 const SERVE_USAGE: &str =
-    "osb-broker serve --settings FILE --database FILE [--existing] --listen ADDR [--per-connection N] [--connections N] [--time-limit SECONDS] [--together N]";
+    "osb-broker serve --settings FILE --database FILE [--existing] --listen ADDR [--per-connection N] [--connections N] [--time-limit SECONDS] [--together N] [--explain]";
 
 /// `--ID VALUE`, which may be left out.
 fn text_option<'a>(alloc: Global, id: &'a str, value: &'a str, help: &'a str) -> Arg<'a>
@@ -169,15 +178,15 @@ fn connections_option<'a>(alloc: Global) -> Arg<'a>
         .value_parser(value_parser!(u32).range(1..=1_000_000))
 }
 
-/// `--time-limit` and its number.
-fn time_limit_option<'a>(alloc: Global) -> Arg<'a>
-    ensures rule { rule_of result ≡ number_option (codes "time-limit") 86400 }
+/// `--ID SECONDS`, a number from 1 to that of a day.
+fn seconds_option<'a>(alloc: Global, id: &'a str, help: &'a str) -> Arg<'a>
+    ensures rule { rule_of result ≡ number_option id.now 86400 }
     ensures local { result.global ≡ false }
 {
-    Arg::new(alloc, "time-limit")
-        .long("time-limit")
+    Arg::new(alloc, id)
+        .long(id)
         .value_name("SECONDS")
-        .help("How long a connection may take, 1 to 86400 seconds; without it 10")
+        .help(help)
         .value_parser(value_parser!(u32).range(1..=86_400))
 }
 
@@ -193,6 +202,18 @@ fn together_option<'a>(alloc: Global) -> Arg<'a>
             "How many clients are connected at the same time, 1 to 1024; without it 1024, or 1 with more than one request of a connection",
         )
         .value_parser(value_parser!(u32).range(1..=1024))
+}
+
+/// `--pid` and its number.
+fn pid_option<'a>(alloc: Global) -> Arg<'a>
+    ensures rule { rule_of result ≡ number_option (codes "pid") 4194304 }
+    ensures local { result.global ≡ false }
+{
+    Arg::new(alloc, "pid")
+        .long("pid")
+        .value_name("PID")
+        .help("The process that is to answer, 1 to 4194304")
+        .value_parser(value_parser!(u32).range(1..=4_194_304))
 }
 
 /// The files of `replay`.
@@ -259,6 +280,22 @@ fn check_command<'a>(alloc: Global) -> Result<Command<'a>, Error>
     )
 }
 
+/// `ready` and its words.
+fn ready_command<'a>(alloc: Global) -> Result<Command<'a>, Error>
+    ensures app { IfOk result (λ command. app_of command ≡ ready_command) }
+    ensures err { IfErr result (λ error. kind_of error ≡ ErrorKind.OutOfMemory) }
+{
+    let usage = "osb-broker ready ADDR [--within SECONDS] [--pid PID]";
+    let address = "An IP address and a port, as 127.0.0.1:8080";
+    let within = "How long it waits, 1 to 86400 seconds; without it 10";
+    Ok(
+        begun(alloc, "ready", READY, READY_MORE, usage)
+            .arg(required_word(alloc, "address", "ADDR", address))?
+            .arg(seconds_option(alloc, "within", within))?
+            .arg(pid_option(alloc))?,
+    )
+}
+
 /// `replay` and its words.
 fn replay_command<'a>(alloc: Global) -> Result<Command<'a>, Error>
     ensures app { IfOk result (λ command. app_of command ≡ replay_command) }
@@ -281,7 +318,9 @@ fn serve_command<'a>(alloc: Global) -> Result<Command<'a>, Error>
 {
     let made = "The database file; it is made where there is none";
     let existing = "Begins no database: one has to be there";
-    let address = "An IP address and a port, as 127.0.0.1:8080";
+    let address = "An IP address and a port, as 127.0.0.1:8080 or [::1]:8080";
+    let limit = "How long a connection may take, 1 to 86400 seconds; without it 10";
+    let explain = "Says the cause in a second line if nothing can be served";
     Ok(
         begun(alloc, "serve", SERVE, SERVE_MORE, SERVE_USAGE)
             .arg(required_option(alloc, "settings", "FILE", "The settings file"))?
@@ -290,8 +329,9 @@ fn serve_command<'a>(alloc: Global) -> Result<Command<'a>, Error>
             .arg(required_option(alloc, "listen", "ADDR", address))?
             .arg(per_connection_option(alloc))?
             .arg(connections_option(alloc))?
-            .arg(time_limit_option(alloc))?
-            .arg(together_option(alloc))?,
+            .arg(seconds_option(alloc, "time-limit", limit))?
+            .arg(together_option(alloc))?
+            .arg(flag_option(alloc, "explain", explain))?,
     )
 }
 
@@ -320,6 +360,7 @@ pub(crate) fn osb_broker<'a>(alloc: Global) -> Result<Command<'a>, Error>
             .no_binary_name(true)
             .subcommand(backup_command(alloc)?)?
             .subcommand(check_command(alloc)?)?
+            .subcommand(ready_command(alloc)?)?
             .subcommand(replay_command(alloc)?)?
             .subcommand(serve_command(alloc)?)?
             .subcommand(trim_command(alloc)?)?,

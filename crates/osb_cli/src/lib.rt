@@ -5,13 +5,16 @@
 mod backup;
 mod check;
 mod commands;
+mod explaining;
 mod fault;
 mod files;
 mod grammar;
 mod input;
+mod limits;
 mod listen;
 mod output;
 mod per_connection;
+mod ready;
 mod replay;
 mod settings;
 mod stack;

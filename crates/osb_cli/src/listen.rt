@@ -8,35 +8,19 @@ ghost use Rattle.osb_broker.specs.BrokerState.{Works};
 ghost use Rattle.osb_listen.specs.Listen.{listening_line};
 ghost use Rattle.osb_listen.specs.Held.{HasServed, Serving};
 ghost use Rattle.osb_cli.specs.Serve.{Leaves};
-ghost use Rattle.osb_cli.specs.Inside.{IsOther, IsOtherUnserved, NameOne, NamesInUse};
+ghost use Rattle.osb_cli.specs.Inside.{IsOther, NamesInUse};
 ghost use Rattle.osb_cli.specs.Files.{AreBytesOf};
 ghost use Rattle.osb_cli.specs.Reported.{IsUnservedOf};
 
+use crate::explaining::{settings_as, unserved_as};
 use crate::fault::{Fault, Unserved};
 use crate::files::NamedFiles;
-use crate::settings::read_settings;
+use crate::limits::descriptors_limit;
 use crate::stack::take_stack;
 use crate::words::Listen;
-use osb_file::{Database, FileFault, Opened};
+use osb_file::{Database, Opened};
 use osb_frames::Sink;
-use osb_listen::{Entrance, ListenFault, serve_file};
-use std::alloc::Global;
-
-/// The fault of the command, where connections were to be taken at this address.
-fn unserved(fault: ListenFault, address: &str) -> Unserved<'_>
-    ensures one { NameOne fault result }
-    ensures other { IsOtherUnserved result }
-{
-    match fault {
-        ListenFault::PlanInUse(service, plan) => Unserved::PlanInUse(service, plan),
-        ListenFault::Database(fault) => Unserved::Fault(Fault::Database(fault)),
-        ListenFault::FileTaken => Unserved::Fault(Fault::Database(FileFault::Refused)),
-        ListenFault::Memory => Unserved::Fault(Fault::OutOfMemory),
-        ListenFault::CannotListen => Unserved::Fault(Fault::CannotListen(address)),
-        ListenFault::CannotWrite => Unserved::Fault(Fault::CannotWrite),
-        ListenFault::CannotAccept => Unserved::Fault(Fault::CannotAccept),
-    }
-}
+use osb_listen::{Entrance, serve_file};
 
 /// The fault of words that can't be used together.
 const BOTH: &str = "error: '--together' above 1 cannot be used with '--per-connection' above 1
@@ -44,14 +28,32 @@ const BOTH: &str = "error: '--together' above 1 cannot be used with '--per-conne
 For more information, try '--help'.
 ";
 
-/// Refuses to connect many clients of whom each may make more than one request.
-fn check_numbers(alloc: Global, asked: &Listen<'_>) -> Result<(), Fault<'static>>
+/// How many descriptors the program has beside one for each client.
+const OWN_DESCRIPTORS: usize = 9;
+
+/// Refuses to connect more clients than descriptors are there for, where so many are asked for.
+fn check_descriptors(rt: &HostRuntime, wanted: Option<u32>) -> Result<(), Fault<'static>>
+    ensures { IfErr result IsOther }
+{
+    let (Some(together), Some(allowed)) = (wanted, descriptors_limit(rt)) else {
+        return Ok(());
+    };
+    let needed = (together as usize).saturating_add(OWN_DESCRIPTORS);
+    if allowed < needed {
+        return Err(Fault::TooFewDescriptors(needed, allowed));
+    }
+    Ok(())
+}
+
+/// Refuses to connect many clients of whom each may make more than one request, or more than descriptors are
+/// there for.
+fn check_numbers(rt: &HostRuntime, asked: &Listen<'_>) -> Result<(), Fault<'static>>
     ensures { IfErr result IsOther }
 {
     if asked.place.together > 1 && asked.per_connection.number() > 1 {
-        return Err(Fault::Words(format!(in alloc; "{BOTH}")?));
+        return Err(Fault::Words(format!(in rt.alloc(); "{BOTH}")?));
     }
-    Ok(())
+    check_descriptors(rt, asked.wanted)
 }
 
 /// Serves the clients of an entrance, with the settings of one file and the database of another. The
@@ -85,13 +87,13 @@ pub(crate) fn listen<'a, D: Database, F: NamedFiles, L: Entrance, W: Sink, E: Si
         (db : Trees) → HasTrees (D.held database) db →
         NamesInUse (F.contents files.now) asked.now.settings.now db fault)) }
 {
-    if let Err(fault) = check_numbers(rt.alloc(), asked) {
+    if let Err(fault) = check_numbers(rt, asked) {
         return (Err(Unserved::from(fault)), None);
     }
     if take_stack(rt).is_err() {
         return (Err(Unserved::from(Fault::OutOfMemory)), None);
     }
-    let settings = match read_settings(rt.alloc(), files, asked.settings) {
+    let settings = match settings_as(rt.alloc(), files, asked) {
         Ok(settings) => settings,
         Err(fault) => return (Err(Unserved::from(fault)), None),
     };
@@ -108,6 +110,9 @@ pub(crate) fn listen<'a, D: Database, F: NamedFiles, L: Entrance, W: Sink, E: Si
     );
     match done {
         Ok(()) => (Ok(()), conn),
-        Err(fault) => (Err(unserved(fault, asked.place.address)), conn),
+        Err(fault) => {
+            let told = unserved_as(rt, files, asked, fault, conn.is_some());
+            (Err(told), conn)
+        }
     }
 }

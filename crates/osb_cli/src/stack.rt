@@ -1,14 +1,11 @@
 //! The stack that the deepest request takes, which is taken before the first one.
 
+use crate::limits::stack_limit;
 use osb_text::{TextFault, read_object};
 use std::alloc::AllocError;
-use std::fs;
 
 /// More than the program takes of the stack, whatever it is asked: some 300 kB.
 const STACK_BYTES: usize = 524_288;
-
-/// What the system's page on a process calls the limit of its stack.
-const LIMIT_NAME: &str = "Max stack size";
 
 /// How many objects may lie in each other in a text that is read.
 const MOST_NESTED: usize = 127;
@@ -19,16 +16,6 @@ const OPENING: &[u8] = b"{\"a\":";
 /// The length of the text that is read. It is on the stack too, below what reading it takes, and takes more
 /// of it than the calls between the start and the reading of a request.
 const TEXT_BYTES: usize = 131_072;
-
-/// How far the system lets the stack grow; nothing where it sets no limit, or doesn't say so.
-fn stack_limit(rt: &HostRuntime) -> Option<usize> {
-    let Ok(limits) = fs::read_to_string(rt, "/proc/self/limits") else {
-        return None;
-    };
-    let line = limits.lines().find(|line| line.starts_with(LIMIT_NAME))?;
-    let number = line.strip_prefix(LIMIT_NAME)?.split_whitespace().next()?;
-    number.parse().ok()
-}
 
 /// Writes the deepest object that can be read over the beginning of a text.
 fn write_deepest(text: &mut [u8; TEXT_BYTES]) {

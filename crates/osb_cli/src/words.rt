@@ -39,7 +39,21 @@ pub(crate) struct Listen<'a> {
     /// The name of the settings file.
     pub(crate) settings: &'a str,
     pub(crate) place: ListenOptions<'a>,
+    /// How many clients the words ask to have connected at the same time.
+    pub(crate) wanted: Option<u32>,
     pub(crate) per_connection: PerConnection,
+    /// Whether it is said why nothing is served.
+    pub(crate) explain: bool,
+}
+
+/// Where an answer is waited for, and how long.
+#[derive(Clone, Copy, Debug)]
+pub(crate) struct Ready<'a> {
+    /// An IP address and a port.
+    pub(crate) address: &'a str,
+    pub(crate) within: Duration,
+    /// The number of the process whose end ends the wait.
+    pub(crate) process: Option<u32>,
 }
 
 /// Which connections are replayed, and how.
@@ -66,6 +80,8 @@ pub(crate) enum Job<'a> {
     Backup(Backup<'a>),
     /// Check a settings file, a database file, or both.
     Check(Check<'a>),
+    /// Wait until the program answers at an address.
+    Ready(Ready<'a>),
     /// Serve connections whose bytes are all there.
     Replay(Replay<'a>),
     /// Serve TCP connections.
@@ -81,8 +97,8 @@ const MOST_CONNECTIONS: u32 = 1_000_000;
 /// request.
 const TOGETHER: u32 = 1024;
 
-/// How many seconds a connection may take where nothing is asked for.
-const TIME_LIMIT: u32 = 10;
+/// How many seconds a connection may take, or an answer is waited for, where nothing is asked for.
+const SECONDS: u32 = 10;
 
 fn per_connection_of(found: &ArgMatches<'_>) -> PerConnection
     ensures { HasNumber 1000 1 (one_text_of (codes "per-connection") found.now) result.number }
@@ -101,11 +117,18 @@ fn connections_of(found: &ArgMatches<'_>) -> u32
         .unwrap_or(MOST_CONNECTIONS)
 }
 
-/// The time limit, in seconds.
-fn time_limit_of(found: &ArgMatches<'_>) -> u32
-    ensures { HasNumber 86400 10 (one_text_of (codes "time-limit") found.now) result }
+/// The seconds of an option.
+fn seconds_of(found: &ArgMatches<'_>, id: &str) -> u32
+    ensures { HasNumber 86400 10 (one_text_of id.now found.now) result }
 {
-    found.get_one::<u32>("time-limit").unwrap_or(TIME_LIMIT)
+    found.get_one::<u32>(id).unwrap_or(SECONDS)
+}
+
+/// The number of a process.
+fn process_of(found: &ArgMatches<'_>) -> Option<u32>
+    ensures { HasNumber 4194304 0 (one_text_of (codes "pid") found.now) (unwrap_or result 0) }
+{
+    found.get_one::<u32>("pid")
 }
 
 /// How many clients may be connected at the same time where nothing is asked for, by how many requests
@@ -120,6 +143,13 @@ fn together_of(found: &ArgMatches<'_>, otherwise: u32) -> u32
     ensures { HasNumber 1024 otherwise (one_text_of (codes "together") found.now) result }
 {
     found.get_one::<u32>("together").unwrap_or(otherwise)
+}
+
+/// The same, where the words say it.
+fn wanted_of(found: &ArgMatches<'_>) -> Option<u32>
+    ensures { HasNumber 1024 0 (one_text_of (codes "together") found.now) (unwrap_or result 0) }
+{
+    found.get_one::<u32>("together")
 }
 
 /// The files that the words after `replay` name.
@@ -155,10 +185,21 @@ fn check_order<'a>(found: &ArgMatches<'a>) -> Job<'a>
     })
 }
 
+/// The order to wait, as the words after `ready` say it.
+fn ready_order<'a>(found: &ArgMatches<'a>) -> Job<'a>
+    ensures { Asks (Some (codes "ready", rows_of (found_of found.now))) result }
+{
+    Job::Ready(Ready {
+        address: found.get_str("address").unwrap_or(""),
+        within: Duration::from_secs(u64::from(seconds_of(found, "within"))),
+        process: process_of(found),
+    })
+}
+
 /// The order to replay, as the words after `replay` say it.
 fn replay_order<'a>(alloc: Global, found: &ArgMatches<'a>) -> Result<Job<'a>, AllocError>
     ensures { (name : List ℕ) → name ≢ codes "backup" → name ≢ codes "check" →
-        name ≢ codes "serve" → name ≢ codes "trim" →
+        name ≢ codes "ready" → name ≢ codes "serve" → name ≢ codes "trim" →
         IfOk result (Asks (Some (name, rows_of (found_of found.now)))) }
 {
     Ok(Job::Replay(Replay {
@@ -181,10 +222,12 @@ fn serve_order<'a>(found: &ArgMatches<'a>) -> Job<'a>
             existing: found.get_flag("existing"),
             address: found.get_str("listen").unwrap_or(""),
             connections: connections_of(found),
-            time_limit: Duration::from_secs(u64::from(time_limit_of(found))),
+            time_limit: Duration::from_secs(u64::from(seconds_of(found, "time-limit"))),
             together: together_of(found, otherwise),
         },
+        wanted: wanted_of(found),
         per_connection,
+        explain: found.get_flag("explain"),
     })
 }
 
@@ -207,6 +250,7 @@ pub(crate) fn read<'a>(alloc: Global, words: &'a [String]) -> Result<Job<'a>, Er
     match matches.subcommand() {
         Some(("backup", found)) => Ok(backup_order(found)),
         Some(("check", found)) => Ok(check_order(found)),
+        Some(("ready", found)) => Ok(ready_order(found)),
         Some(("serve", found)) => Ok(serve_order(found)),
         Some(("trim", found)) => Ok(trim_order(found)),
         Some((_, found)) => Ok(replay_order(alloc, found)?),

@@ -20,6 +20,13 @@ pub told_more : {R A B : Type 0} (shown : A → B) (told : R → B) (rows : List
 told_more shown told rows at row found next item low is were tells grown =
     ap (map shown) grown ∙ map-append shown found (item ∷ []) ∙ told_push told rows at row (map shown found) (map shown found ++ shown item ∷ []) (shown item) low is were refl tells
 
+-- each of the rows of entries that fit is that of one of them
+pub row_of : {R E : Type 0} (shown : E → R) (Fits : E → Type 0) (rows : List R) (entries : List E) (i : ℕ) (row : R) → i < length rows → row ≡ get_or rows i row → rows ≡ map shown entries → AllByRecursion Fits entries → (entry : E) × (row ≡ shown entry) × Fits entry
+row_of shown Fits rows [] i row low at is fit = absurd (omega (arith, low, ap length is))
+row_of shown Fits [] (entry ∷ entries) i row low at is fit = absurd (omega (arith, low))
+row_of shown Fits (first ∷ rows) (entry ∷ entries) zero row low at is fit = (entry, at ∙ ap (λ rows. get_or rows 0 row) is, fit.0)
+row_of shown Fits (first ∷ rows) (entry ∷ entries) (suc i) row low at is fit = row_of shown Fits rows entries i row (omega (arith, low)) at (ap (drop 1) is) fit.1
+
 -- ---- whether all rows pass a test
 
 -- all do exactly where those that are left do

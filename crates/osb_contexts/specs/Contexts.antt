@@ -1,5 +1,5 @@
 -- The rows of the table of contexts.
-use Rattle.std.specs.Prelude.{◌≡◌, ℕ, pos, List, [], ◌∷◌, map}
+use Rattle.std.specs.Prelude.{◌≡◌, ◌<◌, ◌^◌, ℕ, pos, List, [], ◌∷◌, map}
 use Rattle.sqlite.specs.declared.types.Value.{Value}
 use Rattle.sqlite.specs.declared.types.Value.TheVariants.{Int, Text as Words}
 use Rattle.sqlite.specs.Order.{Row, column, bytes}
@@ -38,3 +38,7 @@ contexts_in db = sort_by context_cmp (map context_decoded (map context_cells (db
 pub record AreContextsOf (db : Trees) (entries : List ContextEntry) : Type 0 where
   pub held : AreRows context_cells (db 7) (map context_row entries)
   pub only : (others : List ContextEntry) → HoldsContexts others db → others ≡ entries
+
+-- the number of the entry has 32 bits
+abbrev pub ContextFits : ContextEntry → Type 0
+ContextFits entry = entry.number < 2 ^ 32

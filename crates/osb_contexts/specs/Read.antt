@@ -1,11 +1,13 @@
 -- Rows that were read, and what they are read as. For contracts inside the crate.
-use Rattle.std.specs.Prelude.{◌≡◌, true, ℕ, pos, List, [], ◌∷◌, map}
+use Rattle.std.specs.Prelude.{◌≡◌, ⊤, true, ℕ, pos, List, [], ◌∷◌, map}
 use Rattle.std.specs.Ordering.{nat_cmp}
 use Rattle.std.specs.List.{AllByRecursion}
 use Rattle.std.specs.List.Sorted.{IsStrictlySortedBy}
 use Rattle.sqlite.specs.declared.types.Value.{Value}
 use Rattle.sqlite.specs.declared.types.Value.TheVariants.{Int, Text as Words}
 use Rattle.sqlite.specs.Order.{Row, column}
+use Rattle.sqlite.specs.declared.error.Error.{Error}
+use Rattle.sqlite.specs.declared.error.Error.TheVariants.{IntegralValueOutOfRange}
 use Rattle.sqlite_trees.specs.Tree.{rowid, IsAscending}
 use Rattle.sqlite_trees.specs.View.{is_int}
 use Rattle.osb_rows.specs.Rows.{Apart}
@@ -32,3 +34,8 @@ context_columns cells = column cells 0 ∷ column cells 1 ∷ column cells 2 ∷
 -- what is read of an entry whose key is known
 abbrev pub context_shown : ContextEntry → Row
 context_shown entry = Words entry.context ∷ []
+
+-- the error says that a column has another number than one of the type that it is read as
+abbrev pub IsOutOfRange : Error → Type 0
+IsOutOfRange (IntegralValueOutOfRange at) = ⊤
+IsOutOfRange _ = ⊥

@@ -1,27 +1,30 @@
 //! Cells of a row as values.
 
-ghost use Rattle.std.specs.Prelude.{◌≡◌, ◌↔◌, true, pos, map, IfOk, OnOk};
+ghost use Rattle.std.specs.Prelude.{◌≡◌, ◌↔◌, ◌<◌, ◌^◌, ℕ, true, pos, map, IfOk, IfErr, OnOk};
 ghost use Rattle.std.specs.List.{AllByRecursion};
 ghost use Rattle.std.specs.Ordering.{nat_cmp};
 ghost use Rattle.std.specs.List.Sorted.{IsStrictlySortedBy};
 ghost use Rattle.sqlite.specs.declared.types.Value.TheVariants.{Int, Text as Words};
 ghost use Rattle.sqlite.specs.Order.{column};
 ghost use Rattle.sqlite_trees.specs.Tree.{rowid};
-ghost use Rattle.osb_contexts.specs.Read.{rowid_shown, AreRowids};
+ghost use Rattle.osb_contexts.specs.Read.{rowid_shown, AreRowids, IsOutOfRange};
 
 use osb_text::Text;
 use sqlite::{Error, ErrorCode, Row};
 use std::alloc::Global;
 
 pub(crate) fn text_in(row: &Row, at: usize) -> Result<Text, Error>
-    ensures { IfOk result (λ text. column row.now at ≡ Words text) }
+    ensures held { IfOk result (λ text. column row.now at ≡ Words text) }
+    ensures in_range { IfErr result (λ error. ¬ IsOutOfRange error) }
 {
     let string: String = row.get(at)?;
     Ok(Text::from(string))
 }
 
 pub(crate) fn number_in(row: &Row, at: usize) -> Result<u32, Error>
-    ensures { IfOk result (λ number. column row.now at ≡ Int (pos number)) }
+    ensures held { IfOk result (λ number. column row.now at ≡ Int (pos number)) }
+    ensures known { (number : ℕ) → column row.now at ≡ Int (pos number) → number < 2 ^ 32 →
+        IfErr result (λ error. ¬ IsOutOfRange error) }
 {
     row.get(at)
 }

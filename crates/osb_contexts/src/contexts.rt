@@ -1,15 +1,17 @@
 //! The table of contexts: its rows, and the statements on it.
 
-ghost use Rattle.std.specs.Prelude.{◌≡◌, ◌↔◌, true, [], ◌∷◌, IsTrue, map, filter, IfOk};
+ghost use Rattle.std.specs.Prelude.{◌≡◌, ◌≢◌, ◌↔◌, true, List, [], ◌∷◌, IsTrue, None, Ok, map, filter, IfOk, IfErr, IfSome};
+ghost use Rattle.std.specs.List.{AllByRecursion};
 ghost use Rattle.sqlite.specs.State.{HasCleanDisk};
 ghost use Rattle.sqlite.specs.Values.{bound_value};
 ghost use Rattle.sqlite_value.specs.Value.{owned};
 ghost use Rattle.sqlite_keyed.specs.Lists.{insert_sorted, update_where};
 ghost use Rattle.osb_tables.specs.Tables.{tables_schema, second_schema};
+ghost use Rattle.osb_joined.specs.declared.entry.ContextEntry.{ContextEntry};
 ghost use Rattle.osb_joined.specs.Contexts.{context_entry, context_cmp, is_context, with_context, AreRising};
-ghost use Rattle.osb_contexts.specs.Contexts.{context_row, AreContextsOf};
+ghost use Rattle.osb_contexts.specs.Contexts.{context_row, HoldsContexts, AreContextsOf, ContextFits};
 ghost use Rattle.osb_contexts.specs.Pieces.{piece, AreNamed};
-ghost use Rattle.osb_contexts.specs.Read.{HaveRowids, context_columns, context_shown};
+ghost use Rattle.osb_contexts.specs.Read.{HaveRowids, IsOutOfRange, context_columns, context_shown};
 ghost use Rattle.osb_contexts.specs.Inside.{ShowsSchema};
 ghost use Rattle.osb_contexts.specs.Made.{MakesContexts};
 ghost use Rattle.osb_contexts.specs.Steps.{contexts, ShowsContexts, ContextSteps};
@@ -118,7 +120,9 @@ pub fn read_context<S: Alter>(
 }
 
 fn entry_in(row: &Row) -> Result<ContextEntry, Error>
-    ensures { IfOk result (λ entry. context_row entry ≡ context_columns row.now) }
+    ensures told { IfOk result (λ entry. context_row entry ≡ context_columns row.now) }
+    ensures known { (entry : ContextEntry) → row.now ≡ context_row entry → ContextFits entry →
+        IfErr result (λ error. ¬ IsOutOfRange error) }
 {
     Ok(ContextEntry {
         number: number_in(row, 1)?,
@@ -129,8 +133,10 @@ fn entry_in(row: &Row) -> Result<ContextEntry, Error>
 
 /// The entries that the rows show.
 fn entries_in(alloc: Global, rows: &[Row]) -> Result<Vec<ContextEntry>, Error>
-    ensures { IfOk result (λ entries.
+    ensures told { IfOk result (λ entries.
         map context_row entries.items ≡ map context_columns rows.now) }
+    ensures known { (entries : List ContextEntry) → rows.now ≡ map context_row entries →
+        AllByRecursion ContextFits entries → IfErr result (λ error. ¬ IsOutOfRange error) }
 {
     let mut entries = Vec::new(alloc);
     for row in rows {
@@ -152,22 +158,32 @@ pub fn are_contexts_named<S: Alter>(
     are_rows_named(tx, alloc, NamedTable::Contexts)
 }
 
-/// The rows of the contexts of the instances with ids above the first and up to the second, by their keys.
+/// The rows of the contexts of the instances with ids above the first and up to the second, by their keys; none
+/// where a number isn't one of 32 bits, as each order's is.
 pub fn read_contexts<S: Alter>(
     tx: &mut Transaction<'_, S>,
     alloc: Global,
     after: &str,
     to: ValueRef<'_>,
-) -> Result<Vec<ContextEntry>, Error>
+) -> Result<Option<Vec<ContextEntry>>, Error>
     requires { ShowsSchema second_schema (behind S.Store tx.old) }
-    ensures ok { Finds S.Store tx.old tx.new result (λ s entries. HaveRowids (s.now.trees 7) →
-        AreContextsOf (piece after.now (bound_value (owned to.entry)) s.now.trees) entries.items) }
+    ensures ok { Finds S.Store tx.old tx.new result (λ s read. IfSome read (λ entries.
+        HaveRowids (s.now.trees 7) →
+        AreContextsOf (piece after.now (bound_value (owned to.entry)) s.now.trees) entries.items)) }
     ensures reads { Reads S.Store tx.old tx.new result }
+    ensures known { HasCleanDisk (behind S.Store tx.new) → (entries : List ContextEntry) →
+        HoldsContexts entries (piece after.now (bound_value (owned to.entry))
+        (behind S.Store tx.old).now.trees) → AllByRecursion ContextFits entries →
+        result ≢ Ok None }
 {
     let rows = select(
         tx,
         "SELECT instance_id, seq, context FROM contexts WHERE instance_id > ?1 AND instance_id <= ?2 ORDER BY instance_id, seq",
         &[ValueRef::Text(after.as_bytes()), to],
     )?;
-    entries_in(alloc, &rows)
+    match entries_in(alloc, &rows) {
+        Ok(entries) => Ok(Some(entries)),
+        Err(Error::IntegralValueOutOfRange(_)) => Ok(None),
+        Err(error) => Err(error),
+    }
 }

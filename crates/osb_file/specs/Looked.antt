@@ -1,5 +1,5 @@
 -- What was seen in a database.
-use Rattle.std.specs.Prelude.{◌≡◌, List}
+use Rattle.std.specs.Prelude.{◌≡◌, ◌+◌, ℕ, List, length, nat_lt, if◌then◌else◌}
 use Rattle.sqlite.specs.Tree.{Trees}
 use Rattle.sqlite_wal.specs.Recovery.{Image}
 use Rattle.osb_orders.specs.Lives.{Lives}
@@ -14,6 +14,11 @@ use Rattle.osb_file.specs.File.{AreLivesOf, HasNoTables}
 -- the files of these bytes
 abbrev pub image_in : Copied → Image
 image_in copied = record { log = copied.log.items; db = copied.database.items }
+
+-- how many bytes the two files have; a log with a change has 568 at least (SQLite's file format, 4.1)
+abbrev pub length_of : Copied → ℕ
+length_of copied = let log = length copied.log.items in
+    if nat_lt log 568 then length copied.database.items else length copied.database.items + log
 
 -- the lives in these trees have so much of everything
 abbrev pub IsCounted : Trees → Counts → Type 0

@@ -3,10 +3,14 @@
 use std::fs;
 use std::io::{Error, ErrorKind};
 use std::os::unix::fs::MetadataExt;
+use std::path::Path;
 
 /// The length of the shortest log with a change: its head of 32 bytes, and a frame of 24 bytes with a page
 /// of 512 (SQLite's file format, 4.1).
-const SHORTEST_CHANGE: u64 = 568;
+pub(crate) const SHORTEST_LOG: usize = 568;
+
+/// The most bytes of a database file's name: with `-journal` behind it is still one that a file can have.
+const LONGEST_NAME: usize = 247;
 
 /// The path of a file beside a database file. Where that is a link, the other file lies where the link
 /// leads.
@@ -23,6 +27,30 @@ fn path_beside(rt: &HostRuntime, path: &str, ending: &str) -> Result<String, Err
 /// The path of a database file. Where that is a link, it is the one to which the link leads.
 pub(crate) fn real_path(rt: &HostRuntime, path: &str) -> Result<String, Error> {
     path_beside(rt, path, "")
+}
+
+/// Whether a database file of that path has too long a name for the files beside it.
+pub(crate) fn has_long_name(rt: &HostRuntime, path: &str) -> bool {
+    match real_path(rt, path) {
+        Ok(real) => match Path::new(real.as_str()).file_name() {
+            Some(name) => name.len() > LONGEST_NAME,
+            None => false,
+        },
+        Err(error) => error.kind() == ErrorKind::InvalidFilename,
+    }
+}
+
+/// Whether the folder of a path is there.
+pub(crate) fn has_folder(rt: &HostRuntime, path: &str) -> bool {
+    matches!(fs::metadata(rt, folder_of(path)), Ok(found) if found.is_dir())
+}
+
+/// The folder of a path.
+pub(crate) fn folder_of(path: &str) -> &str {
+    match Path::new(path).parent() {
+        Some(folder) if !folder.as_str().is_empty() => folder.as_str(),
+        _ => ".",
+    }
 }
 
 /// The path of the log of a database file.
@@ -45,7 +73,7 @@ pub(crate) fn is_blank(rt: &HostRuntime, path: &str) -> Result<bool, Error> {
 }
 
 /// The length of a file; 0 where no file is there.
-fn length_at(rt: &HostRuntime, path: &str) -> Result<u64, Error> {
+pub(crate) fn length_at(rt: &HostRuntime, path: &str) -> Result<u64, Error> {
     match fs::metadata(rt, path) {
         Ok(found) => Ok(found.len()),
         Err(error) if error.kind() == ErrorKind::NotFound => Ok(0),
@@ -62,7 +90,7 @@ pub(crate) fn is_log_without_file(rt: &HostRuntime, path: &str) -> Result<bool, 
         return Ok(false);
     }
     let least = if fs::exists(rt, path)? {
-        SHORTEST_CHANGE
+        SHORTEST_LOG as u64
     } else {
         1
     };

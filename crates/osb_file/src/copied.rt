@@ -1,15 +1,16 @@
 //! A database file and its log, read into memory.
 
-ghost use Rattle.std.specs.Prelude.{◌≡◌, ◌+◌, [], Err, IfOk, length};
+ghost use Rattle.std.specs.Prelude.{◌≡◌, [], Err, IfOk};
 ghost use Rattle.sqlite_trees.specs.Tree.{Trees};
 ghost use Rattle.osb_orders.specs.Lives.{Lives};
 ghost use Rattle.osb_file.specs.declared.seen.Seen.TheVariants.{New};
 ghost use Rattle.osb_file.specs.declared.unseen.Unseen.TheVariants.{NotOurs};
 ghost use Rattle.osb_file.specs.File.{AreLivesOf, HasTrees};
-ghost use Rattle.osb_file.specs.Looked.{IsSeenAs, image_in};
+ghost use Rattle.osb_file.specs.Looked.{IsSeenAs, image_in, length_of};
 
-use crate::beside::{is_log_without_file, log_path};
+use crate::beside::{SHORTEST_LOG, has_folder, has_long_name, is_log_without_file, log_path};
 use crate::database_file::is_special;
+use crate::difference::{Difference, difference_in};
 use crate::looking::{disk_of, look_into};
 use crate::moment::{Moment, moment_of};
 use crate::seen::Seen;
@@ -38,11 +39,24 @@ pub(crate) fn unread(error: Error) -> Unseen {
     }
 }
 
+/// Why no file is at the path.
+fn absent(rt: &HostRuntime, path: &str) -> Unseen {
+    if fs::symlink_metadata(rt, path).is_ok() {
+        return Unseen::DeadLink;
+    }
+    if has_folder(rt, path) {
+        Unseen::NoFile
+    } else {
+        Unseen::NoFolder
+    }
+}
+
 /// Refuses what is at the path unless it is a regular file with one name.
 fn check_kind(rt: &HostRuntime, path: &str) -> Result<(), Unseen> {
     let found = match fs::metadata(rt, path) {
         Ok(found) => found,
-        Err(error) if error.kind() == ErrorKind::NotFound => return Err(Unseen::NoFile),
+        Err(error) if error.kind() == ErrorKind::NotFound => return Err(absent(rt, path)),
+        Err(error) if error.kind() == ErrorKind::NotADirectory => return Err(Unseen::NoFolder),
         Err(error) => return Err(unread(error)),
     };
     if found.is_dir() {
@@ -84,22 +98,39 @@ fn check_journal(rt: &HostRuntime, path: &str) -> Result<(), Unseen> {
     }
 }
 
-/// Refuses a file that can't be opened for writing. Nothing is written.
-pub(crate) fn check_mode(rt: &HostRuntime, path: &str) -> Result<(), Unseen> {
+/// Refuses a file that can't be opened for writing, as a start does. Nothing is written.
+pub fn check_mode(rt: &HostRuntime, path: &str) -> Result<(), Unseen> {
     match OpenOptions::new().read(true).write(true).open(rt, path) {
         Ok(_) => Ok(()),
         Err(error) if error.kind() == ErrorKind::OutOfMemory => Err(Unseen::Memory),
+        Err(error) if error.kind() == ErrorKind::ReadOnlyFilesystem => Err(Unseen::ReadOnlyDisk),
         Err(_) => match fs::open(rt, path) {
             Ok(_) => Err(Unseen::ReadOnly),
-            Err(error) => Err(unread(error)),
+            Err(error) => Err(unreadable(rt, path, error)),
         },
     }
+}
+
+/// Whether the file belongs to another user than that of this process, as far as that is seen.
+fn is_owned_by_another(rt: &HostRuntime, path: &str) -> bool {
+    match (fs::metadata(rt, path), fs::metadata(rt, "/proc/self")) {
+        (Ok(file), Ok(process)) => file.uid() != process.uid(),
+        _ => false,
+    }
+}
+
+/// What the opening of a file for reading has met.
+fn unreadable(rt: &HostRuntime, path: &str, error: Error) -> Unseen {
+    if error.kind() == ErrorKind::PermissionDenied && is_owned_by_another(rt, path) {
+        return Unseen::NotOwned;
+    }
+    unread(error)
 }
 
 fn read_file(rt: &HostRuntime, path: &str) -> Result<Vec<u8>, Unseen> {
     match fs::read(rt, path) {
         Ok(bytes) => Ok(bytes),
-        Err(error) => Err(unread(error)),
+        Err(error) => Err(unreadable(rt, path, error)),
     }
 }
 
@@ -153,6 +184,9 @@ pub(crate) fn check_file(rt: &HostRuntime, path: &str) -> Result<(), Unseen> {
     if is_special(path) {
         return Err(Unseen::NoFile);
     }
+    if has_long_name(rt, path) {
+        return Err(Unseen::LongName);
+    }
     check_log(rt, path)?;
     check_kind(rt, path)?;
     check_journal(rt, path)
@@ -170,11 +204,15 @@ impl Copied {
         read_moment(rt, path)
     }
 
-    /// How many bytes the database file and its log have.
+    /// How many bytes the database file has, and its log, if there is a change in that.
     pub fn len(&self) -> usize
-        ensures { result ≡ length self.now.database.items + length self.now.log.items }
+        ensures { result ≡ length_of self.now }
     {
-        self.database.len() + self.log.len()
+        if self.log.len() < SHORTEST_LOG {
+            self.database.len()
+        } else {
+            self.database.len() + self.log.len()
+        }
     }
 
     /// What the database of these bytes has, opened and audited as `serve` would. All of it happens in
@@ -190,5 +228,10 @@ impl Copied {
             return Err(Unseen::Memory);
         };
         look_into(alloc, Files { log, db })
+    }
+
+    /// In what the database of these bytes differs from one of this broker, if it isn't one.
+    pub fn difference(&self, alloc: Global) -> Result<Difference, Unseen> {
+        difference_in(alloc, &self.log, &self.database)
     }
 }

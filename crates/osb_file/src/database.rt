@@ -9,7 +9,7 @@ ghost use Rattle.osb_file.specs.Database.{IsOpenedTo};
 
 use crate::database_file::DatabaseFile;
 use crate::first_page::PAGE_SIZE;
-use sqlite::{Alter, Connection, FileFrom, FileStore, Options, Start};
+use sqlite::{Alter, Connection, Error, ErrorCode, FileFrom, FileStore, Options, Start};
 use std::fs;
 use std::hash::{BuildHasher, RandomState};
 
@@ -95,7 +95,13 @@ impl<S: Start> Database for AtPath<S> {
         let options = options_for(rt, file.path())?;
         match Connection::open_files(rt.alloc(), files, options) {
             Ok(conn) => Some(conn),
-            Err(_) => None,
+            Err((error, left)) => {
+                if error == Error::SqliteFailure(ErrorCode::NotADatabase) {
+                    file.drop_new_log(rt);
+                }
+                drop(left);
+                None
+            }
         }
     }
 }

@@ -3,9 +3,13 @@
 ghost use Rattle.std.specs.Prelude.{◌≡◌, ◌≢◌, true, Err, IfOk, IfErr};
 ghost use Rattle.osb_file.specs.declared.fault.FileFault.TheVariants.{NotOurs, Missing};
 
-use crate::beside::{drop_second_name, is_blank, is_log_without_file, log_path};
+use crate::beside::{
+    SHORTEST_LOG, drop_second_name, has_long_name, is_blank, is_log_without_file, length_at,
+    log_path,
+};
 use crate::fault::FileFault;
 use crate::first_page::make_new;
+use osb_records::StoreFault;
 use std::fs::{self, Metadata};
 use std::os::unix::fs::MetadataExt;
 
@@ -44,6 +48,8 @@ pub struct DatabaseFile<'a> {
     log: String,
     node: Node,
     existing: bool,
+    /// Whether its log was there before the database was opened.
+    had_log: bool,
 }
 
 impl<'a> DatabaseFile<'a> {
@@ -52,8 +58,8 @@ impl<'a> DatabaseFile<'a> {
     /// fault is `Missing` where no file is there or one of no bytes.
     ///
     /// It is refused where there is none and it can't be made, where it can't be looked at, where its log
-    /// is there without it, and where SQLite has another meaning for the path: `:memory:`, or one that
-    /// begins with `file:`.
+    /// is there without it, where its name has more than 247 bytes, and where SQLite has another meaning for the
+    /// path: `:memory:`, or one that begins with `file:`.
     pub fn at(
         rt: &HostRuntime,
         path: &'a str,
@@ -64,7 +70,10 @@ impl<'a> DatabaseFile<'a> {
         ensures ours { IfErr result (λ fault. fault ≢ NotOurs) }
         ensures missing { IfErr result (λ fault. fault ≡ Missing → existing ≡ true) }
     {
-        if is_special(path) || !matches!(is_log_without_file(rt, path), Ok(false)) {
+        if is_special(path)
+            || has_long_name(rt, path)
+            || !matches!(is_log_without_file(rt, path), Ok(false))
+        {
             return Err(FileFault::Refused);
         }
         if existing && matches!(is_blank(rt, path), Ok(true)) {
@@ -78,11 +87,13 @@ impl<'a> DatabaseFile<'a> {
         let (Some(node), Ok(log)) = (node_at(rt, path), log_path(rt, path)) else {
             return Err(FileFault::Refused);
         };
+        let had_log = node_at(rt, log.as_str()).is_some();
         Ok(DatabaseFile {
             path,
             log,
             node,
             existing,
+            had_log,
         })
     }
 
@@ -103,6 +114,23 @@ impl<'a> DatabaseFile<'a> {
     /// Whether the file is at its path still. It isn't if another one was put there.
     pub(crate) fn is_at_its_path(&self, rt: &HostRuntime) -> bool {
         node_at(rt, self.path) == Some(self.node)
+    }
+
+    /// Takes the log away that the opening has made, as long as it has no change. The file has to be locked.
+    pub(crate) fn drop_new_log(&self, rt: &HostRuntime) {
+        let log = self.log.as_str();
+        if !self.had_log
+            && matches!(length_at(rt, log), Ok(length) if length < SHORTEST_LOG as u64)
+        {
+            let _ = fs::remove_file(rt, log);
+        }
+    }
+
+    /// Leaves the file as it was found, if it is a database of another program.
+    pub(crate) fn leave_others(&self, rt: &HostRuntime, fault: StoreFault) {
+        if fault == StoreFault::NotOurs {
+            self.drop_new_log(rt);
+        }
     }
 
     /// The file with the log that is beside it now. The opening of the database makes a log that lacks, so

@@ -73,6 +73,9 @@ pub fn open_file<D: Database>(
     }
     match Records::adopt(rt.alloc(), conn) {
         Ok(records) => Ok((records, origin)),
-        Err((fault, conn)) => Err((FileFault::from(fault), Some(conn))),
+        Err((fault, conn)) => {
+            file.leave_others(rt, fault);
+            Err((FileFault::from(fault), Some(conn)))
+        }
     }
 }

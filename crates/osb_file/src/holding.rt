@@ -32,7 +32,7 @@ fn check_begun(rt: &HostRuntime, path: &str) -> Result<Node, Unseen> {
 }
 
 /// Why a database file wasn't locked.
-fn unheld(error: OpenError) -> Unseen {
+pub(crate) fn unheld(error: OpenError) -> Unseen {
     match error {
         OpenError::Io(error) => unread(error),
         OpenError::OutOfMemory => Unseen::Memory,

@@ -2,9 +2,11 @@
 #![tactic(auto)]
 
 mod beside;
+mod cause;
 mod copied;
 mod database;
 mod database_file;
+mod difference;
 mod fault;
 mod file;
 mod first_page;
@@ -21,9 +23,11 @@ mod trimming;
 mod unseen;
 mod unwritten;
 
-pub use copied::Copied;
+pub use cause::cause_of;
+pub use copied::{Copied, check_mode};
 pub use database::{AtPath, Database};
 pub use database_file::{DatabaseFile, WatchedFile};
+pub use difference::Difference;
 pub use fault::FileFault;
 pub use file::{Opened, open_file};
 pub use holding::{Held, hold, replace};

@@ -1,11 +1,11 @@
 //! A new file that has all of its bytes, or isn't there.
 
+use crate::beside::folder_of;
 use crate::database_file::is_special;
 use crate::unwritten::Unwritten;
 use std::fs::{self, OpenOptions};
 use std::io::{Error, ErrorKind, Write};
 use std::os::unix::fs::OpenOptionsExt;
-use std::path::Path;
 
 /// The permission bits of a file that is made: its owner reads and writes it.
 const OWNER_ALONE: u32 = 0o600;
@@ -30,11 +30,7 @@ fn check_free(rt: &HostRuntime, path: &str) -> Result<(), Unwritten> {
 
 /// Waits until what is in the folder of the path is on the disk.
 pub(crate) fn sync_folder(rt: &HostRuntime, path: &str) -> Result<(), Error> {
-    let folder = match Path::new(path).parent() {
-        Some(folder) if !folder.as_str().is_empty() => folder.as_str(),
-        _ => ".",
-    };
-    fs::open(rt, folder)?.sync_all()
+    fs::open(rt, folder_of(path))?.sync_all()
 }
 
 /// Makes a file where none is, empty and for its owner only.

@@ -8,6 +8,8 @@ use Rattle.osb_broker.specs.declared.fault.NewFault.{NewFault}
 use Rattle.osb_broker.specs.declared.fault.NewFault.TheVariants as new
 use Rattle.osb_listen.specs.declared.fault.ListenFault.{ListenFault}
 use Rattle.osb_listen.specs.declared.fault.ListenFault.TheVariants.{Database, PlanInUse, Memory, CannotListen, CannotWrite, CannotAccept, FileTaken}
+use Rattle.osb_listen.specs.declared.unbound.Unbound.{Unbound}
+use Rattle.osb_listen.specs.declared.unbound.Unbound.TheVariants as unbound
 use Rattle.osb_listen.specs.Lines.{IsWrittenInPart}
 
 -- why nothing is served where there is no broker
@@ -38,6 +40,13 @@ NamesLackingPlan rules FileTaken = ⊤
 -- an IP address and a port
 abbrev pub IsAddress : List ℕ → Type 0
 IsAddress text = (at : SocketAddr) × IsSocketText text at
+
+-- why connections can't be taken there, in words
+abbrev pub unbound_text : Unbound → List ℕ
+unbound_text unbound.NoAddress = codes "not an IP address and a port"
+unbound_text unbound.NoRight = codes "no right to this port"
+unbound_text unbound.InUse = codes "in use"
+unbound_text unbound.NotHere = codes "not an address of this machine"
 
 -- the line that reports that connections are taken
 abbrev pub listening_line : List ℕ → List ℕ

@@ -24,7 +24,7 @@ impl<'a> Deadline<'a> {
     }
 
     /// What is left until then, which is more than nothing. From then on it fails.
-    fn left(&self) -> io::Result<Duration> {
+    pub(crate) fn left(&self) -> io::Result<Duration> {
         let Some(start) = self.start else {
             return Err(ErrorKind::TimedOut.into());
         };

@@ -30,6 +30,8 @@ pub mod TableReads
 pub mod StoredLivesLemmas
 pub mod PieceLemmas
 pub mod StoredPieceLemmas
+pub mod FitLemmas
+pub mod CodeLemmas
 pub mod RowPieceLemmas
 pub mod MigratedLemmas
 pub mod JudgedLemmas

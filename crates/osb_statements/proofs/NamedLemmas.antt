@@ -41,7 +41,7 @@ few lives id whole = go (get lives id) refl (whole id)
     go (Some life) is h = rw is h.life.count
 
 -- the numbers of a well-formed life are low
-low : (lives : Lives) (id : List ℕ) → IsLives lives → AllByRecursion (λ (order : Order). order.number < 4294967296) (life_of lives id)
+pub low : (lives : Lives) (id : List ℕ) → IsLives lives → AllByRecursion (λ (order : Order). order.number < 4294967296) (life_of lives id)
 low lives id whole =
     let count = few lives id whole in
     all_weaker (λ (order : Order). order.number ≤ 0 + length (life_of lives id)) (λ (order : Order). order.number < 4294967296) (λ order most. omega (arith, most, count)) (life_of lives id) (at_most 0 (life_of lives id) (numbered lives id whole))

@@ -1,5 +1,5 @@
 -- Which lives the rows that were read are of.
-use Rattle.std.proofs.Common.{◌≡◌, ℕ, zero, suc, ◌<◌, List, [], ◌∷◌, length, map, filter, drop, get_or, refl, sym, ap, ap₂, ◌∙◌, arith}
+use Rattle.std.proofs.Common.{◌≡◌, ℕ, List, [], ◌∷◌, map, filter, refl, sym, ap, ap₂, ◌∙◌}
 use Rattle.sqlite.specs.Order.{Row}
 use Rattle.sqlite.specs.Tree.{Trees}
 use Rattle.osb_orders.specs.declared.order.Order.{Order}
@@ -19,12 +19,3 @@ pub life_told : (id : List ℕ) (db : Trees) (rows : List Row) → rows ≡ map 
 life_told id db rows is =
     let entries = entries_in db in
     ap (map order_decoded) is ∙ told_orders (filter (is_of id) entries) (all_filtered _ (is_of id) entries (stored_bare db)) ∙ sym (life_of_lives id entries)
-
--- ---- loops over rows
-
--- each of the rows of entries is that of one of them
-pub row_of : {R E : Type 0} (shown : E → R) (rows : List R) (entries : List E) (i : ℕ) (row : R) → i < length rows → row ≡ get_or rows i row → rows ≡ map shown entries → (entry : E) × (row ≡ shown entry)
-row_of shown rows [] i row low at is = absurd (omega (arith, low, ap length is))
-row_of shown [] (entry ∷ entries) i row low at is = absurd (omega (arith, low))
-row_of shown (first ∷ rows) (entry ∷ entries) zero row low at is = (entry, at ∙ ap (λ rows. get_or rows 0 row) is)
-row_of shown (first ∷ rows) (entry ∷ entries) (suc i) row low at is = row_of shown rows entries i row (omega (arith, low)) at (ap (drop 1) is)

@@ -27,7 +27,6 @@ use Rattle.osb_statements.specs.Inside.{Makes}
 use Rattle.osb_statements.specs.LivesWritten.{WritesLives}
 use Rattle.osb_statements.specs.Steps.{content}
 use Rattle.osb_statements.proofs.SortLemmas.{entries_are, instances_are, bindings_are, held_again}
-use Rattle.osb_statements.proofs.BareLemmas.{instances_bare}
 use Rattle.osb_statements.proofs.WriteLemmas.{no_lives, no_contexts_of, no_content, no_standing}
 use Rattle.osb_statements.proofs.ContextLemmas.{same_entries, told_is_bare, stored_is}
 

@@ -434,19 +434,19 @@ module _ (db : Trees) (it : StoreLives db) where
   abbrev its_contexts : List ContextEntry
   its_contexts = contexts_in db
 
-  its_none : HaveNoContexts (entries_in db) (instances_in db)
+  pub its_none : HaveNoContexts (entries_in db) (instances_in db)
   its_none = no_contexts (entries_in db) (instances_in db) (stored_bare db) (instances_bare db)
 
-  abbrev its_orders : List Entry
+  abbrev pub its_orders : List Entry
   its_orders = lists_orders its_contexts (entries_in db) (instances_in db) (bindings_in db) its_none (audited_rows db it)
 
-  abbrev its_rows : List InstanceEntry
+  abbrev pub its_rows : List InstanceEntry
   its_rows = lists_instances its_contexts (entries_in db) (instances_in db) (bindings_in db) its_none (audited_rows db it)
 
-  its_lives : AreRowsOfLives its_orders its_rows (bindings_in db)
+  pub its_lives : AreRowsOfLives its_orders its_rows (bindings_in db)
   its_lives = lists_rows its_contexts (entries_in db) (instances_in db) (bindings_in db) its_none (audited_rows db it)
 
-  its_join : AreJoined its_contexts (entries_in db) (instances_in db) its_orders its_rows
+  pub its_join : AreJoined its_contexts (entries_in db) (instances_in db) its_orders its_rows
   its_join = lists_join its_contexts (entries_in db) (instances_in db) (bindings_in db) its_none (audited_rows db it)
 
   abbrev HasId : ContextEntry → Type 0

@@ -23,7 +23,7 @@ use Rattle.osb_contexts.specs.Pieces.{piece}
 use Rattle.osb_contexts.specs.Read.{AreRowids, HaveRowids}
 use Rattle.osb_statements.specs.Instances.{instance_cells, instance_row}
 use Rattle.osb_statements.specs.Bindings.{binding_cells, binding_row}
-use Rattle.osb_contexts.specs.Format.{version_cells, version_row}
+use Rattle.osb_contexts.specs.Format.{version_cells, version_row, HoldsVersion}
 use Rattle.osb_statements.specs.Stored.{order_cells, entry_row}
 use Rattle.osb_rows.proofs.AnswerLemmas.{over}
 use Rattle.osb_statements.proofs.BindingLemmas.{by_both_ids}
@@ -32,7 +32,7 @@ use Rattle.osb_statements.proofs.InstanceLemmas.{by_id}
 use Rattle.osb_statements.proofs.SelectLemmas.{by_both}
 use Rattle.osb_statements.proofs.Texts.{all_cells, instance_cells_read, by_instance}
 use Rattle.osb_statements.proofs.WholeTexts.{version_cells_read, by_version, select_versions, select_versions_is, some_orders, some_orders_is, some_instances, some_instances_is, some_bindings, some_bindings_is, some_binding_rowids, some_binding_rowids_is}
-use Rattle.osb_statements.proofs.WholeLemmas.{is_list}
+use Rattle.osb_statements.proofs.WholeLemmas.{are_shown, is_list}
 use Rattle.osb_contexts.proofs.WholeLemmas.{rowids_shown}
 use Rattle.osb_contexts.proofs.TestLemmas.{then_equal, number_cmp}
 use Rattle.osb_contexts.proofs.PieceLemmas.{piece_counted, piece_read, piece_shown}
@@ -41,12 +41,19 @@ use Rattle.osb_contexts.proofs.Texts.{version_rowids_is, between_tests, by_key, 
 by_number : (a b : ℕ) → key_cmp 0 (ascending Binary ∷ []) (Int (pos a) ∷ []) (Int (pos b) ∷ []) ≡ nat_cmp a b
 by_number a b = rw (number_cmp a b, then_equal (nat_cmp a b)) refl
 
+versions_answer : (mid new : State) (rows : List Row) → mid.now.schema ≡ second_schema → Shown select_versions [] mid new rows → IsAnswer (over 0 [] version_cells_read by_version every) (overlay mid.now.trees []) [] rows
+versions_answer mid new rows has shown = (reads_as select_versions [] mid new second_schema has _ select_versions_is.0 select_versions_is.2 select_versions_is.1 rows shown).answer Null
+
+pub versions_shown : (mid new : State) (rows : List Row) (version : ℕ) → mid.now.schema ≡ second_schema → Shown select_versions [] mid new rows → HoldsVersion version mid.now.trees → rows ≡ map version_row (version ∷ [])
+versions_shown mid new rows version has shown holds =
+    are_shown 0 mid.now.trees refl version_cells version_row nat_cmp nat_cmp_total version_cells_read by_version (λ _. refl) (λ _. refl) (λ _. refl) (λ a b less. by_number a b ∙ less) version_columns (λ _. refl) (λ _. refl) rows (version ∷ [])
+    (versions_answer mid new rows has shown) holds
+
 pub versions_read : (old mid new : State) (ids rows : List Row) (entries : List ℕ) → old.now.schema ≡ second_schema → mid.now ≡ old.now → Shown version_rowids [] old mid ids → Shown select_versions [] mid new rows → AreRowids ids → map version_row entries ≡ map version_columns rows
     → IsListOf version_cells version_row nat_cmp (old.now.trees 0) entries
 versions_read old mid new ids rows entries has same first second are is =
     let found = reads_as version_rowids [] old mid second_schema has _ version_rowids_is.0 version_rowids_is.2 version_rowids_is.1 ids first in
-    let read = reads_as select_versions [] mid new second_schema (ap (λ (d : Database). d.schema) same ∙ has) _ select_versions_is.0 select_versions_is.2 select_versions_is.1 rows second in
-    let answer = subst (λ (d : Database). IsAnswer (over 0 [] version_cells_read by_version every) (overlay d.trees []) [] rows) same (read.answer Null) in
+    let answer = subst (λ (d : Database). IsAnswer (over 0 [] version_cells_read by_version every) (overlay d.trees []) [] rows) same (versions_answer mid new rows (ap (λ (d : Database). d.schema) same ∙ has) second) in
     is_list 0 old.now.trees refl version_cells version_row nat_cmp nat_cmp_total version_cells_read by_version (λ _. refl) (λ _. refl) (λ _. refl) (λ a b less. by_number a b ∙ less) version_columns (λ _. refl) (λ _. refl) rows entries answer
     (rowids_shown 0 old.now.trees refl ids (found.answer Null) are) is
 

@@ -1,4 +1,5 @@
 -- Tables that may be read in pieces. For contracts inside the crate.
+use Rattle.std.specs.List.{AllByRecursion}
 use Rattle.std.specs.Prelude.{◌≡◌, ◌+◌, ℕ, Bool, List, [], filter, is_some, length}
 use Rattle.sqlite.specs.declared.types.Value.{Value}
 use Rattle.sqlite.specs.declared.types.Value.TheVariants.{Text as Words}
@@ -18,7 +19,7 @@ use Rattle.osb_contexts.specs.Read.{HaveRowids}
 use Rattle.osb_contexts.specs.Reads.{IsRunning}
 use Rattle.osb_contexts.specs.Steps.{HasContexts, ContextSteps}
 use Rattle.osb_statements.specs.declared.pieces.Piece.{Piece}
-use Rattle.osb_statements.specs.Read.{AreOrdersOf, AreInstancesOf, AreBindingsOf}
+use Rattle.osb_statements.specs.Read.{AreOrdersOf, AreInstancesOf, AreBindingsOf, OrderFits, InstanceFits}
 use Rattle.osb_statements.specs.Instances.{instance_row, instance_cells}
 use Rattle.osb_statements.specs.Bindings.{binding_row, binding_cells}
 use Rattle.osb_statements.specs.Stored.{entry_row, order_cells, entries_in, instances_in, bindings_in, bare_lives_in, content_in}
@@ -47,7 +48,12 @@ pub record HoldRows (db : Trees) : Type 0 where
   pub instances : Stores instance_cells instance_row instance_cmp (db 3) (instances_in db)
   pub bindings : Stores binding_cells binding_row binding_cmp (db 5) (bindings_in db)
 
--- and these are the rows of well-formed lives, which have no contexts
+-- their numbers have 32 bits
+pub record RowsFit (db : Trees) : Type 0 where
+  pub orders : AllByRecursion OrderFits (entries_in db)
+  pub instances : AllByRecursion InstanceFits (instances_in db)
+
+-- these are the rows of well-formed lives, which have no contexts
 pub record StoreRows (db : Trees) : Type 0 where
   pub holds : HoldRows db
   pub lives : IsLives (bare_lives_in db)

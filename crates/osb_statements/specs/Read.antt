@@ -1,5 +1,5 @@
 -- Rows that were read, and what they are read as. For contracts inside the crate.
-use Rattle.std.specs.Prelude.{◌≡◌, ◌≢◌, ℕ, Result, Err, IfOk, List, map, [], ◌∷◌, Option, option_map, slice_get}
+use Rattle.std.specs.Prelude.{◌≡◌, ◌≢◌, ◌<◌, ◌^◌, ℕ, Result, Err, IfOk, List, map, [], ◌∷◌, Option, option_map, slice_get}
 use Rattle.std.specs.declared.cmp.Ordering.{Ordering}
 use Rattle.std.specs.Ordering.{nat_cmp}
 use Rattle.sqlite.specs.declared.types.Value.TheVariants.{Text as Words}
@@ -26,11 +26,18 @@ pub record IsReadAs {V : Type 0} (number_of : V → ℕ) (numbered : ℕ → V) 
   pub held : IfOk result (λ value. number ≡ number_of value)
   pub known : (value : V) → number ≡ number_of value → result ≢ Err NotOurs
 
--- A row was read as an entry: at `Ok` these columns show the entry, and NotOurs says that the row shows none.
-pub record IsEntryOf {E : Type 0} (shown : E → Row) (columns : Row → Row) (row : Row)
-    (result : Result E StoreFault) : Type 0 where
+-- the number of an order has 32 bits, and so has that of an instance's last order
+abbrev pub OrderFits : Entry → Type 0
+OrderFits entry = entry.1.number < 2 ^ 32
+
+abbrev pub InstanceFits : InstanceEntry → Type 0
+InstanceFits entry = entry.1.last_number < 2 ^ 32
+
+-- A row was read as an entry: at `Ok` these columns show the entry, and NotOurs says that the row shows none that fits.
+pub record IsEntryOf {E : Type 0} (shown : E → Row) (columns : Row → Row) (Fits : E → Type 0)
+    (row : Row) (result : Result E StoreFault) : Type 0 where
   pub told : IfOk result (λ entry. shown entry ≡ columns row)
-  pub known : (entry : E) → row ≡ shown entry → result ≢ Err NotOurs
+  pub known : (entry : E) → row ≡ shown entry → Fits entry → result ≢ Err NotOurs
 
 -- the columns hold these attributes
 abbrev pub HoldAttributes : Row → Attributes → Type 0

@@ -1,6 +1,6 @@
 //! The table of the current state of bindings: its columns, its rows, and the statements on it.
 
-ghost use Rattle.std.specs.Prelude.{◌≡◌, ◌≢◌, ◌==◌, List, map, Err, IfOk, [], ◌∷◌, IsTrue, filter, false, not, length, ◌↔◌, true, IfErr};
+ghost use Rattle.std.specs.Prelude.{◌≡◌, ◌≢◌, ◌==◌, ⊤, List, map, Err, IfOk, [], ◌∷◌, IsTrue, filter, false, not, length, ◌↔◌, true, IfErr};
 ghost use Rattle.std.specs.List.{list_any};
 ghost use Rattle.sqlite.specs.State.{HasCleanDisk, ExecutesInside};
 ghost use Rattle.sqlite.specs.declared.error.Error.TheVariants as fault;
@@ -109,8 +109,9 @@ fn first_binding_in(alloc: Global, rows: &[Row]) -> Result<Option<BindingNow>, S
     }
 }
 
+#[tactic(auto, using(crate::proofs::CodeLemmas::binding_phase_fits))]
 fn binding_entry_in(row: &Row) -> Result<BindingEntry, StoreFault>
-    ensures { IsEntryOf binding_row binding_columns row.now result }
+    ensures { IsEntryOf binding_row binding_columns (λ _. ⊤) row.now result }
 {
     Ok(BindingEntry {
         phase: binding_phase_numbered(number_in(row, 2)?)?,

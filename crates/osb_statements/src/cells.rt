@@ -1,12 +1,13 @@
 //! Cells of a row as values.
 
-ghost use Rattle.std.specs.Prelude.{◌≡◌, true, pos, map, IfOk, IfErr, OnOk};
+ghost use Rattle.std.specs.Prelude.{◌≡◌, ◌≢◌, ◌<◌, ◌^◌, ℕ, true, pos, map, Err, IfOk, IfErr, OnOk};
 ghost use Rattle.std.specs.Ordering.{nat_cmp};
 ghost use Rattle.std.specs.List.Sorted.{IsStrictlySortedBy};
 ghost use Rattle.sqlite.specs.declared.types.Value.TheVariants.{Int, Text as Words};
 ghost use Rattle.sqlite.specs.Order.{column, bytes};
 ghost use Rattle.sqlite_trees.specs.Tree.{rowid};
 ghost use Rattle.osb_statements.specs.Causes.{IsRefused};
+ghost use Rattle.osb_statements.specs.declared.fault.StoreFault.TheVariants as faults;
 ghost use Rattle.osb_statements.specs.Read.{HoldAttributes};
 ghost use Rattle.osb_contexts.specs.Read.{rowid_shown, AreRowids};
 ghost use Rattle.osb_statements.specs.Columns.{number_in, attributes_decoded};
@@ -15,7 +16,7 @@ use crate::cause::Cause;
 use crate::fault::StoreFault;
 use osb_orders::Attributes;
 use osb_text::Text;
-use sqlite::Row;
+use sqlite::{Error, Row};
 use std::alloc::Global;
 
 pub(crate) fn text_in(row: &Row, at: usize) -> Result<Text, StoreFault>
@@ -27,12 +28,18 @@ pub(crate) fn text_in(row: &Row, at: usize) -> Result<Text, StoreFault>
     Ok(Text::from(string))
 }
 
+/// A number of a row. One that isn't of 32 bits is in no row of ours.
 pub(crate) fn number_in(row: &Row, at: usize) -> Result<u32, StoreFault>
     ensures told { IfOk result (λ number. number ≡ number_in (column row.now at)) }
     ensures held { IfOk result (λ number. column row.now at ≡ Int (pos number)) }
-    ensures refused { IfErr result IsRefused }
+    ensures known { (number : ℕ) → column row.now at ≡ Int (pos number) → number < 2 ^ 32 →
+        result ≢ Err faults.NotOurs }
 {
-    Ok(row.get(at)?)
+    match row.get(at) {
+        Ok(number) => Ok(number),
+        Err(Error::IntegralValueOutOfRange(_)) => Err(StoreFault::NotOurs),
+        Err(error) => Err(StoreFault::from(error)),
+    }
 }
 
 /// The attributes that the columns hold. None of them is the context.

@@ -1,6 +1,6 @@
 //! How tables of version 1 become those of version 2: in pieces, inside a transaction.
 
-ghost use Rattle.std.specs.Prelude.{◌≡◌, ◌≢◌, false, true, [], Err, IsTrue, IfOk, IfErr};
+ghost use Rattle.std.specs.Prelude.{◌≡◌, ◌≢◌, false, true, [], Err, IsTrue, IfOk};
 ghost use Rattle.std.specs.Ordering.{is_gt};
 ghost use Rattle.sqlite.specs.Order.{value_cmp};
 ghost use Rattle.sqlite.specs.State.{HasCleanDisk};
@@ -19,7 +19,6 @@ ghost use Rattle.osb_contexts.specs.Steps.{contexts, ShowsContexts, ContextSteps
 ghost use Rattle.osb_statements.specs.Pieces.{AreSeparateRows, StoreRows, HaveContexts, IsMigrating, MigratesTo};
 ghost use Rattle.osb_statements.specs.Stored.{bare_lives_in};
 ghost use Rattle.osb_statements.specs.StoredLives.{StoreFirst};
-ghost use Rattle.osb_statements.specs.Causes.{IsRefused};
 ghost use Rattle.osb_statements.specs.declared.fault.StoreFault.TheVariants as faults;
 
 use crate::bindings::are_bindings_named;
@@ -42,7 +41,8 @@ fn may_migrate<S: Alter>(tx: &mut Transaction<'_, S>, alloc: Global) -> Result<b
     ensures all { Finds S.Store tx.old tx.new result (λ s yes.
         StoreFirst s.now.trees → yes ≡ true) }
     ensures reads { Reads S.Store tx.old tx.new result }
-    ensures refused { IfErr result IsRefused }
+    ensures known { HasCleanDisk (behind S.Store tx.new) →
+        StoreFirst (behind S.Store tx.old).now.trees → result ≢ Err faults.NotOurs }
 {
     if !is_version(tx, alloc, 1)? {
         return Ok(false);

@@ -1,9 +1,10 @@
 //! The table of the format, which holds one version.
 
-ghost use Rattle.std.specs.Prelude.{◌≡◌, map, IfOk, IfErr, [], ◌∷◌};
+ghost use Rattle.std.specs.Prelude.{◌≡◌, ◌≢◌, ◌<◌, ◌^◌, ℕ, map, Err, IfOk, [], ◌∷◌};
+ghost use Rattle.sqlite.specs.State.{HasCleanDisk};
 ghost use Rattle.osb_tables.specs.Tables.{second_schema, no_schema, format_schema};
-ghost use Rattle.osb_statements.specs.Causes.{IsRefused};
-ghost use Rattle.osb_contexts.specs.Format.{version_row};
+ghost use Rattle.osb_statements.specs.declared.fault.StoreFault.TheVariants as faults;
+ghost use Rattle.osb_contexts.specs.Format.{version_row, HoldsVersion};
 ghost use Rattle.osb_statements.specs.Read.{version_columns, AreVersionsOf};
 ghost use Rattle.osb_contexts.specs.Inside.{ShowsSchema};
 ghost use Rattle.osb_statements.specs.Inside.{Makes};
@@ -19,7 +20,8 @@ use std::alloc::Global;
 fn versions_in(alloc: Global, rows: &[Row]) -> Result<Vec<u32>, StoreFault>
     ensures told { IfOk result (λ versions.
         map version_row versions.items ≡ map version_columns rows.now) }
-    ensures refused { IfErr result IsRefused }
+    ensures known { (version : ℕ) → rows.now ≡ map version_row (version ∷ []) → version < 2 ^ 32 →
+        result ≢ Err faults.NotOurs }
 {
     let mut versions = Vec::new(alloc);
     for row in rows {
@@ -50,7 +52,9 @@ pub(crate) fn read_versions<S: Alter>(
     ensures ok { Finds S.Store tx.old tx.new result (λ s entries.
         AreVersionsOf s.now.trees entries.items) }
     ensures reads { Reads S.Store tx.old tx.new result }
-    ensures refused { IfErr result IsRefused }
+    ensures known { HasCleanDisk (behind S.Store tx.new) → (version : ℕ) →
+        HoldsVersion version (behind S.Store tx.old).now.trees → version < 2 ^ 32 →
+        result ≢ Err faults.NotOurs }
 {
     let ids = select(tx, "SELECT rowid FROM format ORDER BY rowid", &[])?;
     let rows = select(tx, "SELECT version FROM format ORDER BY version", &[])?;

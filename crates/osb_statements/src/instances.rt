@@ -1,6 +1,7 @@
 //! The table of the current state of instances: its columns, its rows, and the statements on it.
 
 ghost use Rattle.std.specs.Prelude.{◌≡◌, ◌≢◌, ◌↔◌, ◌==◌, true, List, map, Option, Err, IfOk, [], ◌∷◌, IsTrue, filter, ℕ, Some, take, false, IfErr};
+ghost use Rattle.std.specs.List.{AllByRecursion};
 ghost use Rattle.sqlite.specs.Order.{column, bytes};
 ghost use Rattle.sqlite.specs.State.{HasCleanDisk, ExecutesInside};
 ghost use Rattle.sqlite.specs.declared.error.Error.TheVariants as fault;
@@ -18,7 +19,7 @@ ghost use Rattle.osb_statements.specs.Queries.{ShowsRecords};
 ghost use Rattle.osb_statements.specs.Asked.{busy_row, id_row, is_above, order_for};
 ghost use Rattle.osb_rows.specs.Rows.{Stores};
 ghost use Rattle.osb_statements.specs.Columns.{number_in};
-ghost use Rattle.osb_statements.specs.Read.{IsReadAs, IsEntryOf, AreInstancesOf, instance_columns, first_told};
+ghost use Rattle.osb_statements.specs.Read.{IsReadAs, IsEntryOf, InstanceFits, AreInstancesOf, instance_columns, first_told};
 ghost use Rattle.osb_bare.specs.Bare.{bare_attributes, bare_row};
 ghost use Rattle.osb_statements.specs.Stored.{AreBareRows};
 ghost use Rattle.sqlite.specs.Values.{bound_value};
@@ -178,10 +179,11 @@ fn standing_decoded(number: u32, attributes: Attributes) -> Result<Option<Standi
 }
 
 /// The state of the instance of the row.
+#[tactic(auto, using(crate::proofs::CodeLemmas::busy_fits, crate::proofs::CodeLemmas::standing_fits))]
 fn instance_row_in(alloc: Global, row: &Row) -> Result<InstanceRow, StoreFault>
     ensures told { IfOk result (λ found. found ≡ instance_row_decoded row.now) }
     ensures held { IfOk result (λ found. standing_row found ≡ standing_columns row.now) }
-    ensures known { (entry : InstanceEntry) → row.now ≡ instance_row entry →
+    ensures known { (entry : InstanceEntry) → row.now ≡ instance_row entry → InstanceFits entry →
         result ≢ Err faults.NotOurs }
 {
     Ok(InstanceRow {
@@ -203,7 +205,7 @@ fn first_instance_in(alloc: Global, rows: &[Row]) -> Result<Option<InstanceRow>,
 
 /// The row with the id of its instance.
 fn instance_in(alloc: Global, row: &Row) -> Result<(Text, InstanceRow), StoreFault>
-    ensures entry { IsEntryOf instance_row instance_columns row.now result }
+    ensures entry { IsEntryOf instance_row instance_columns InstanceFits row.now result }
     ensures bare { IfOk result (λ entry. bare_row entry.1 ≡ entry.1) }
 {
     Ok((text_in(row, 0)?, instance_row_in(alloc, row)?))
@@ -215,7 +217,7 @@ fn instances_in(alloc: Global, rows: &[Row]) -> Result<Vec<(Text, InstanceRow)>,
         (map instance_row entries.items ≡ map instance_columns rows.now)
         × AreBareRows entries.items) }
     ensures known { (entries : List InstanceEntry) → rows.now ≡ map instance_row entries →
-        result ≢ Err faults.NotOurs }
+        AllByRecursion InstanceFits entries → result ≢ Err faults.NotOurs }
 {
     let mut entries = Vec::new(alloc);
     for row in rows {
@@ -418,7 +420,8 @@ pub(crate) fn read_instances_between<S: Alter>(
     ensures known { HasCleanDisk (behind S.Store tx.new) → (instances : List InstanceEntry) →
         Stores instance_cells instance_row instance_cmp
         (piece after.now (bound_value (owned to.entry))
-        (behind S.Store tx.old).now.trees 3) instances → result ≢ Err faults.NotOurs }
+        (behind S.Store tx.old).now.trees 3) instances → AllByRecursion InstanceFits instances →
+        result ≢ Err faults.NotOurs }
 {
     let rows = select(
         tx,

@@ -20,7 +20,8 @@ ghost use Rattle.osb_statements.specs.declared.fault.StoreFault.TheVariants as f
 ghost use Rattle.osb_statements.specs.Queries.{ShowsRecords};
 ghost use Rattle.osb_statements.specs.Asked.{first_order, is_kind_of};
 ghost use Rattle.osb_rows.specs.Rows.{Stores};
-ghost use Rattle.osb_statements.specs.Read.{IsReadAs, IsEntryOf, entry_columns, AreOrdersOf};
+ghost use Rattle.std.specs.List.{AllByRecursion};
+ghost use Rattle.osb_statements.specs.Read.{IsReadAs, IsEntryOf, OrderFits, entry_columns, AreOrdersOf};
 ghost use Rattle.osb_statements.specs.Stored.{AreBare, kind_numbered, state_numbered, order_decoded, order_row, order_columns, entry_row, order_cells, entries_in};
 ghost use Rattle.osb_bare.specs.Bare.{bare_order};
 ghost use Rattle.sqlite.specs.Values.{bound_value};
@@ -80,6 +81,7 @@ fn state_numbered(number: u32) -> Result<OrderState, StoreFault>
     }
 }
 
+#[tactic(auto, using(crate::proofs::CodeLemmas::state_fits))]
 fn outcome_in(row: &Row) -> Result<Outcome, StoreFault>
     ensures told { IfOk result (λ outcome. outcome ≡ (order_decoded row.now).outcome) }
     ensures held { IfOk result (λ outcome.
@@ -96,10 +98,12 @@ fn outcome_in(row: &Row) -> Result<Outcome, StoreFault>
     })
 }
 
+#[tactic(auto, using(crate::proofs::CodeLemmas::kind_fits))]
 fn order_in(alloc: Global, row: &Row) -> Result<Order, StoreFault>
     ensures told { IfOk result (λ order. order ≡ order_decoded row.now) }
     ensures held { IfOk result (λ order. order_columns row.now ≡ order_row order) }
-    ensures known { (entry : Entry) → row.now ≡ entry_row entry → result ≢ Err faults.NotOurs }
+    ensures known { (entry : Entry) → row.now ≡ entry_row entry → OrderFits entry →
+        result ≢ Err faults.NotOurs }
 {
     Ok(Order {
         number: number_in(row, 1)?,
@@ -133,7 +137,7 @@ fn first_order_in(alloc: Global, rows: &[Row]) -> Result<Option<Order>, StoreFau
 
 /// The order of the row, with the id of its instance.
 fn entry_in(alloc: Global, row: &Row) -> Result<(Text, Order), StoreFault>
-    ensures entry { IsEntryOf entry_row entry_columns row.now result }
+    ensures entry { IsEntryOf entry_row entry_columns OrderFits row.now result }
     ensures bare { IfOk result (λ entry. bare_order entry.1 ≡ entry.1) }
 {
     Ok((text_in(row, 0)?, order_in(alloc, row)?))
@@ -144,7 +148,7 @@ fn entries_in(alloc: Global, rows: &[Row]) -> Result<Vec<(Text, Order)>, StoreFa
     ensures told { IfOk result (λ entries.
         (map entry_row entries.items ≡ map entry_columns rows.now) × AreBare entries.items) }
     ensures known { (entries : List Entry) → rows.now ≡ map entry_row entries →
-        result ≢ Err faults.NotOurs }
+        AllByRecursion OrderFits entries → result ≢ Err faults.NotOurs }
 {
     let mut entries = Vec::new(alloc);
     for row in rows {
@@ -332,7 +336,8 @@ pub(crate) fn read_orders_between<S: Alter>(
     ensures reads { Reads S.Store tx.old tx.new result }
     ensures known { HasCleanDisk (behind S.Store tx.new) → (orders : List Entry) →
         Stores order_cells entry_row entry_cmp (piece after.now (bound_value (owned to.entry))
-        (behind S.Store tx.old).now.trees 1) orders → result ≢ Err faults.NotOurs }
+        (behind S.Store tx.old).now.trees 1) orders → AllByRecursion OrderFits orders →
+        result ≢ Err faults.NotOurs }
 {
     let rows = select(
         tx,

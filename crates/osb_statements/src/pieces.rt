@@ -13,12 +13,13 @@ ghost use Rattle.sqlite_value.specs.Value.{owned};
 ghost use Rattle.osb_audit.specs.declared.entry.BindingEntry.{BindingEntry};
 ghost use Rattle.osb_joined.specs.Audit.{HaveNoContexts, AreRowsWithContexts};
 ghost use Rattle.osb_tables.specs.Tables.{second_schema};
+ghost use Rattle.osb_contexts.specs.Contexts.{AreContextsOf};
 ghost use Rattle.osb_contexts.specs.Format.{HoldsVersion};
 ghost use Rattle.osb_contexts.specs.Inside.{ShowsSchema};
 ghost use Rattle.osb_contexts.specs.Pieces.{piece, AreNamed};
 ghost use Rattle.osb_contexts.specs.Read.{HaveRowids};
 ghost use Rattle.osb_contexts.specs.Reads.{Reads, MayRead, Finds, MayFind, behind};
-ghost use Rattle.osb_statements.specs.Pieces.{AreSeparateRows, MayBeCut, HoldRows, IsReadOf};
+ghost use Rattle.osb_statements.specs.Pieces.{AreSeparateRows, MayBeCut, HoldRows, RowsFit, IsReadOf};
 ghost use Rattle.osb_statements.specs.StoredLives.{StoreLives};
 ghost use Rattle.osb_statements.specs.Causes.{IsRefused};
 ghost use Rattle.osb_statements.specs.declared.fault.StoreFault.TheVariants as faults;
@@ -66,7 +67,8 @@ pub(crate) fn is_version<S: Alter>(
     ensures ok { Finds S.Store tx.old tx.new result (λ s yes.
         (yes ≡ true) ↔ HoldsVersion version s.now.trees) }
     ensures reads { Reads S.Store tx.old tx.new result }
-    ensures refused { IfErr result IsRefused }
+    ensures known { HasCleanDisk (behind S.Store tx.new) →
+        HoldsVersion version (behind S.Store tx.old).now.trees → result ≢ Err faults.NotOurs }
 {
     let versions = read_versions(tx, alloc)?;
     Ok(versions.as_slice() == [version].as_slice())
@@ -113,7 +115,8 @@ fn may_be_cut<S: Alter>(tx: &mut Transaction<'_, S>, alloc: Global) -> Result<bo
     ensures all { Finds S.Store tx.old tx.new result (λ s yes.
         StoreLives s.now.trees → yes ≡ true) }
     ensures reads { Reads S.Store tx.old tx.new result }
-    ensures refused { IfErr result IsRefused }
+    ensures known { HasCleanDisk (behind S.Store tx.new) →
+        StoreLives (behind S.Store tx.old).now.trees → result ≢ Err faults.NotOurs }
 {
     if !is_version(tx, alloc, 2)? {
         return Ok(false);
@@ -137,6 +140,8 @@ pub(crate) fn read_piece<S: Alter>(
     ensures reads { Reads S.Store tx.old tx.new result }
     ensures known { HasCleanDisk (behind S.Store tx.new) →
         HoldRows (piece after.now (bound_value (owned to.entry))
+        (behind S.Store tx.old).now.trees) →
+        RowsFit (piece after.now (bound_value (owned to.entry))
         (behind S.Store tx.old).now.trees) → result ≢ Err faults.NotOurs }
 {
     let orders = read_orders_between(tx, alloc, after, to)?;
@@ -147,6 +152,27 @@ pub(crate) fn read_piece<S: Alter>(
         instances,
         bindings,
     })
+}
+
+/// The contexts of the instances with ids above the first and up to the second.
+fn read_contexts_between<S: Alter>(
+    tx: &mut Transaction<'_, S>,
+    alloc: Global,
+    after: &str,
+    to: ValueRef<'_>,
+) -> Result<Vec<ContextEntry>, StoreFault>
+    requires { ShowsSchema second_schema (behind S.Store tx.old) }
+    ensures ok { Finds S.Store tx.old tx.new result (λ s entries. HaveRowids (s.now.trees 7) →
+        AreContextsOf (piece after.now (bound_value (owned to.entry)) s.now.trees) entries.items) }
+    ensures reads { Reads S.Store tx.old tx.new result }
+    ensures known { HasCleanDisk (behind S.Store tx.new) →
+        StoreLives (piece after.now (bound_value (owned to.entry))
+        (behind S.Store tx.old).now.trees) → result ≢ Err faults.NotOurs }
+{
+    match read_contexts(tx, alloc, after, to)? {
+        Some(contexts) => Ok(contexts),
+        None => Err(StoreFault::NotOurs),
+    }
 }
 
 fn are_lives(alloc: Global, read: &Piece, contexts: &[ContextEntry]) -> Result<bool, StoreFault>
@@ -182,7 +208,7 @@ fn is_piece_whole<S: Alter>(
         (behind S.Store tx.old).now.trees) → result ≢ Err faults.NotOurs }
 {
     let read = read_piece(tx, alloc, after, to)?;
-    let contexts = read_contexts(tx, alloc, after, to)?;
+    let contexts = read_contexts_between(tx, alloc, after, to)?;
     are_lives(alloc, &read, &contexts)
 }
 

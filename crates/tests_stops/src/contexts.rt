@@ -309,7 +309,10 @@ fn contexts_of<S: Alter>(
     let mut tx = conn.transaction();
     reshape(&mut tx, indexes)?;
     insert_contexts(&mut tx, entries)?;
-    read_contexts(&mut tx, alloc, after, to)
+    match read_contexts(&mut tx, alloc, after, to)? {
+        Some(contexts) => Ok(contexts),
+        None => Err(Error::InvalidQuery),
+    }
 }
 
 fn is_context(alloc: Global, number: u32, context: &str) -> Result<bool, Error> {

@@ -65,7 +65,11 @@ fn found_from<S: Start>(
 }
 
 /// How many orders the instance `i` has in a file, before these statements are run.
-fn open_and_run(rt: &HostRuntime, path: &str, statements: &[&str]) -> Result<usize, FileFault> {
+pub(crate) fn open_and_run(
+    rt: &HostRuntime,
+    path: &str,
+    statements: &[&str],
+) -> Result<usize, FileFault> {
     let (_, count) = found_from(rt, path, false, statements, Unknown)?;
     Ok(count)
 }
@@ -77,7 +81,7 @@ fn origin_at(rt: &HostRuntime, path: &str, existing: bool) -> Result<Origin, Fil
 }
 
 /// The path of a file in the folder for such, where neither it nor its log is.
-fn unused(rt: &HostRuntime, name: &str) -> Result<String, Fail> {
+pub(crate) fn unused(rt: &HostRuntime, name: &str) -> Result<String, Fail> {
     let folder = env::temp_dir(rt)?;
     let path = format!(in rt.alloc(); "{}/{name}", folder.display())?;
     let log = format!(in rt.alloc(); "{}-wal", path.as_str())?;

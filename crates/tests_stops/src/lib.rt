@@ -6,6 +6,8 @@
 #[cfg(test)]
 mod adopting;
 #[cfg(test)]
+mod causes;
+#[cfg(test)]
 mod contexts;
 #[cfg(test)]
 mod files;

@@ -43,7 +43,7 @@ fn is_left(alloc: Global, mut conn: Connection<MemStore>) -> bool {
 }
 
 /// What is done to a new database.
-static SPOILT: [&[&str]; 18] = [
+static SPOILT: [&[&str]; 20] = [
     // another phase, and an order without a row of its instance
     &[ORDER, FAILED, OF_ORDER, STANDING],
     &[ORDER, OF_ORDER, STANDING],
@@ -62,6 +62,8 @@ static SPOILT: [&[&str]; 18] = [
     &["UPDATE format SET version = 0"],
     &["UPDATE format SET version = 1"],
     &["UPDATE format SET version = 3"],
+    &["UPDATE format SET version = -1"],
+    &["UPDATE format SET version = 4294967298"],
     &["INSERT INTO format VALUES (1)"],
     &["DELETE FROM format"],
     &[NO_SUBJECTS, "UPDATE format SET version = 1"],
@@ -78,6 +80,22 @@ static SPOILT_CONTEXTS: [&str; 7] = [
     "UPDATE contexts SET context = ''",
     "UPDATE contexts SET context = '{\"a\":1}' WHERE seq = 0",
     "UPDATE contexts SET context = '{\"a\":1}' WHERE seq = 1",
+];
+
+/// The same of its numbers, which aren't of 32 bits then.
+static SPOILT_NUMBERS: [&str; 12] = [
+    "UPDATE contexts SET seq = -1 WHERE seq = 0",
+    "UPDATE contexts SET seq = seq + 4294967296 WHERE seq = 1",
+    "UPDATE orders SET seq = -1",
+    "UPDATE orders SET seq = seq + 4294967296",
+    "UPDATE orders SET kind = -1",
+    "UPDATE orders SET kind = kind + 4294967296",
+    "UPDATE orders SET state = -1",
+    "UPDATE orders SET state = state + 4294967296",
+    "UPDATE instances SET phase = -1",
+    "UPDATE instances SET phase = phase + 4294967296",
+    "UPDATE instances SET busy = busy + 4294967296",
+    "UPDATE instances SET last_seq = last_seq + 4294967296",
 ];
 
 /// What is done to a new database of version 1 without an index.
@@ -117,9 +135,9 @@ fn whole_and(alloc: Global, statement: &str) -> Result<Connection<MemStore>, Sto
     after(changed(alloc, &WHOLE)?, &[statement])
 }
 
-/// The same of contexts.
-fn first_context_taken(alloc: Global) -> Result<Option<usize>, StoreFault> {
-    for (at, statement) in SPOILT_CONTEXTS.iter().enumerate() {
+/// The same of rows.
+fn first_row_taken(alloc: Global, spoilt: &[&str]) -> Result<Option<usize>, StoreFault> {
+    for (at, statement) in spoilt.iter().enumerate() {
         if !is_left(alloc, whole_and(alloc, statement)?) {
             return Ok(Some(at));
         }
@@ -145,7 +163,13 @@ fn another_database_is_not_taken(rt: HostRuntime) -> Result<(), Fail> {
 
 #[test]
 fn other_contexts_are_not_taken(rt: HostRuntime) -> Result<(), Fail> {
-    assert!(rt; first_context_taken(rt.alloc())? == None);
+    assert!(rt; first_row_taken(rt.alloc(), &SPOILT_CONTEXTS)? == None);
+    Ok(())
+}
+
+#[test]
+fn other_numbers_are_not_taken(rt: HostRuntime) -> Result<(), Fail> {
+    assert!(rt; first_row_taken(rt.alloc(), &SPOILT_NUMBERS)? == None);
     Ok(())
 }
 

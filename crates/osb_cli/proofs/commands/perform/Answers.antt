@@ -1,8 +1,8 @@
 use Rattle.std.proofs.Common.{codes, refl, inl, inr, map, string_bytes}
 use Rattle.std.proofs.lemmas.Option.{IfSome_then}
 use Rattle.std.proofs.lemmas.Result.{IfErr-weaker, on_ok_weaker}
-use Rattle.osb_cli.specs.Inside.{AsksBackup, AsksCheck, AsksReplay, AsksServe, AsksTrim}
-use Rattle.osb_cli.proofs.DoneLemmas.{done_well, if_failed, is_backed_up, is_checked, is_listened, is_replayed, is_trimmed, not_both}
+use Rattle.osb_cli.specs.Inside.{AsksBackup, AsksCheck, AsksReady, AsksReplay, AsksServe, AsksTrim}
+use Rattle.osb_cli.proofs.DoneLemmas.{done_well, if_failed, is_answered, is_backed_up, is_checked, is_listened, is_replayed, is_trimmed, not_both}
 use Rattle.osb_cli.proofs.ReportedLemmas.{of_command, other_text, unserved_more}
 use Rattle.osb_cli.proofs.ServeLemmas.{finds_unless_plan, in_vain, left_as}
 use Rattle.osb_cli.specs.Words.{found_by, text_in}
@@ -18,6 +18,12 @@ pub returns-in-Check-clause-done : goal.returns-in-Check-clause-done
 returns-in-Check-clause-done g c taken =
     let asks : AsksCheck _ c.in-Check.asked = rw c.in-Check.is at c.in-Ok.ensures.ok in
     on_ok_weaker c.check.result (λ checked. is_checked _ _ _ _ _ _ c.in-Check.asked asks checked) c.check.ensures.checked
+
+pub returns-in-Ready-clause-done : goal.returns-in-Ready-clause-done
+returns-in-Ready-clause-done g c taken =
+    let asks : AsksReady _ c.in-Ready.asked = rw c.in-Ready.is at c.in-Ok.ensures.ok in
+    done_well c.ready.result c.without_file-in-Ready.result.0 _ c.without_file-in-Ready.ensures.well
+    (on_ok_weaker c.ready.result (λ at. is_answered _ _ _ _ _ _ c.in-Ready.asked asks at refl) c.ready.ensures.address)
 
 pub returns-in-Replay-clause-done : goal.returns-in-Replay-clause-done
 returns-in-Replay-clause-done g c taken =
@@ -80,6 +86,10 @@ pub returns-in-Backup-clause-checks : goal.returns-in-Backup-clause-checks
 returns-in-Backup-clause-checks g c =
     IfErr-weaker c.without_file-in-Backup.result.0 _ _ (λ fault other _. finds_unless_plan _ (text_in (codes "settings") (found_by (map string_bytes c.args.words.now))) (text_in (codes "database") (found_by (map string_bytes c.args.words.now))) fault other) c.without_file-in-Backup.ensures.other
 
+pub returns-in-Ready-clause-checks : goal.returns-in-Ready-clause-checks
+returns-in-Ready-clause-checks g c =
+    IfErr-weaker c.without_file-in-Ready.result.0 _ _ (λ fault other _. finds_unless_plan _ (text_in (codes "settings") (found_by (map string_bytes c.args.words.now))) (text_in (codes "database") (found_by (map string_bytes c.args.words.now))) fault other) c.without_file-in-Ready.ensures.other
+
 pub returns-in-Trim-clause-checks : goal.returns-in-Trim-clause-checks
 returns-in-Trim-clause-checks g c =
     IfErr-weaker c.without_file-in-Trim.result.0 _ _ (λ fault other _. finds_unless_plan _ (text_in (codes "settings") (found_by (map string_bytes c.args.words.now))) (text_in (codes "database") (found_by (map string_bytes c.args.words.now))) fault other) c.without_file-in-Trim.ensures.other
@@ -101,6 +111,11 @@ pub returns-in-Check-clause-opened : goal.returns-in-Check-clause-opened
 returns-in-Check-clause-opened g c taken serves =
     let asks : AsksCheck _ c.in-Check.asked = rw c.in-Check.is at c.in-Ok.ensures.ok in
     absurd (not_both _ (codes "check") (codes "serve") refl asks.named serves)
+
+pub returns-in-Ready-clause-opened : goal.returns-in-Ready-clause-opened
+returns-in-Ready-clause-opened g c taken serves =
+    let asks : AsksReady _ c.in-Ready.asked = rw c.in-Ready.is at c.in-Ok.ensures.ok in
+    absurd (not_both _ (codes "ready") (codes "serve") refl asks.named serves)
 
 pub returns-in-Trim-clause-opened : goal.returns-in-Trim-clause-opened
 returns-in-Trim-clause-opened g c taken serves =
@@ -132,6 +147,12 @@ returns-in-Backup-clause-fault g c =
     of_command (λ text. ⊥) _ (λ text are. absurd are)
     c.backup.result c.without_file-in-Backup.result.0 c.without_file-in-Backup.ensures.same
     (IfErr-weaker c.backup.result _ _ (other_text (λ text. ⊥)) c.backup.ensures.other)
+
+pub returns-in-Ready-clause-fault : goal.returns-in-Ready-clause-fault
+returns-in-Ready-clause-fault g c =
+    of_command (λ text. ⊥) _ (λ text are. absurd are)
+    c.ready.result c.without_file-in-Ready.result.0 c.without_file-in-Ready.ensures.same
+    (IfErr-weaker c.ready.result _ _ (other_text (λ text. ⊥)) c.ready.ensures.other)
 
 pub returns-in-Trim-clause-fault : goal.returns-in-Trim-clause-fault
 returns-in-Trim-clause-fault g c =

@@ -16,5 +16,5 @@ returns-in-Plan g c =
 
 pub returns-in-Mode : goal.returns-in-Mode
 returns-in-Mode g c =
-    let is : concat (codes "at modes." ∷ c.as_str.result.now ∷ codes "\n" ∷ []) ≡ place_line c.args.place.now = search rules in
+    let is : concat (codes "at modes." ∷ c.shown.result.now ∷ codes "\n" ∷ []) ≡ place_line c.args.place.now = search rules in
     as_line _ _ _ _ _ _ is c.say-in-Mode.ensures

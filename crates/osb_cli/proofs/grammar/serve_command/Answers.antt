@@ -10,5 +10,6 @@ returns-clause-app c =
     let listen = c.in_ok-arg-4.ensures.shape c.required_option-3.ensures.local ∙ ap₂ with_rule existing c.required_option-3.ensures.rule in
     let most = c.in_ok-arg-5.ensures.shape c.per_connection_option.ensures.local ∙ ap₂ with_rule listen c.per_connection_option.ensures.rule in
     let count = c.in_ok-arg-6.ensures.shape c.connections_option.ensures.local ∙ ap₂ with_rule most c.connections_option.ensures.rule in
-    let limit = c.in_ok-arg-7.ensures.shape c.time_limit_option.ensures.local ∙ ap₂ with_rule count c.time_limit_option.ensures.rule in
-    c.in_ok-arg-8.ensures.shape c.together_option.ensures.local ∙ ap₂ with_rule limit c.together_option.ensures.rule
+    let limit = c.in_ok-arg-7.ensures.shape c.seconds_option.ensures.local ∙ ap₂ with_rule count c.seconds_option.ensures.rule in
+    let together = c.in_ok-arg-8.ensures.shape c.together_option.ensures.local ∙ ap₂ with_rule limit c.together_option.ensures.rule in
+    c.in_ok-arg-9.ensures.shape c.flag_option-2.ensures.local ∙ ap₂ with_rule together c.flag_option-2.ensures.rule

@@ -40,8 +40,8 @@ returns-clause-lacks g c =
     let done = c.serve_file-done in
     let served = done.ensures.served in
     IfSome_then done.result.1 served.3
-    (λ conn leaves works db has. names_in_use (g.F.NamedFiles.contents c.args.files.now) c.args.asked.now.settings.now c.in-Ok.settings c.in-Ok.ensures.are _ _ db served.0 _ done.result.0 c.in-Err-done.fault c.unserved.result
-    served.1 c.in-Err-done.is c.unserved.ensures.one ((leaves db has).works works))
+    (λ conn leaves works db has. names_in_use (g.F.NamedFiles.contents c.args.files.now) c.args.asked.now.settings.now c.in-Ok.settings c.in-Ok.ensures.are _ _ db served.0 _ done.result.0 c.in-Err-done.fault c.unserved_as-told.result
+    served.1 c.in-Err-done.is c.unserved_as-told.ensures.0 ((leaves db has).works works))
 
 pub returns-in-Ok-done-clause-opened : goal.returns-in-Ok-done-clause-opened
 returns-in-Ok-done-clause-opened g c =
@@ -49,4 +49,4 @@ returns-in-Ok-done-clause-opened g c =
 
 pub returns-clause-fault : goal.returns-clause-fault
 returns-clause-fault g c =
-    other_unserved (AreBytesOf (g.F.NamedFiles.contents c.args.files.now) c.args.asked.now.settings.now) c.unserved.result c.unserved.ensures.other
+    other_unserved (AreBytesOf (g.F.NamedFiles.contents c.args.files.now) c.args.asked.now.settings.now) c.unserved_as-told.result c.unserved_as-told.ensures.1

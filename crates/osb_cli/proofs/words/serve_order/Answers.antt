@@ -15,8 +15,10 @@ returns c =
       address = text_or _ _ _ _ c.unwrap_or-3.ensures (c.get_str-3.ensures ∙ first_value-rows found (codes "listen"));
       connections = c.connections_of.ensures;
       per_connection = c.per_connection_of-per_connection.ensures;
-      seconds = c.time_limit_of.result;
+      seconds = c.seconds_of.result;
       time_limit = search rules;
-      limit = c.time_limit_of.ensures;
+      limit = c.seconds_of.ensures;
       together = search rules;
+      explain = flag_given _ _ _ (one_text-rows found (codes "explain")) c.get_flag-2.ensures.none c.get_flag-2.ensures.value;
+      wanted = c.wanted_of.ensures;
     }

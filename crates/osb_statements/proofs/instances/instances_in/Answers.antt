@@ -1,11 +1,10 @@
 use Rattle.std.proofs.Common.{rules, sym, subst}
 use Rattle.osb_statements.specs.Instances.{instance_row}
-use Rattle.osb_statements.specs.Read.{instance_columns}
+use Rattle.osb_statements.specs.Read.{InstanceFits, instance_columns}
 use Rattle.osb_statements.specs.Stored.{AreBareRows}
-use Rattle.osb_statements.proofs.ReadLemmas.{row_of}
 use Rattle.osb_statements.proofs.BareLemmas.{all_pushed}
 use Rattle.osb_statements.proofs.instances.instances_in.Goals as goal
-use Rattle.osb_contexts.proofs.ReadLemmas.{told_more}
+use Rattle.osb_contexts.proofs.ReadLemmas.{told_more, row_of}
 
 pub loop-row-preserved : goal.loop-row-preserved
 loop-row-preserved c = (
@@ -14,6 +13,6 @@ loop-row-preserved c = (
 )
 
 pub returns-in_err-instance_in-clause-known : goal.returns-in_err-instance_in-clause-known
-returns-in_err-instance_in-clause-known c entries are is =
-    let at = row_of instance_row c.args.rows.now entries c.loop-row.row-index c.row-item.result c.loop-row-test.true c.row-item.is are in
-    c.in_err-instance_in.ensures.entry.known at.0 at.1 (search rules)
+returns-in_err-instance_in-clause-known c entries are fit is =
+    let at = row_of instance_row InstanceFits c.args.rows.now entries c.loop-row.row-index c.row-item.result c.loop-row-test.true c.row-item.is are fit in
+    c.in_err-instance_in.ensures.entry.known at.0 at.1 at.2 (search rules)

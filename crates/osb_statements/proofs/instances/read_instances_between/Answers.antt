@@ -22,9 +22,9 @@ returns-clause-ok g c clean =
     )) c.instances_in.ensures.told
 
 pub returns-clause-known : goal.returns-clause-known
-returns-clause-known g c clean entries stores =
+returns-clause-known g c clean entries stores fit =
     let old = behind g.S.Store c.args.tx.now in
     let new = behind g.S.Store c.select.new.tx in
     let same = c.in_ok-rows.ensures.reads.same clean in
     let has = c.requires (clean_before old new _ c.select.ensures.reads.survives clean) same.0.was_open in
-    c.instances_in.ensures.known entries (c.deref.ensures.value ∙ some_instances_shown old new has c.in_ok-rows.rows.items c.args.after.now _ entries (rw (c.as_bytes.ensures.value) at (c.in_ok-rows.ensures.ok clean)) stores)
+    c.instances_in.ensures.known entries (c.deref.ensures.value ∙ some_instances_shown old new has c.in_ok-rows.rows.items c.args.after.now _ entries (rw (c.as_bytes.ensures.value) at (c.in_ok-rows.ensures.ok clean)) stores) fit

@@ -1,10 +1,9 @@
 use Rattle.std.proofs.Common.{rules, sym, subst}
 use Rattle.osb_statements.specs.Stored.{AreBare, entry_row}
-use Rattle.osb_statements.specs.Read.{entry_columns}
-use Rattle.osb_statements.proofs.ReadLemmas.{row_of}
+use Rattle.osb_statements.specs.Read.{OrderFits, entry_columns}
 use Rattle.osb_statements.proofs.BareLemmas.{all_pushed}
 use Rattle.osb_statements.proofs.orders.entries_in.Goals as goal
-use Rattle.osb_contexts.proofs.ReadLemmas.{told_more}
+use Rattle.osb_contexts.proofs.ReadLemmas.{told_more, row_of}
 
 pub loop-row-preserved : goal.loop-row-preserved
 loop-row-preserved c = (
@@ -13,6 +12,6 @@ loop-row-preserved c = (
 )
 
 pub returns-in_err-entry_in-clause-known : goal.returns-in_err-entry_in-clause-known
-returns-in_err-entry_in-clause-known c entries are is =
-    let at = row_of entry_row c.args.rows.now entries c.loop-row.row-index c.row-item.result c.loop-row-test.true c.row-item.is are in
-    c.in_err-entry_in.ensures.entry.known at.0 at.1 (search rules)
+returns-in_err-entry_in-clause-known c entries are fit is =
+    let at = row_of entry_row OrderFits c.args.rows.now entries c.loop-row.row-index c.row-item.result c.loop-row-test.true c.row-item.is are fit in
+    c.in_err-entry_in.ensures.entry.known at.0 at.1 at.2 (search rules)

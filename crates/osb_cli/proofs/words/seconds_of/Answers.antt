@@ -1,13 +1,13 @@
-use Rattle.std.proofs.Common.{rules, ◌∙◌, arith, codes}
+use Rattle.std.proofs.Common.{rules, ◌∙◌, arith}
 use Rattle.std.specs.Str.Parse.{ExplainsUnsignedError, HasUnsignedDigitsIfOk, ParsesUnsigned}
 use Rattle.clap.specs.Words.{found_of}
 use Rattle.clap.proofs.WalkLemmas.{one_text-rows}
 use Rattle.osb_cli.proofs.WordLemmas.{number_read}
-use Rattle.osb_cli.proofs.words.time_limit_of.Goals as goal
+use Rattle.osb_cli.proofs.words.seconds_of.Goals as goal
 
 pub returns : goal.returns
 returns c =
-    let rows = one_text-rows (found_of c.args.found.now) (codes "time-limit") in
+    let rows = one_text-rows (found_of c.args.found.now) c.args.id.now in
     number_read (λ text r. ParsesUnsigned 32 10 text r × ExplainsUnsignedError 10 text r × HasUnsignedDigitsIfOk text r) (λ text r reads. reads.0)
     86400 (omega arith) _ c.get_one.result 10 c.unwrap_or.result
     (λ none. c.get_one.ensures.none (rows ∙ none))
