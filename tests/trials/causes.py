@@ -160,6 +160,7 @@ def try_others(program, folder, path):
         ("a view more", "a view more: more", copied(path, folder), ["CREATE VIEW more AS SELECT 1"]),
         ("a column more", "the tables of another program", copied(path, folder), ["ALTER TABLE format ADD COLUMN a INTEGER"]),
         ("other rows", "rows that don't fit", copied(path, folder), ["DELETE FROM instances"]),
+        ("a text that isn't UTF-8", "rows that don't fit", copied(path, folder), ["UPDATE orders SET note = CAST(x'ff' AS TEXT)"]),
         ("other rows of version 1", "rows that don't fit", made_before(folder, 2), ["DELETE FROM instances"]),
     ]
     for name, cause, database, statements in cases:

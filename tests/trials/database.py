@@ -413,17 +413,23 @@ def out_of_range(tables):
                 yield f"{column} of {table}: {number}", f"UPDATE {table} SET {column} = {number} {last_row(table)}"
 
 
+def not_utf_8(tables):
+    """A text that isn't UTF-8, in one row of each of these tables."""
+    for table in tables:
+        for column in TEXTS.get(table, []):
+            yield f"{column} of {table} isn't UTF-8", f"UPDATE {table} SET {column} = CAST(x'ff' AS TEXT) {last_row(table)}"
+
+
 def unreadable(tables):
-    """A rowid below 0 or a text that is no UTF-8, in one row of each of these tables."""
+    """A rowid below 0, in one row of each of these tables."""
     for table in tables:
         yield f"a rowid of {table} below 0", f"UPDATE {table} SET rowid = -1 {last_row(table)}"
-        for column in TEXTS.get(table, []):
-            yield f"{column} of {table} is no UTF-8", f"UPDATE {table} SET {column} = CAST(x'ff' AS TEXT) {last_row(table)}"
 
 
 def no_rows(tables):
     """What is done to a row so that it is none of ours or can't be read, each with how a start ends."""
     yield from ((*it, NOT_OURS) for it in out_of_range(tables))
+    yield from ((*it, NOT_OURS) for it in not_utf_8(tables))
     yield from ((*it, REFUSED) for it in unreadable(tables))
 
 
@@ -513,6 +519,7 @@ WRONGED = {
     "a long life lacks an order": f"DELETE FROM orders WHERE instance_id = 'long' AND seq = {LONG - 1}",
     **{f"another last number of {it}": f"UPDATE instances SET last_seq = 9 WHERE instance_id = '{it}'" for it in ENDS + BEGINS},
     **{f"no order of {it}": f"DELETE FROM orders WHERE instance_id = '{it}'" for it in ENDS + BEGINS},
+    "an id that isn't UTF-8 where a piece ends": f"UPDATE orders SET instance_id = CAST(x'{ENDS[1].encode().hex()}ff' AS TEXT) WHERE instance_id = '{ENDS[1]}'",
     "no context where a piece ends": f"DELETE FROM contexts WHERE instance_id = '{ENDS[1]}' AND seq = 0",
     "no row where a piece begins": f"DELETE FROM instances WHERE instance_id = '{BEGINS[2]}'",
     "a binding behind all orders": "INSERT INTO bindings VALUES ('z', 'b', 2, 'svc', 'p-sync', '', '{}', '{}', '{}')",
@@ -1099,8 +1106,8 @@ def try_causes(program, folder, path):
             file.write(content)
         yield from refused("no database", none, "no database")
     unread = copied(path, folder)
-    run(unread, "UPDATE orders SET params = CAST(X'FF' AS TEXT)")
-    yield from refused("a row that is no text", unread, "a row that can't be read")
+    run(unread, f"UPDATE orders SET rowid = -1 {last_row('orders')}")
+    yield from refused("a row with a rowid below 0", unread, "a row that can't be read")
     other = new_database(folder)
     run(other, "CREATE TABLE orders (a)")
     yield "another database", looked_at(program, other), (*NOT_OURS[:2], NOT_OURS[2] + b"the tables of another program\n")

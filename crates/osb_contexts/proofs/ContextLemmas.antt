@@ -1,6 +1,7 @@
 -- What the statements do to the rows of contexts, and what the query of one key answers.
 use Rattle.std.proofs.Common.{◌≡◌, inl, inr, ℕ, pos, List, [], ◌∷◌, map, filter, slice_get, true, codes, Option, Some, Ok, refl, sym, ap, subst, ◌∙◌, arith}
 use Rattle.std.specs.List.{AllByRecursion}
+use Rattle.std.specs.Str.{is_utf8}
 use Rattle.sqlite.specs.declared.types.Value.TheVariants.{Null, Int, Text}
 use Rattle.sqlite.specs.Order.{Row, column, bytes}
 use Rattle.sqlite.specs.Term.{col, eval_all}
@@ -13,6 +14,7 @@ use Rattle.sqlite_keyed.specs.Lists.{insert_sorted, update_where}
 use Rattle.osb_tables.specs.Tables.{tables_schema, second_schema, columns_of_contexts}
 use Rattle.osb_joined.specs.declared.entry.ContextEntry.{ContextEntry}
 use Rattle.osb_joined.specs.Contexts.{context_cmp, context_entry, is_context, with_context, AreRising}
+use Rattle.osb_rows.specs.Rows.{HaveUtf8Texts}
 use Rattle.osb_contexts.specs.Contexts.{context_row, context_cells, contexts_in, HoldsContexts}
 use Rattle.osb_contexts.specs.Read.{context_shown}
 use Rattle.osb_contexts.specs.Inside.{Within}
@@ -53,8 +55,8 @@ module _ (old new : State) (count : ℕ) (tables : HasContexts old.now) (id : Li
   abbrev entries : List ContextEntry
   entries = contexts_in old.now.trees
 
-  pub adds_context : filter (is_context id number) entries ≡ [] → Executes insert_context (context_row (context_entry id number context)) old new (Ok count) → Gives old new (insert_sorted context_cmp (context_entry id number context) entries)
-  adds_context none h =
+  pub adds_context : filter (is_context id number) entries ≡ [] → HaveUtf8Texts (context_row (context_entry id number context)) → Executes insert_context (context_row (context_entry id number context)) old new (Ok count) → Gives old new (insert_sorted context_cmp (context_entry id number context) entries)
+  adds_context none texts h =
       let entry = context_entry id number context in
       let params = context_row entry in
       let w = runs_as insert_context params old new second_schema tables.schema _ insert_context_is.0 insert_context_is.1 count h in
@@ -62,11 +64,11 @@ module _ (old new : State) (count : ℕ) (tables : HasContexts old.now) (id : Li
       insert_context_terms 4 params refl w.changed in
       let others = did.1.tables in (
         (did.0, (others.0 (λ e. absurd (omega (arith, e))), (others.1.0 (λ e. absurd (omega (arith, e))), (others.1.1.0 (λ e. absurd (omega (arith, e))), (others.1.1.1.0 (λ e. absurd (omega (arith, e))), tt)))), w.sound),
-        insert_stores second_schema _ old.now.trees new.now.trees (codes "contexts") 7 columns_of_contexts (1 ∷ 2 ∷ []) ((1 ∷ 2 ∷ []) ∷ []) context_cmp context_total context_cells context_row entry entries (λ _. refl) (cast_row entry) (key_free id number context entries none) did.1 tables.holds,
+        insert_stores second_schema _ old.now.trees new.now.trees (codes "contexts") 7 columns_of_contexts (1 ∷ 2 ∷ []) ((1 ∷ 2 ∷ []) ∷ []) context_cmp context_total context_cells context_row entry entries (λ _. refl) (cast_row entry) (key_free id number context entries none) texts did.1 tables.holds,
       )
 
-  pub updates_context : Executes update_context (Text context ∷ Text id ∷ Int (pos number) ∷ []) old new (Ok count) → Gives old new (update_where (is_context id number) (with_context context) entries)
-  updates_context h =
+  pub updates_context : is_utf8 context ≡ true → Executes update_context (Text context ∷ Text id ∷ Int (pos number) ∷ []) old new (Ok count) → Gives old new (update_where (is_context id number) (with_context context) entries)
+  updates_context utf8 h =
       let params = Text context ∷ Text id ∷ Int (pos number) ∷ [] in
       let w = runs_as update_context params old new second_schema tables.schema _ update_context_is.0 update_context_is.1 count h in
       let did = update_does old.step_limit (mode_of old) params old.now new.now w.tally (statement_of update_context (understood second_schema update_context)) second_schema 4 (codes "contexts") 7 columns_of_contexts (1 ∷ 2 ∷ []) ((1 ∷ 2 ∷ []) ∷ []) tables.schema refl (λ _ _. refl)
@@ -77,7 +79,7 @@ module _ (old new : State) (count : ℕ) (tables : HasContexts old.now) (id : Li
         subst (λ next. HoldsContexts next new.now.trees) (updated_others context id number entries)
             (update_stores second_schema _ old.now.trees new.now.trees (codes "contexts") 7 columns_of_contexts (1 ∷ 2 ∷ []) ((1 ∷ 2 ∷ []) ∷ []) context_cmp context_total context_cells context_row (overlay old.now.trees []) refl params (is_at 1 1 ∷ is_at 2 2 ∷ is_not_at 3 0 ∷ [])
             (has_other context id number) (λ _. refl) (at_updated context id number) (other_keyed context id number) (with_context context) (context_keeps (has_other context id number) context) updated_cells (λ _ _. refl)
-            (λ stored entry is hits. updated_row params context stored entry refl is) entries did.0 did.1 tables.holds applied),
+            (λ stored entry is hits. updated_row params context stored entry refl is) (λ entry hits texts. (texts.0, (tt, (utf8, tt)))) entries did.0 did.1 tables.holds applied),
       )
 
 -- ---- the query of one key

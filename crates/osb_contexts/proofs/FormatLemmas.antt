@@ -84,7 +84,7 @@ module _ (old new : State) (count : ℕ) (has : old.now.schema ≡ second_schema
       insert_version_terms 2 (version_row 2) refl w.changed in
       let others = did.1.tables in (
         (did.0, (others.1.1.1.1.0 (λ e. absurd (omega (arith, e))), (others.1.0 (λ e. absurd (omega (arith, e))), (others.1.1.0 (λ e. absurd (omega (arith, e))), (others.1.1.1.0 (λ e. absurd (omega (arith, e))), tt)))), w.sound),
-        insert_stores second_schema _ old.now.trees new.now.trees (codes "format") 0 columns_of_formats [] [] nat_cmp nat_cmp_total version_cells version_row 2 [] (λ _. refl) (rw (cast_int (pos 2)) refl) tt did.1 (none_stored version_cells version_row nat_cmp _ blank),
+        insert_stores second_schema _ old.now.trees new.now.trees (codes "format") 0 columns_of_formats [] [] nat_cmp nat_cmp_total version_cells version_row 2 [] (λ _. refl) (rw (cast_int (pos 2)) refl) tt (tt, tt) did.1 (none_stored version_cells version_row nat_cmp _ blank),
       )
 
 -- the check, the deletion and the insertion

@@ -4,6 +4,7 @@ pub mod SortLemmas
 pub mod StepLemmas
 pub mod SchemaLemmas
 pub mod ContextLemmas
+pub mod CellLemmas
 pub mod ReadLemmas
 pub mod WholeLemmas
 pub mod PieceLemmas

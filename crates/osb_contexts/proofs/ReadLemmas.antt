@@ -3,6 +3,9 @@ use Rattle.std.proofs.Common.{◌≡◌, ℕ, zero, suc, ◌+◌, ◌<◌, ◌�
 use Rattle.std.specs.Prelude.{◌↔◌}
 use Rattle.std.specs.List.{AllByRecursion}
 use Rattle.std.proofs.lemmas.List.{map-append, drop_more, drop_all}
+use Rattle.sqlite.specs.Order.{Row}
+use Rattle.sqlite_keyed.proofs.ListLemmas.{all-append}
+use Rattle.osb_rows.specs.Rows.{HaveUtf8Texts, AreInUtf8}
 
 pub told_next : {R A : Type 0} (told : R → A) (rows : List R) (i : ℕ) (row : R) → i < length rows → row ≡ get_or rows i row → map told (take (suc i) rows) ≡ map told (take i rows) ++ told row ∷ []
 told_next told [] i row low is = absurd (omega (arith, low))
@@ -26,6 +29,17 @@ row_of shown Fits rows [] i row low at is fit = absurd (omega (arith, low, ap le
 row_of shown Fits [] (entry ∷ entries) i row low at is fit = absurd (omega (arith, low))
 row_of shown Fits (first ∷ rows) (entry ∷ entries) zero row low at is fit = (entry, at ∙ ap (λ rows. get_or rows 0 row) is, fit.0)
 row_of shown Fits (first ∷ rows) (entry ∷ entries) (suc i) row low at is fit = row_of shown Fits rows entries i row (omega (arith, low)) at (ap (drop 1) is) fit.1
+
+-- each row of entries in UTF-8 is in UTF-8
+pub row_in_utf8 : {E : Type 0} (shown : E → Row) (rows : List Row) (entries : List E) (i : ℕ) (row : Row) → i < length rows → row ≡ get_or rows i row → rows ≡ map shown entries → AreInUtf8 shown entries → HaveUtf8Texts row
+row_in_utf8 shown rows entries i row low at is texts =
+    let one = row_of shown (λ entry. HaveUtf8Texts (shown entry)) rows entries i row low at is texts in
+    subst HaveUtf8Texts (sym one.1) one.2
+
+-- one entry in UTF-8 more
+pub utf8_more : {E : Type 0} (shown : E → Row) (found next : List E) (entry : E) → AreInUtf8 shown found → HaveUtf8Texts (shown entry) → next ≡ found ++ entry ∷ [] → AreInUtf8 shown next
+utf8_more shown found next entry texts text grown =
+    subst (AreInUtf8 shown) (sym grown) (all-append (λ entry. HaveUtf8Texts (shown entry)) found (entry ∷ []) texts (text, tt))
 
 -- ---- whether all rows pass a test
 

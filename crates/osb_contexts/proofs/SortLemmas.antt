@@ -45,4 +45,4 @@ held_again db entries h = subst (λ es. HoldsContexts es db) (sym (contexts_are 
 
 -- a table without rows
 pub none_stored : {E : Type 0} (cells : Row → Row) (shown : E → Row) (cmp : E → E → Ordering) (rows : List Row) → rows ≡ [] → Stores cells shown cmp rows []
-none_stored cells shown cmp rows is = subst (λ r. Stores cells shown cmp r []) (sym is) (record { held = record { apart = tt; keyed = tt; same = IsPermutation-refl [] }; rising = tt })
+none_stored cells shown cmp rows is = subst (λ r. Stores cells shown cmp r []) (sym is) (record { held = record { apart = tt; keyed = tt; same = IsPermutation-refl [] }; rising = tt; texts = tt })

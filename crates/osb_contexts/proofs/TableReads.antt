@@ -12,6 +12,7 @@ use Rattle.osb_tables.specs.Tables.{second_schema}
 use Rattle.osb_rows.proofs.AnswerLemmas.{over}
 use Rattle.osb_joined.specs.declared.entry.ContextEntry.{ContextEntry}
 use Rattle.osb_joined.specs.Contexts.{context_cmp}
+use Rattle.osb_rows.specs.Rows.{AreInUtf8}
 use Rattle.osb_contexts.specs.Contexts.{context_row, context_cells, context_decoded, HoldsContexts, AreContextsOf}
 use Rattle.osb_contexts.specs.Pieces.{piece}
 use Rattle.osb_contexts.specs.Read.{AreRowids, HaveRowids, context_columns}
@@ -29,11 +30,11 @@ module _ (old new : State) (has : old.now.schema ≡ second_schema) (rows : List
   contexts_shown after to entries shown stores =
       piece_shown 7 old.now.trees after to refl all_cells by_key rows (contexts_answer after to shown) context_cells context_row context_cmp (λ _. refl) (λ _. refl) (λ _. refl) (λ a b less. by_both a b ∙ less) context_columns (λ _. refl) (λ _. refl) entries stores
 
-  pub contexts_read : (after : List ℕ) (to : Value) (entries : List ContextEntry) → Shown select_contexts (Text after ∷ to ∷ []) old new rows → map context_row entries ≡ map context_columns rows → HaveRowids (old.now.trees 7)
+  pub contexts_read : (after : List ℕ) (to : Value) (entries : List ContextEntry) → Shown select_contexts (Text after ∷ to ∷ []) old new rows → map context_row entries ≡ map context_columns rows → AreInUtf8 context_row entries → HaveRowids (old.now.trees 7)
       → AreContextsOf (piece after to old.now.trees) entries
-  contexts_read after to entries shown is have =
+  contexts_read after to entries shown is texts have =
       let list = piece_read 7 old.now.trees after to refl all_cells by_key rows (contexts_answer after to shown) context_cells context_row context_cmp (λ _. refl) (λ _. refl) (λ _. refl) (λ a b less. by_both a b ∙ less) context_columns (λ _. refl) (λ _. refl) entries have is in
-      record { held = list.0; only = λ others stores. same_contexts others entries (list.1 others stores) }
+      record { held = list.0; texts = texts; only = λ others stores. same_contexts others entries (list.1 others stores) }
     where
       same_contexts : (es others : List ContextEntry) → map context_row es ≡ map context_row others → es ≡ others
       same_contexts es others is = sym (map_back context_row context_decoded context_back es) ∙ ap (map context_decoded) is ∙ map_back context_row context_decoded context_back others

@@ -5,7 +5,7 @@ use Rattle.sqlite.specs.declared.types.Value.TheVariants.{Int, Text as Words}
 use Rattle.sqlite.specs.Order.{Row, column, bytes}
 use Rattle.sqlite_trees.specs.Tree.{Trees}
 use Rattle.sqlite_keyed.specs.Lists.{sort_by}
-use Rattle.osb_rows.specs.Rows.{Stores, AreRows}
+use Rattle.osb_rows.specs.Rows.{Stores, AreRows, AreInUtf8}
 use Rattle.osb_joined.specs.declared.entry.ContextEntry.{ContextEntry}
 use Rattle.osb_joined.specs.Contexts.{context_cmp}
 
@@ -37,6 +37,7 @@ contexts_in db = sort_by context_cmp (map context_decoded (map context_cells (db
 -- it holds these.
 pub record AreContextsOf (db : Trees) (entries : List ContextEntry) : Type 0 where
   pub held : AreRows context_cells (db 7) (map context_row entries)
+  pub texts : AreInUtf8 context_row entries
   pub only : (others : List ContextEntry) → HoldsContexts others db → others ≡ entries
 
 -- the number of the entry has 32 bits

@@ -7,7 +7,7 @@ use Rattle.sqlite.specs.declared.types.Value.{Value}
 use Rattle.sqlite.specs.declared.types.Value.TheVariants.{Int, Text as Words}
 use Rattle.sqlite.specs.Order.{Row, column}
 use Rattle.sqlite.specs.declared.error.Error.{Error}
-use Rattle.sqlite.specs.declared.error.Error.TheVariants.{IntegralValueOutOfRange}
+use Rattle.sqlite.specs.declared.error.Error.TheVariants.{IntegralValueOutOfRange, Utf8Error}
 use Rattle.sqlite_trees.specs.Tree.{rowid, IsAscending}
 use Rattle.sqlite_trees.specs.View.{is_int}
 use Rattle.osb_rows.specs.Rows.{Apart}
@@ -35,7 +35,8 @@ context_columns cells = column cells 0 ∷ column cells 1 ∷ column cells 2 ∷
 abbrev pub context_shown : ContextEntry → Row
 context_shown entry = Words entry.context ∷ []
 
--- the error says that a column has another number than one of the type that it is read as
-abbrev pub IsOutOfRange : Error → Type 0
-IsOutOfRange (IntegralValueOutOfRange at) = ⊤
-IsOutOfRange _ = ⊥
+-- the error says that a column has another number than one of the type that it is read as, or a text that isn't UTF-8
+abbrev pub IsUnfit : Error → Type 0
+IsUnfit (IntegralValueOutOfRange at) = ⊤
+IsUnfit (Utf8Error at) = ⊤
+IsUnfit _ = ⊥

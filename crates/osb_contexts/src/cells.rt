@@ -1,13 +1,15 @@
 //! Cells of a row as values.
 
 ghost use Rattle.std.specs.Prelude.{◌≡◌, ◌↔◌, ◌<◌, ◌^◌, ℕ, true, pos, map, IfOk, IfErr, OnOk};
+ghost use Rattle.std.specs.Str.{is_utf8};
 ghost use Rattle.std.specs.List.{AllByRecursion};
 ghost use Rattle.std.specs.Ordering.{nat_cmp};
 ghost use Rattle.std.specs.List.Sorted.{IsStrictlySortedBy};
 ghost use Rattle.sqlite.specs.declared.types.Value.TheVariants.{Int, Text as Words};
 ghost use Rattle.sqlite.specs.Order.{column};
 ghost use Rattle.sqlite_trees.specs.Tree.{rowid};
-ghost use Rattle.osb_contexts.specs.Read.{rowid_shown, AreRowids, IsOutOfRange};
+ghost use Rattle.osb_rows.specs.Rows.{HaveUtf8Texts};
+ghost use Rattle.osb_contexts.specs.Read.{rowid_shown, AreRowids, IsUnfit};
 
 use osb_text::Text;
 use sqlite::{Error, ErrorCode, Row};
@@ -15,7 +17,8 @@ use std::alloc::Global;
 
 pub(crate) fn text_in(row: &Row, at: usize) -> Result<Text, Error>
     ensures held { IfOk result (λ text. column row.now at ≡ Words text) }
-    ensures in_range { IfErr result (λ error. ¬ IsOutOfRange error) }
+    ensures utf8 { IfOk result (λ text. is_utf8 text ≡ true) }
+    ensures known { HaveUtf8Texts row.now → IfErr result (λ error. ¬ IsUnfit error) }
 {
     let string: String = row.get(at)?;
     Ok(Text::from(string))
@@ -24,7 +27,7 @@ pub(crate) fn text_in(row: &Row, at: usize) -> Result<Text, Error>
 pub(crate) fn number_in(row: &Row, at: usize) -> Result<u32, Error>
     ensures held { IfOk result (λ number. column row.now at ≡ Int (pos number)) }
     ensures known { (number : ℕ) → column row.now at ≡ Int (pos number) → number < 2 ^ 32 →
-        IfErr result (λ error. ¬ IsOutOfRange error) }
+        IfErr result (λ error. ¬ IsUnfit error) }
 {
     row.get(at)
 }

@@ -9,9 +9,10 @@ ghost use Rattle.sqlite_keyed.specs.Lists.{insert_sorted, update_where};
 ghost use Rattle.osb_tables.specs.Tables.{tables_schema, second_schema};
 ghost use Rattle.osb_joined.specs.declared.entry.ContextEntry.{ContextEntry};
 ghost use Rattle.osb_joined.specs.Contexts.{context_entry, context_cmp, is_context, with_context, AreRising};
+ghost use Rattle.osb_rows.specs.Rows.{HaveUtf8Texts, AreInUtf8};
 ghost use Rattle.osb_contexts.specs.Contexts.{context_row, HoldsContexts, AreContextsOf, ContextFits};
 ghost use Rattle.osb_contexts.specs.Pieces.{piece, AreNamed};
-ghost use Rattle.osb_contexts.specs.Read.{HaveRowids, IsOutOfRange, context_columns, context_shown};
+ghost use Rattle.osb_contexts.specs.Read.{HaveRowids, IsUnfit, context_columns, context_shown};
 ghost use Rattle.osb_contexts.specs.Inside.{ShowsSchema};
 ghost use Rattle.osb_contexts.specs.Made.{MakesContexts};
 ghost use Rattle.osb_contexts.specs.Steps.{contexts, ShowsContexts, ContextSteps};
@@ -121,8 +122,9 @@ pub fn read_context<S: Alter>(
 
 fn entry_in(row: &Row) -> Result<ContextEntry, Error>
     ensures told { IfOk result (λ entry. context_row entry ≡ context_columns row.now) }
+    ensures texts { IfOk result (λ entry. HaveUtf8Texts (context_row entry)) }
     ensures known { (entry : ContextEntry) → row.now ≡ context_row entry → ContextFits entry →
-        IfErr result (λ error. ¬ IsOutOfRange error) }
+        HaveUtf8Texts row.now → IfErr result (λ error. ¬ IsUnfit error) }
 {
     Ok(ContextEntry {
         number: number_in(row, 1)?,
@@ -135,8 +137,10 @@ fn entry_in(row: &Row) -> Result<ContextEntry, Error>
 fn entries_in(alloc: Global, rows: &[Row]) -> Result<Vec<ContextEntry>, Error>
     ensures told { IfOk result (λ entries.
         map context_row entries.items ≡ map context_columns rows.now) }
+    ensures texts { IfOk result (λ entries. AreInUtf8 context_row entries.items) }
     ensures known { (entries : List ContextEntry) → rows.now ≡ map context_row entries →
-        AllByRecursion ContextFits entries → IfErr result (λ error. ¬ IsOutOfRange error) }
+        AllByRecursion ContextFits entries → AreInUtf8 context_row entries →
+        IfErr result (λ error. ¬ IsUnfit error) }
 {
     let mut entries = Vec::new(alloc);
     for row in rows {
@@ -159,7 +163,7 @@ pub fn are_contexts_named<S: Alter>(
 }
 
 /// The rows of the contexts of the instances with ids above the first and up to the second, by their keys; none
-/// where a number isn't one of 32 bits, as each order's is.
+/// where a number isn't one of 32 bits, as each order's is, or a text isn't UTF-8.
 pub fn read_contexts<S: Alter>(
     tx: &mut Transaction<'_, S>,
     alloc: Global,
@@ -183,7 +187,7 @@ pub fn read_contexts<S: Alter>(
     )?;
     match entries_in(alloc, &rows) {
         Ok(entries) => Ok(Some(entries)),
-        Err(Error::IntegralValueOutOfRange(_)) => Ok(None),
+        Err(Error::IntegralValueOutOfRange(_) | Error::Utf8Error(_)) => Ok(None),
         Err(error) => Err(error),
     }
 }

@@ -11,8 +11,8 @@ use Rattle.sqlite_trees.specs.View.{is_int}
 use Rattle.sqlite_trees.proofs.ListLemmas.{all-permutation}
 use Rattle.sqlite_rules.specs.Edit.{without_all, is_taken}
 use Rattle.sqlite_keyed.specs.Lists.{insert_sorted, delete_where, update_where}
-use Rattle.sqlite_keyed.proofs.ListLemmas.{all_kept, filter_all, all_weaker, ascending-filter, ascending-map, ascending_weaker, filter-map, filter_none, filter_same, IsPermutation-filter}
-use Rattle.osb_rows.specs.Rows.{AreRows, Stores}
+use Rattle.sqlite_keyed.proofs.ListLemmas.{all_kept, all-filter, filter_all, all_weaker, ascending-filter, ascending-map, ascending_weaker, filter-map, filter_none, filter_same, IsPermutation-filter}
+use Rattle.osb_rows.specs.Rows.{AreRows, Stores, HaveUtf8Texts, AreInUtf8}
 use Rattle.osb_rows.proofs.RowLemmas.{put_shows, left_shows, id_of}
 
 -- ---- lists of entries
@@ -89,15 +89,15 @@ module _ {E : Type 0} (cmp : E → E → Ordering) (total : IsTotalOrder cmp) wh
   module _ (cells : Row → Row) (shown : E → Row) where
     -- a row that shows an entry was put in
     put_stores : (rows : List Row) (es next : List E) (new : Row) (e : E) → is_int (rowid new) ≡ true → is_taken rows new ≡ false → cells new ≡ shown e → IsPermutation (e ∷ es) next → Rises next
-        → AreRows cells rows (map shown es) → Stores cells shown cmp (put_row new rows) next
-    put_stores rows es next new e int free shows adds up are =
+        → HaveUtf8Texts (shown e) → AreInUtf8 shown es → AreRows cells rows (map shown es) → Stores cells shown cmp (put_row new rows) next
+    put_stores rows es next new e int free shows adds up text texts are =
         let put = put_shows cells rows (map shown es) new int free are in
         let as_shown : IsPermutation (cells new ∷ map shown es) (map shown next) = subst (λ cell. IsPermutation (cell ∷ map shown es) (map shown next)) (sym shows) (IsPermutation-map shown _ _ adds) in
-        record { held = record { apart = put.apart; keyed = put.keyed; same = IsPermutation-trans _ _ _ put.same as_shown }; rising = up }
+        record { held = record { apart = put.apart; keyed = put.keyed; same = IsPermutation-trans _ _ _ put.same as_shown }; rising = up; texts = all-permutation _ _ _ adds (text, texts) }
 
-    pub inserted_stores : (rows : List Row) (es : List E) (new : Row) (e : E) → is_int (rowid new) ≡ true → is_taken rows new ≡ false → cells new ≡ shown e → AllByRecursion (λ y. is_eq (cmp e y) ≡ false) es
+    pub inserted_stores : (rows : List Row) (es : List E) (new : Row) (e : E) → is_int (rowid new) ≡ true → is_taken rows new ≡ false → cells new ≡ shown e → AllByRecursion (λ y. is_eq (cmp e y) ≡ false) es → HaveUtf8Texts (shown e)
         → Stores cells shown cmp rows es → Stores cells shown cmp (put_row new rows) (insert_sorted cmp e es)
-    inserted_stores rows es new e int free shows fresh old = put_stores rows es _ new e int free shows (insert_adds e es) (insert_rises e es fresh old.rising) old.held
+    inserted_stores rows es new e int free shows fresh text old = put_stores rows es _ new e int free shows (insert_adds e es) (insert_rises e es fresh old.rising) text old.texts old.held
 
     module _ (p : Row → Bool) (hit : E → Bool) (agree : (e : E) → p (shown e) ≡ hit e) where
       -- the rows that pass show the entries that are hit
@@ -107,13 +107,14 @@ module _ {E : Type 0} (cmp : E → E → Ordering) (total : IsTotalOrder cmp) wh
       pub deleted_stores : (rows : List Row) (es : List E) (ids : _) → IsPermutation (map id_of (filter (λ row. p (cells row)) rows)) ids → Stores cells shown cmp rows es → Stores cells shown cmp (without_all rows ids) (delete_where hit es)
       deleted_stores rows es ids same old =
           let left : filter (λ cell. not (p cell)) (map shown es) ≡ map shown (delete_where hit es) = filter-map _ shown es ∙ ap (map shown) (filter_same _ _ (λ e. ap not (agree e)) es) in
-          record { held = subst (AreRows cells (without_all rows ids)) left (left_shows cells p rows (map shown es) ids same old.held); rising = ascending-filter _ _ es old.rising }
+          record { held = subst (AreRows cells (without_all rows ids)) left (left_shows cells p rows (map shown es) ids same old.held); rising = ascending-filter _ _ es old.rising; texts = all-filter _ _ es old.texts }
 
       -- the one row that passes was taken out, and put back with other cells
       pub changed_stores : (change : E → E) → ((a b : E) → cmp (cond (hit a) (change a) a) (cond (hit b) (change b) b) ≡ cmp a b) → (rows : List Row) (es : List E) (row new : Row) (e : E)
           → filter (λ row. p (cells row)) rows ≡ row ∷ [] → filter hit es ≡ e ∷ [] → is_int (rowid new) ≡ true → is_taken (without_all rows (id_of row ∷ [])) new ≡ false → cells new ≡ shown (change e)
-          → Stores cells shown cmp rows es → Stores cells shown cmp (put_row new (without_all rows (id_of row ∷ []))) (update_where hit change es)
-      changed_stores change same_key rows es row new e only one int free shows old =
+          → HaveUtf8Texts (shown (change e)) → Stores cells shown cmp rows es → Stores cells shown cmp (put_row new (without_all rows (id_of row ∷ []))) (update_where hit change es)
+      changed_stores change same_key rows es row new e only one int free shows text old =
           let ids = subst (λ passed. IsPermutation (map id_of passed) (id_of row ∷ [])) (sym only) (IsPermutation-refl _) in
           let up = ascending-map _ (λ e. cond (hit e) (change e) e) es (ascending_weaker _ _ (λ a b above. same_key a b ∙ above) es old.rising) in
-          put_stores _ _ _ new (change e) int free shows (one_changed hit change es e one) up (deleted_stores rows es _ ids old).held
+          let left = deleted_stores rows es _ ids old in
+          put_stores _ _ _ new (change e) int free shows (one_changed hit change es e one) up text left.texts left.held

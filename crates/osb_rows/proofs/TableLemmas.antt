@@ -26,7 +26,7 @@ use Rattle.sqlite_rules.proofs.TableLemmas.{int_is}
 use Rattle.sqlite_keyed.specs.Lists.{insert_sorted, delete_where, update_where}
 use Rattle.sqlite_keyed.proofs.ListLemmas.{map-map, filter_same, all-filter}
 use Rattle.sqlite.proofs.Callers.{one_permutation}
-use Rattle.osb_rows.specs.Rows.{Stores}
+use Rattle.osb_rows.specs.Rows.{Stores, HaveUtf8Texts}
 use Rattle.osb_tables.specs.Tables.{plain_table}
 use Rattle.osb_rows.proofs.RowLemmas.{id_of}
 use Rattle.osb_rows.proofs.StoresLemmas.{all_hit, changed_stores, deleted_stores, hits_show, inserted_stores, none_changed, one_hit}
@@ -74,12 +74,12 @@ module _ (schema : Schema) (keys : Keys) (db next : Trees) (name : List ℕ) (tr
     subst (λ t. next t.tree ≡ put_all (left_by db edit) edit.news) of_table applied.rows ∙ ap (put_all (left_by db edit)) one,
   )
 
-  pub insert_stores : (e : E) (es : List E) → ((value : Value) → cells (value ∷ shown e) ≡ shown e) → cast_all columns (shown e) ≡ shown e → AllByRecursion (λ y. is_eq (cmp e y) ≡ false) es
+  pub insert_stores : (e : E) (es : List E) → ((value : Value) → cells (value ∷ shown e) ≡ shown e) → cast_all columns (shown e) ≡ shown e → AllByRecursion (λ y. is_eq (cmp e y) ≡ false) es → HaveUtf8Texts (shown e)
       → Applies schema keys db (edit_of db table [] Chosen 0 ((Null ∷ shown e) ∷ [])) next → Stores cells shown cmp (db tree) es → Stores cells shown cmp (next tree) (insert_sorted cmp e es)
-  insert_stores e es read casts fresh applied stores =
+  insert_stores e es read casts fresh text applied stores =
       let new : Row = Int (next_rowid (db tree)) ∷ shown e in
       let put = one_put (edit_of db table [] Chosen 0 ((Null ∷ shown e) ∷ [])) new refl (rw (cast_null, casts) refl) applied in
-      subst (λ rows. Stores cells shown cmp rows (insert_sorted cmp e es)) (sym put.1) (inserted_stores cmp total cells shown (db tree) es new e refl put.0 (read _) fresh stores)
+      subst (λ rows. Stores cells shown cmp rows (insert_sorted cmp e es)) (sym put.1) (inserted_stores cmp total cells shown (db tree) es new e refl put.0 (read _) fresh text stores)
 
   module _ (seen : Trees) (sees : seen tree ≡ db tree) (params : Row) (terms : List Term) (hit : E → Bool) (passes_cells : (row : Row) → list_all (holds (params ∷ row ∷ [])) terms ≡ list_all (holds (params ∷ (Null ∷ cells row) ∷ [])) terms)
       (agree : (e : E) → list_all (holds (params ∷ (Null ∷ shown e) ∷ [])) terms ≡ hit e) where
@@ -114,7 +114,8 @@ module _ (schema : Schema) (keys : Keys) (db next : Trees) (name : List ℕ) (tr
 
     module _ (keyed : (a b : E) → hit a ≡ true → hit b ≡ true → cmp a b ≡ Equal) (change : E → E) (same_key : (a b : E) → cmp (cond (hit a) (change a) a) (cond (hit b) (change b) b) ≡ cmp a b)
         (rest : List Term) (read : (value : Value) (e : E) → cells (value ∷ shown e) ≡ shown e)
-        (moved : (row : Row) (e : E) → cells row ≡ shown e → hit e ≡ true → cast_all columns (eval_all rest (params ∷ row ∷ [])) ≡ shown (change e)) where
+        (moved : (row : Row) (e : E) → cells row ≡ shown e → hit e ≡ true → cast_all columns (eval_all rest (params ∷ row ∷ [])) ≡ shown (change e))
+        (keeps_texts : (e : E) → hit e ≡ true → HaveUtf8Texts (shown e) → HaveUtf8Texts (shown (change e))) where
       -- the rowid as it was, the rowid that is to be, and the columns
       abbrev project : List Term
       project = col 1 0 ∷ col 1 0 ∷ rest
@@ -129,13 +130,14 @@ module _ (schema : Schema) (keys : Keys) (db next : Trees) (name : List ℕ) (tr
       one_updated : (es : List E) (row : Row) (e : E) → hits ≡ row ∷ [] → cells row ≡ shown e → filter hit es ≡ e ∷ [] → Stores cells shown cmp (db tree) es → Updated es ((outs project row).1 ∷ [])
       one_updated es row e only shows one stores applied =
           let hits_e = (subst (AllByRecursion (λ e. hit e ≡ true)) one (all_hit hit es)).0 in
+          let text : HaveUtf8Texts (shown e) = (subst (AllByRecursion (λ e. HaveUtf8Texts (shown e))) one (all-filter _ hit es stores.texts)).0 in
           let is_number = (subst (AllByRecursion (λ row. is_int (rowid row) ≡ true)) only (all-filter _ (λ row. test (cells row)) _ stores.held.keyed)).0 in
           let number : rowid row ≡ Int (id_of row) = int_is (rowid row) is_number in
           let new : Row = Int (id_of row) ∷ shown (change e) in
           let news = ap (λ value. (cast Integer value ∷ cast_all columns (eval_all rest (params ∷ row ∷ []))) ∷ []) number ∙ rw (cast_int (id_of row), moved row e shows hits_e) refl in
           let put = one_put (updates ((outs project row).1 ∷ [])) new refl news applied in
           subst (λ rows. Stores cells shown cmp rows (update_where hit change es)) (sym put.1)
-          (changed_stores cmp total cells shown test hit agree change same_key (db tree) es row new e only one refl put.0 (read _ (change e)) stores)
+          (changed_stores cmp total cells shown test hit agree change same_key (db tree) es row new e only one refl put.0 (read _ (change e)) (keeps_texts e hits_e text) stores)
 
       pub update_stores : (es : List E) (rows : List Row) → IsAnswer (over tree terms project [] all_rows) seen params rows → Stores cells shown cmp (db tree) es → Updated es rows
       update_stores es rows a stores =

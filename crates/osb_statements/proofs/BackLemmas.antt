@@ -40,6 +40,7 @@ pub stores_back : {E : Type 0} (cells : Row → Row) (shown : E → Row) (cmp : 
 stores_back cells shown cmp rows es h = record {
   held = record { apart = h.held.apart; keyed = h.held.keyed; same = IsPermutation-trans _ _ _ h.held.same (IsPermutation-map shown _ _ (same_back es)) };
   rising = rises_back (λ a b. cmp a b ≡ Less) es h.rising;
+  texts = all_back _ es h.texts;
 }
 
 filter_push : {A : Type 0} (p : A → Bool) (xs : List A) (x : A) → filter p (xs ++ x ∷ []) ≡ filter p xs ++ cond (p x) (x ∷ []) []

@@ -19,7 +19,7 @@ use Rattle.sqlite_value.specs.declared.keys.Collation.TheVariants.{Binary}
 use Rattle.sqlite_value.proofs.OrderLemmas.{value_cmp-Text}
 use Rattle.sqlite_keyed.specs.Lists.{insert_sorted, update_where, delete_where}
 use Rattle.osb_orders.specs.declared.view.BindingNow.{BindingNow}
-use Rattle.osb_rows.specs.Rows.{Stores}
+use Rattle.osb_rows.specs.Rows.{Stores, HaveUtf8Texts}
 use Rattle.osb_tables.specs.Tables.{columns_of_bindings, second_schema}
 use Rattle.osb_audit.specs.Instances.{InstanceEntry, instance_cmp}
 use Rattle.osb_statements.specs.Instances.{instance_cells, instance_row}
@@ -116,9 +116,9 @@ module _ (old new : State) (count : ℕ) (tables : HasTables old.now) (id : List
   abbrev bindings : List BindingEntry
   bindings = bindings_in old.now.trees
 
-  pub adds_binding : (binding : List ℕ) (row : BindingNow) → filter (is_binding id binding) bindings ≡ [] → Executes insert_binding (binding_row (binding_entry id (binding, row))) old new (Ok count)
+  pub adds_binding : (binding : List ℕ) (row : BindingNow) → filter (is_binding id binding) bindings ≡ [] → HaveUtf8Texts (binding_row (binding_entry id (binding, row))) → Executes insert_binding (binding_row (binding_entry id (binding, row))) old new (Ok count)
       → Gives old new entries instances (insert_sorted binding_cmp (binding_entry id (binding, row)) bindings)
-  adds_binding binding row none h =
+  adds_binding binding row none texts h =
       let entry = binding_entry id (binding, row) in
       let params = binding_row entry in
       let held = tables.holds in
@@ -130,14 +130,14 @@ module _ (old new : State) (count : ℕ) (tables : HasTables old.now) (id : List
           format = subst (λ r. Stores version_cells version_row nat_cmp r (2 ∷ [])) (sym (did.1.tables.0 (λ e. absurd (omega (arith, e))))) held.format;
           orders = subst (λ r. Stores order_cells entry_row entry_cmp r entries) (sym (did.1.tables.1.0 (λ e. absurd (omega (arith, e))))) held.orders;
           instances = subst (λ r. Stores instance_cells instance_row instance_cmp r instances) (sym (did.1.tables.1.1.0 (λ e. absurd (omega (arith, e))))) held.instances;
-          bindings = insert_stores second_schema _ old.now.trees new.now.trees (codes "bindings") 5 columns_of_bindings (1 ∷ 2 ∷ []) ((1 ∷ 2 ∷ []) ∷ []) binding_cmp binding_total binding_cells binding_row entry bindings (λ _. refl) (cast_binding entry) (key_free id binding row bindings none) did.1 held.bindings;
+          bindings = insert_stores second_schema _ old.now.trees new.now.trees (codes "bindings") 5 columns_of_bindings (1 ∷ 2 ∷ []) ((1 ∷ 2 ∷ []) ∷ []) binding_cmp binding_total binding_cells binding_row entry bindings (λ _. refl) (cast_binding entry) (key_free id binding row bindings none) texts did.1 held.bindings;
         },
         w.sound,
         did.1.tables.1.1.1.1.0 (λ e. absurd (omega (arith, e))),
       )
 
-  pub updates_binding : (binding : List ℕ) (row : BindingNow) → Executes update_binding (binding_row (binding_entry id (binding, row))) old new (Ok count) → Gives old new entries instances (update_where (is_binding id binding) (with_binding_row row) bindings)
-  updates_binding binding row h =
+  pub updates_binding : (binding : List ℕ) (row : BindingNow) → HaveUtf8Texts (binding_row (binding_entry id (binding, row))) → Executes update_binding (binding_row (binding_entry id (binding, row))) old new (Ok count) → Gives old new entries instances (update_where (is_binding id binding) (with_binding_row row) bindings)
+  updates_binding binding row texts h =
       let params = binding_row (binding_entry id (binding, row)) in
       let held = tables.holds in
       let w = runs_as update_binding params old new second_schema tables.schema _ update_binding_is.0 update_binding_is.1 count h in
@@ -151,7 +151,7 @@ module _ (old new : State) (count : ℕ) (tables : HasTables old.now) (id : List
           instances = subst (λ r. Stores instance_cells instance_row instance_cmp r instances) (sym (applied.tables.1.1.0 (λ e. absurd (omega (arith, e))))) held.instances;
           bindings = update_stores second_schema _ old.now.trees new.now.trees (codes "bindings") 5 columns_of_bindings (1 ∷ 2 ∷ []) ((1 ∷ 2 ∷ []) ∷ []) binding_cmp binding_total binding_cells binding_row (overlay old.now.trees []) refl params at_binding
               (is_binding id binding) (λ _. refl) (λ entry. rw (same_text entry.instance id, same_text entry.binding binding, and_true (bytes_eq entry.binding binding)) refl) (one_binding id binding) (with_binding_row row) (row_keeps (is_binding id binding) row) rebound_cells (λ _ _. refl)
-              (λ stored entry is hits. rebound_row id binding row stored entry is) bindings did.0 did.1 held.bindings applied;
+              (λ stored entry is hits. rebound_row id binding row stored entry is) (λ entry hits kept. (kept.0, (kept.1.0, texts.1.1))) bindings did.0 did.1 held.bindings applied;
         },
         w.sound,
         applied.tables.1.1.1.1.0 (λ e. absurd (omega (arith, e))),

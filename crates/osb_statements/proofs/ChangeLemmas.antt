@@ -14,7 +14,7 @@ use Rattle.sqlite.proofs.Callers.{runs_as, statement_of}
 use Rattle.sqlite_keyed.specs.Lists.{insert_sorted, update_where}
 use Rattle.osb_orders.specs.declared.order.Outcome.{Outcome}
 use Rattle.osb_orders.specs.Orders.{kind_number, state_number}
-use Rattle.osb_rows.specs.Rows.{Stores}
+use Rattle.osb_rows.specs.Rows.{Stores, HaveUtf8Texts}
 use Rattle.osb_tables.specs.Tables.{columns_of_orders, second_schema}
 use Rattle.osb_audit.specs.Instances.{InstanceEntry, instance_cmp}
 use Rattle.osb_statements.specs.Instances.{instance_cells, instance_row}
@@ -50,10 +50,16 @@ ended_row params outcome row entry state description credentials is =
     let kept = kept_cells row entry is in
     rw (state, description, credentials, kept.0, kept.1, kept.2, kept.3, kept.4, kept.5, kept.6, kept.7, kept.8, kept.9, cast_int (pos entry.1.number), cast_int (pos (kind_number entry.1.kind)), cast_int (pos (state_number outcome.state))) refl
 
+-- and its texts
+ended_texts : (outcome : Outcome) (entry : Entry) → HaveUtf8Texts (entry_row entry) → HaveUtf8Texts (Text outcome.description ∷ Text outcome.credentials ∷ []) → HaveUtf8Texts (entry_row (entry_ended outcome entry))
+ended_texts outcome entry kept ended =
+    let about = kept.1.1.1 in
+    (kept.0, (tt, (tt, (about.0, (about.1.0, (about.1.1.0, (about.1.1.1.0, (about.1.1.1.1.0, (about.1.1.1.1.1.0, (about.1.1.1.1.1.1.0, (tt, ended)))))))))))
+
 module _ (old new : State) (count : ℕ) (has : old.now.schema ≡ second_schema) where
   module _ (entries : List Entry) (instances : List InstanceEntry) (bindings : List BindingEntry) (held : Holds 2 entries instances bindings old.now.trees) where
-    pub adds_order : (entry : Entry) → IsNew entry entries → Executes insert_order (entry_row entry) old new (Ok count) → Gives old new (insert_sorted entry_cmp entry entries) instances bindings
-    adds_order entry fresh h =
+    pub adds_order : (entry : Entry) → IsNew entry entries → HaveUtf8Texts (entry_row entry) → Executes insert_order (entry_row entry) old new (Ok count) → Gives old new (insert_sorted entry_cmp entry entries) instances bindings
+    adds_order entry fresh texts h =
         let order = entry.1 in
         let w = runs_as insert_order (entry_row entry) old new second_schema has _ insert_order_is.0 insert_order_is.1 count h in
         let did = insert_does old.step_limit (mode_of old) (entry_row entry) old.now new.now w.tally (statement_of insert_order (understood second_schema insert_order)) second_schema 1 (codes "orders") 1 columns_of_orders (1 ∷ 2 ∷ []) ((1 ∷ 2 ∷ []) ∷ []) has refl (λ _ _. refl)
@@ -62,7 +68,7 @@ module _ (old new : State) (count : ℕ) (has : old.now.schema ≡ second_schema
           record {
             format = subst (λ r. Stores version_cells version_row nat_cmp r (2 ∷ [])) (sym (did.1.tables.0 (λ e. absurd (omega (arith, e))))) held.format;
             orders = insert_stores second_schema _ old.now.trees new.now.trees (codes "orders") 1 columns_of_orders (1 ∷ 2 ∷ []) ((1 ∷ 2 ∷ []) ∷ []) entry_cmp entry_total order_cells entry_row entry entries (λ _. refl)
-                (rw (cast_int (pos order.number), cast_int (pos (kind_number order.kind)), cast_int (pos (state_number order.outcome.state))) refl) fresh did.1 held.orders;
+                (rw (cast_int (pos order.number), cast_int (pos (kind_number order.kind)), cast_int (pos (state_number order.outcome.state))) refl) fresh texts did.1 held.orders;
             instances = subst (λ r. Stores instance_cells instance_row instance_cmp r instances) (sym (did.1.tables.1.1.0 (λ e. absurd (omega (arith, e))))) held.instances;
             bindings = subst (λ r. Stores binding_cells binding_row binding_cmp r bindings) (sym (did.1.tables.1.1.1.0 (λ e. absurd (omega (arith, e))))) held.bindings;
           },
@@ -70,9 +76,9 @@ module _ (old new : State) (count : ℕ) (has : old.now.schema ≡ second_schema
           did.1.tables.1.1.1.1.0 (λ e. absurd (omega (arith, e))),
         )
 
-    pub ends_order : (id : List ℕ) (number : ℕ) (outcome : Outcome) → Executes finish_order (Text id ∷ Int (pos number) ∷ Int (pos (state_number outcome.state)) ∷ Text outcome.description ∷ Text outcome.credentials ∷ []) old new (Ok count)
+    pub ends_order : (id : List ℕ) (number : ℕ) (outcome : Outcome) → HaveUtf8Texts (Text outcome.description ∷ Text outcome.credentials ∷ []) → Executes finish_order (Text id ∷ Int (pos number) ∷ Int (pos (state_number outcome.state)) ∷ Text outcome.description ∷ Text outcome.credentials ∷ []) old new (Ok count)
         → Gives old new (update_where (is_keyed id number) (entry_ended outcome) entries) instances bindings
-    ends_order id number outcome h =
+    ends_order id number outcome texts h =
         let params = Text id ∷ Int (pos number) ∷ Int (pos (state_number outcome.state)) ∷ Text outcome.description ∷ Text outcome.credentials ∷ [] in
         let w = runs_as finish_order params old new second_schema has _ finish_order_is.0 finish_order_is.1 count h in
         let did = update_does old.step_limit (mode_of old) params old.now new.now w.tally (statement_of finish_order (understood second_schema finish_order)) second_schema 1 (codes "orders") 1 columns_of_orders (1 ∷ 2 ∷ []) ((1 ∷ 2 ∷ []) ∷ []) has refl (λ _ _. refl)
@@ -83,7 +89,7 @@ module _ (old new : State) (count : ℕ) (has : old.now.schema ≡ second_schema
             format = subst (λ r. Stores version_cells version_row nat_cmp r (2 ∷ [])) (sym (applied.tables.0 (λ e. absurd (omega (arith, e))))) held.format;
             orders = update_stores second_schema _ old.now.trees new.now.trees (codes "orders") 1 columns_of_orders (1 ∷ 2 ∷ []) ((1 ∷ 2 ∷ []) ∷ []) entry_cmp entry_total order_cells entry_row (overlay old.now.trees []) refl params (is_at 1 0 ∷ is_at 2 1 ∷ [])
                 (is_keyed id number) (λ _. refl) (at_key id number (Int (pos (state_number outcome.state)) ∷ Text outcome.description ∷ Text outcome.credentials ∷ [])) (one_keyed id number) (entry_ended outcome) (ended_keeps (is_keyed id number) outcome) finished_cells (λ _ _. refl)
-                (λ row entry is hits. ended_row params outcome row entry refl refl refl is) entries did.0 did.1 held.orders applied;
+                (λ row entry is hits. ended_row params outcome row entry refl refl refl is) (λ entry hits kept. ended_texts outcome entry kept texts) entries did.0 did.1 held.orders applied;
             instances = subst (λ r. Stores instance_cells instance_row instance_cmp r instances) (sym (applied.tables.1.1.0 (λ e. absurd (omega (arith, e))))) held.instances;
             bindings = subst (λ r. Stores binding_cells binding_row binding_cmp r bindings) (sym (applied.tables.1.1.1.0 (λ e. absurd (omega (arith, e))))) held.bindings;
           },

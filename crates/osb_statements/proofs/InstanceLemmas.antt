@@ -18,7 +18,7 @@ use Rattle.sqlite_value.specs.declared.keys.Collation.TheVariants.{Binary}
 use Rattle.sqlite_value.proofs.OrderLemmas.{value_cmp-Text}
 use Rattle.sqlite_keyed.specs.Lists.{insert_sorted, update_where}
 use Rattle.osb_standing.specs.declared.row.InstanceRow.{InstanceRow}
-use Rattle.osb_rows.specs.Rows.{Stores}
+use Rattle.osb_rows.specs.Rows.{Stores, HaveUtf8Texts}
 use Rattle.osb_tables.specs.Tables.{columns_of_instances, second_schema}
 use Rattle.osb_audit.specs.Instances.{InstanceEntry, instance_cmp, is_instance, IsRowOf}
 use Rattle.osb_statements.specs.Instances.{instance_row, instance_cells, instance_row_decoded, standing_number, attributes_shown, busy_number}
@@ -96,8 +96,8 @@ module _ (old new : State) (count : ℕ) (tables : HasTables old.now) (id : List
   abbrev bindings : List BindingEntry
   bindings = bindings_in old.now.trees
 
-  pub adds_instance : filter (is_instance id) instances ≡ [] → Executes insert_instance (instance_row (id, row)) old new (Ok count) → Gives old new entries (insert_sorted instance_cmp (id, row) instances) bindings
-  adds_instance none h =
+  pub adds_instance : filter (is_instance id) instances ≡ [] → HaveUtf8Texts (instance_row (id, row)) → Executes insert_instance (instance_row (id, row)) old new (Ok count) → Gives old new entries (insert_sorted instance_cmp (id, row) instances) bindings
+  adds_instance none texts h =
       let params = instance_row (id, row) in
       let held = tables.holds in
       let w = runs_as insert_instance params old new second_schema tables.schema _ insert_instance_is.0 insert_instance_is.1 count h in
@@ -107,15 +107,15 @@ module _ (old new : State) (count : ℕ) (tables : HasTables old.now) (id : List
         record {
           format = subst (λ r. Stores version_cells version_row nat_cmp r (2 ∷ [])) (sym (did.1.tables.0 (λ e. absurd (omega (arith, e))))) held.format;
           orders = subst (λ r. Stores order_cells entry_row entry_cmp r entries) (sym (did.1.tables.1.0 (λ e. absurd (omega (arith, e))))) held.orders;
-          instances = insert_stores second_schema _ old.now.trees new.now.trees (codes "instances") 3 columns_of_instances (1 ∷ []) ((1 ∷ []) ∷ []) instance_cmp instance_total instance_cells instance_row (id, row) instances (λ _. refl) (cast_row (id, row)) (key_free id row instances none) did.1 held.instances;
+          instances = insert_stores second_schema _ old.now.trees new.now.trees (codes "instances") 3 columns_of_instances (1 ∷ []) ((1 ∷ []) ∷ []) instance_cmp instance_total instance_cells instance_row (id, row) instances (λ _. refl) (cast_row (id, row)) (key_free id row instances none) texts did.1 held.instances;
           bindings = subst (λ r. Stores binding_cells binding_row binding_cmp r bindings) (sym (did.1.tables.1.1.1.0 (λ e. absurd (omega (arith, e))))) held.bindings;
         },
         w.sound,
         did.1.tables.1.1.1.1.0 (λ e. absurd (omega (arith, e))),
       )
 
-  pub updates_instance : Executes update_instance (instance_row (id, row)) old new (Ok count) → Gives old new entries (update_where (is_instance id) (with_row row) instances) bindings
-  updates_instance h =
+  pub updates_instance : HaveUtf8Texts (instance_row (id, row)) → Executes update_instance (instance_row (id, row)) old new (Ok count) → Gives old new entries (update_where (is_instance id) (with_row row) instances) bindings
+  updates_instance texts h =
       let params = instance_row (id, row) in
       let held = tables.holds in
       let w = runs_as update_instance params old new second_schema tables.schema _ update_instance_is.0 update_instance_is.1 count h in
@@ -128,7 +128,7 @@ module _ (old new : State) (count : ℕ) (tables : HasTables old.now) (id : List
           orders = subst (λ r. Stores order_cells entry_row entry_cmp r entries) (sym (applied.tables.1.0 (λ e. absurd (omega (arith, e))))) held.orders;
           instances = update_stores second_schema _ old.now.trees new.now.trees (codes "instances") 3 columns_of_instances (1 ∷ []) ((1 ∷ []) ∷ []) instance_cmp instance_total instance_cells instance_row (overlay old.now.trees []) refl params (is_at 1 0 ∷ [])
               (is_instance id) (λ _. refl) (λ entry. rw (same_text entry.0 id) (and_true _)) (one_id id) (with_row row) (row_keeps (is_instance id) row) updated_cells (λ _ _. refl)
-              (λ stored entry is hits. updated_row id row stored entry is) instances did.0 did.1 held.instances applied;
+              (λ stored entry is hits. updated_row id row stored entry is) (λ entry hits kept. (kept.0, texts.1)) instances did.0 did.1 held.instances applied;
           bindings = subst (λ r. Stores binding_cells binding_row binding_cmp r bindings) (sym (applied.tables.1.1.1.0 (λ e. absurd (omega (arith, e))))) held.bindings;
         },
         w.sound,

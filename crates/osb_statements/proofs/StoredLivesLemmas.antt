@@ -43,7 +43,7 @@ module _ {E : Type 0} (cmp : E → E → Ordering) where
 
   -- a list that rises is stored
   pub stored_list : (cells : Row → Row) (shown : E → Row) (rows : List Row) (es : List E) → IsListOf cells shown cmp rows es → IsStrictlySortedBy cmp es → Stores cells shown cmp rows es
-  stored_list cells shown rows es list up = record { held = list.held; rising = ascends es up }
+  stored_list cells shown rows es list up = record { held = list.held; rising = ascends es up; texts = list.texts }
 
 pub one_rises : (version : ℕ) → IsStrictlySortedBy nat_cmp (version ∷ [])
 unfolding IsStrictlySortedBy

@@ -102,7 +102,7 @@ module _ (db : Trees) where
             instances = stored_list instance_cmp instance_cells instance_row (db 3) instances of_instances.0 audit.rise.instances_rise;
             bindings = stored_list binding_cmp binding_cells binding_row (db 5) bindings of_bindings audit.rise.bindings_rise;
           })
-          of_orders.1 of_instances.1 (record { held = of_contexts.held; rising = subst AreRising (sym audit.contexts_are) (contexts_rise _ (numbered _ audit.lives)) }) audit
+          of_orders.1 of_instances.1 (record { held = of_contexts.held; rising = subst AreRising (sym audit.contexts_are) (contexts_rise _ (numbered _ audit.lives)); texts = of_contexts.texts }) audit
 
       stored_read : StoreLives db → AreRowsWithContexts contexts orders instances bindings
       stored_read it =
@@ -229,6 +229,7 @@ module _ {E : Type 0} (cells : Row → Row) (shown : E → Row) (cmp : E → E �
           (hits_show cmp total cells shown (λ cell. is_between after to (column cell 0)) (λ e. is_between after to (Text (key e))) (λ e. ap (is_between after to) (keyed e)) rows es stores);
     };
     rising = ascending-filter (λ a b. cmp a b ≡ Less) _ es stores.rising;
+    texts = all-filter _ _ es stores.texts;
   }
 
   -- what holds of the ids of all rows holds of those of the entries, and the other way round
@@ -276,6 +277,7 @@ module _ {E : Type 0} (cells : Row → Row) (shown : E → Row) (cmp : E → E �
             (IsPermutation-append _ _ _ _ one.held.same other.held.same));
       };
       rising = up;
+      texts = all-append _ es others one.texts other.texts;
     }
 
 -- ---- all tables

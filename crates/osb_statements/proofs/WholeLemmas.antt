@@ -10,7 +10,7 @@ use Rattle.sqlite.specs.Term.{Term}
 use Rattle.sqlite.specs.Tree.{Trees}
 use Rattle.sqlite_value.specs.declared.keys.Key.{Key}
 use Rattle.sqlite_keyed.proofs.ListLemmas.{map-map, map_same}
-use Rattle.osb_rows.specs.Rows.{Stores}
+use Rattle.osb_rows.specs.Rows.{Stores, AreInUtf8}
 use Rattle.osb_statements.specs.Read.{IsListOf}
 use Rattle.osb_rows.proofs.AnswerLemmas.{over, out, one_answer}
 use Rattle.osb_contexts.proofs.FormatLemmas.{all_in as none_left}
@@ -37,8 +37,9 @@ module _ (tree : ℕ) (db : Trees) where
           one_answer tree [] project order every seen [] cells shown cmp total (λ _. true) (λ _. refl) out_cells (λ _. refl) ordered others rows stored a
           ∙ ap (map _) (none_left others) ∙ map_same _ shown shows others
 
-      pub is_list : (rows : List Row) (entries : List E) → IsAnswer (over tree [] project order every) seen [] rows → HaveRowids (db tree) → map shown entries ≡ map columns rows → IsListOf cells shown cmp (db tree) entries
-      is_list rows entries a have is = record {
+      pub is_list : (rows : List Row) (entries : List E) → IsAnswer (over tree [] project order every) seen [] rows → HaveRowids (db tree) → map shown entries ≡ map columns rows → AreInUtf8 shown entries → IsListOf cells shown cmp (db tree) entries
+      is_list rows entries a have is texts = record {
+        texts = texts;
         held = record {
           apart = have.apart;
           keyed = have.keyed;

@@ -25,6 +25,7 @@ use Rattle.osb_audit.specs.declared.entry.BindingEntry.{BindingEntry}
 use Rattle.osb_audit.specs.Bindings.{binding_entry}
 use Rattle.osb_audit.specs.Orders.{Entry, entry_cmp, lives_in}
 use Rattle.osb_joined.specs.Contexts.{contexts_of, contexts_of_instance}
+use Rattle.osb_rows.specs.Rows.{HaveUtf8Texts}
 use Rattle.osb_statements.specs.Stored.{Content, entry_row, entries_in, instances_in, bindings_in}
 use Rattle.osb_standing.specs.declared.row.InstanceRow.{InstanceRow}
 use Rattle.osb_orders.specs.declared.view.BindingNow.{BindingNow}
@@ -83,17 +84,17 @@ module _ (old new : State) (count : ℕ) (tables : HasTables old.now) (id : List
   abbrev bindings : List BindingEntry
   bindings = bindings_in old.now.trees
 
-  pub appends : (order : Order) → IsLives (lives_changed (Append order) id (bare_in old)) → Executes insert_order (entry_row (id, order)) old new (Ok count)
+  pub appends : (order : Order) → IsLives (lives_changed (Append order) id (bare_in old)) → HaveUtf8Texts (entry_row (id, order)) → Executes insert_order (entry_row (id, order)) old new (Ok count)
       → Gives old new (insert_sorted entry_cmp (id, order) entries) instances bindings × (lives_in (insert_sorted entry_cmp (id, order) entries) ≡ lives_changed (Append order) id (bare_in old))
-  appends order whole h =
+  appends order whole texts h =
       let above = entries_below id order entries (subst (AllByRecursion (λ (other : Order). other.number < order.number)) (life_of_lives id entries) (append_above (bare_in old) id order whole)) in
-      (adds_order old new count tables.schema entries instances bindings tables.holds (id, order) (key_new id order entries above) h, append_lives id order entries tables.holds.orders.rising above)
+      (adds_order old new count tables.schema entries instances bindings tables.holds (id, order) (key_new id order entries above) texts h, append_lives id order entries tables.holds.orders.rising above)
 
   pub finishes : (number : ℕ) (outcome : Outcome) → IsLives (bare_in old) → IsFinishable (life_of (bare_in old) id) number outcome
-      → Executes finish_order (Text id ∷ Int (pos number) ∷ Int (pos (state_number outcome.state)) ∷ Text outcome.description ∷ Text outcome.credentials ∷ []) old new (Ok count)
+      → HaveUtf8Texts (Text outcome.description ∷ Text outcome.credentials ∷ []) → Executes finish_order (Text id ∷ Int (pos number) ∷ Int (pos (state_number outcome.state)) ∷ Text outcome.description ∷ Text outcome.credentials ∷ []) old new (Ok count)
       → Gives old new (update_where (is_keyed id number) (entry_ended outcome) entries) instances bindings × (lives_in (update_where (is_keyed id number) (entry_ended outcome) entries) ≡ lives_changed (Finish number outcome) id (bare_in old))
-  finishes number outcome whole may h =
-      (ends_order old new count tables.schema entries instances bindings tables.holds id number outcome h, end_lives id number outcome entries (numbered (bare_in old) id whole) may.last (runs_not_empty _ may.runs))
+  finishes number outcome whole may texts h =
+      (ends_order old new count tables.schema entries instances bindings tables.holds id number outcome texts h, end_lives id number outcome entries (numbered (bare_in old) id whole) may.last (runs_not_empty _ may.runs))
 
 -- the parameters that show an entry
 pub entry_params : (entry : Entry) {a b c d e f g h i j k l m : Value}

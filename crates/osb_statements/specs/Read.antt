@@ -13,7 +13,7 @@ use Rattle.osb_audit.specs.Orders.{Entry, entry_cmp}
 use Rattle.osb_audit.specs.Bindings.{binding_cmp}
 use Rattle.osb_statements.specs.declared.fault.StoreFault.{StoreFault}
 use Rattle.osb_statements.specs.declared.fault.StoreFault.TheVariants.{NotOurs}
-use Rattle.osb_rows.specs.Rows.{Stores, AreRows}
+use Rattle.osb_rows.specs.Rows.{Stores, AreRows, HaveUtf8Texts, AreInUtf8}
 use Rattle.osb_statements.specs.Instances.{instance_row, instance_cells, instance_row_decoded, standing_columns}
 use Rattle.osb_statements.specs.Bindings.{binding_row, binding_cells}
 use Rattle.osb_contexts.specs.Format.{version_row, version_cells}
@@ -33,11 +33,14 @@ OrderFits entry = entry.1.number < 2 ^ 32
 abbrev pub InstanceFits : InstanceEntry → Type 0
 InstanceFits entry = entry.1.last_number < 2 ^ 32
 
--- A row was read as an entry: at `Ok` these columns show the entry, and NotOurs says that the row shows none that fits.
+-- A row was read as an entry: at `Ok` these columns show the entry, and its texts are UTF-8. NotOurs says that the row shows
+-- none that fits, or has a text that isn't UTF-8.
 pub record IsEntryOf {E : Type 0} (shown : E → Row) (columns : Row → Row) (Fits : E → Type 0)
     (row : Row) (result : Result E StoreFault) : Type 0 where
   pub told : IfOk result (λ entry. shown entry ≡ columns row)
-  pub known : (entry : E) → row ≡ shown entry → Fits entry → result ≢ Err NotOurs
+  pub texts : IfOk result (λ entry. HaveUtf8Texts (shown entry))
+  pub known : (entry : E) → row ≡ shown entry → Fits entry → HaveUtf8Texts row →
+      result ≢ Err NotOurs
 
 -- the columns hold these attributes
 abbrev pub HoldAttributes : Row → Attributes → Type 0
@@ -49,11 +52,12 @@ HoldAttributes cells attributes =
     × (column cells 8 ≡ Words attributes.parameters)
     × (column cells 9 ≡ Words attributes.maintenance)
 
--- These entries were read of the table: its rows show them, each under a rowid of its own, and if it stores entries at all,
--- their rows are these.
+-- These entries were read of the table: its rows show them in UTF-8, each under a rowid of its own, and if it stores entries
+-- at all, their rows are these.
 pub record IsListOf {E : Type 0} (cells : Row → Row) (shown : E → Row) (cmp : E → E → Ordering)
     (rows : List Row) (entries : List E) : Type 0 where
   pub held : AreRows cells rows (map shown entries)
+  pub texts : AreInUtf8 shown entries
   pub only : (others : List E) → Stores cells shown cmp rows others →
       map shown others ≡ map shown entries
 

@@ -11,7 +11,7 @@ ghost use Rattle.osb_audit.specs.Bindings.{binding_now, binding_cmp, binding_ent
 ghost use Rattle.osb_tables.specs.Tables.{second_schema, instances_schema, tables_schema};
 ghost use Rattle.osb_statements.specs.Causes.{IsRefused};
 ghost use Rattle.osb_statements.specs.declared.fault.StoreFault.TheVariants as faults;
-ghost use Rattle.osb_rows.specs.Rows.{Stores};
+ghost use Rattle.osb_rows.specs.Rows.{Stores, HaveUtf8Texts, AreInUtf8};
 ghost use Rattle.osb_statements.specs.Read.{IsReadAs, IsEntryOf, AreBindingsOf, binding_columns};
 ghost use Rattle.sqlite.specs.Values.{bound_value};
 ghost use Rattle.sqlite_value.specs.Value.{owned};
@@ -129,9 +129,10 @@ fn binding_entry_in(row: &Row) -> Result<BindingEntry, StoreFault>
 /// The bindings of the rows.
 fn bindings_in(alloc: Global, rows: &[Row]) -> Result<Vec<BindingEntry>, StoreFault>
     ensures told { IfOk result (λ entries.
-        map binding_row entries.items ≡ map binding_columns rows.now) }
+        (map binding_row entries.items ≡ map binding_columns rows.now)
+        × AreInUtf8 binding_row entries.items) }
     ensures known { (entries : List BindingEntry) → rows.now ≡ map binding_row entries →
-        result ≢ Err faults.NotOurs }
+        AreInUtf8 binding_row entries → result ≢ Err faults.NotOurs }
 {
     let mut entries = Vec::new(alloc);
     for row in rows {
@@ -140,7 +141,7 @@ fn bindings_in(alloc: Global, rows: &[Row]) -> Result<Vec<BindingEntry>, StoreFa
     Ok(entries)
 }
 
-/// Runs a statement whose parameters are the columns of the row.
+/// Runs a statement whose parameters are the columns of the row. These are UTF-8, as any `str` is.
 fn execute_with<S: Alter>(
     tx: &mut Transaction<'_, S>,
     sql: &str,
@@ -154,6 +155,8 @@ fn execute_with<S: Alter>(
         IsTrue (behind S.Store tx.old).in_transaction →
         ExecutesInside 0 sql.now (binding_row (binding_entry instance.now
         (binding.now, row.now))) (behind S.Store tx.old) (behind S.Store tx.new) result }
+    ensures texts { HaveUtf8Texts (binding_row (binding_entry instance.now
+        (binding.now, row.now))) }
     ensures inside { StaysInside S.Store tx.old tx.new }
 {
     execute(

@@ -1,6 +1,7 @@
 //! Cells of a row as values.
 
 ghost use Rattle.std.specs.Prelude.{◌≡◌, ◌≢◌, ◌<◌, ◌^◌, ℕ, true, pos, map, Err, IfOk, IfErr, OnOk};
+ghost use Rattle.std.specs.Str.{is_utf8};
 ghost use Rattle.std.specs.Ordering.{nat_cmp};
 ghost use Rattle.std.specs.List.Sorted.{IsStrictlySortedBy};
 ghost use Rattle.sqlite.specs.declared.types.Value.TheVariants.{Int, Text as Words};
@@ -9,8 +10,9 @@ ghost use Rattle.sqlite_trees.specs.Tree.{rowid};
 ghost use Rattle.osb_statements.specs.Causes.{IsRefused};
 ghost use Rattle.osb_statements.specs.declared.fault.StoreFault.TheVariants as faults;
 ghost use Rattle.osb_statements.specs.Read.{HoldAttributes};
+ghost use Rattle.osb_rows.specs.Rows.{HaveUtf8Texts};
 ghost use Rattle.osb_contexts.specs.Read.{rowid_shown, AreRowids};
-ghost use Rattle.osb_statements.specs.Columns.{number_in, attributes_decoded};
+ghost use Rattle.osb_statements.specs.Columns.{number_in, attributes_decoded, attributes_row};
 
 use crate::cause::Cause;
 use crate::fault::StoreFault;
@@ -19,13 +21,18 @@ use osb_text::Text;
 use sqlite::{Error, Row};
 use std::alloc::Global;
 
+/// A text of a row. One that isn't UTF-8 is in no row of ours.
 pub(crate) fn text_in(row: &Row, at: usize) -> Result<Text, StoreFault>
     ensures told { IfOk result (λ text. text ≡ bytes (column row.now at)) }
     ensures held { IfOk result (λ text. column row.now at ≡ Words text) }
-    ensures refused { IfErr result IsRefused }
+    ensures utf8 { IfOk result (λ text. is_utf8 text ≡ true) }
+    ensures known { HaveUtf8Texts row.now → result ≢ Err faults.NotOurs }
 {
-    let string: String = row.get(at)?;
-    Ok(Text::from(string))
+    match row.get::<String>(at) {
+        Ok(string) => Ok(Text::from(string)),
+        Err(Error::Utf8Error(_)) => Err(StoreFault::NotOurs),
+        Err(error) => Err(StoreFault::from(error)),
+    }
 }
 
 /// A number of a row. One that isn't of 32 bits is in no row of ours.
@@ -46,7 +53,8 @@ pub(crate) fn number_in(row: &Row, at: usize) -> Result<u32, StoreFault>
 pub(crate) fn attributes_in(alloc: Global, row: &Row) -> Result<Attributes, StoreFault>
     ensures told { IfOk result (λ attributes. attributes ≡ attributes_decoded row.now) }
     ensures held { IfOk result (HoldAttributes row.now) }
-    ensures refused { IfErr result IsRefused }
+    ensures texts { IfOk result (λ attributes. HaveUtf8Texts (attributes_row attributes)) }
+    ensures known { HaveUtf8Texts row.now → result ≢ Err faults.NotOurs }
 {
     Ok(Attributes {
         service: text_in(row, 4)?,

@@ -17,8 +17,8 @@ ghost use Rattle.osb_statements.specs.Causes.{IsRefused};
 ghost use Rattle.osb_statements.specs.declared.fault.StoreFault.TheVariants as faults;
 ghost use Rattle.osb_statements.specs.Queries.{ShowsRecords};
 ghost use Rattle.osb_statements.specs.Asked.{busy_row, id_row, is_above, order_for};
-ghost use Rattle.osb_rows.specs.Rows.{Stores};
-ghost use Rattle.osb_statements.specs.Columns.{number_in};
+ghost use Rattle.osb_rows.specs.Rows.{Stores, HaveUtf8Texts, AreInUtf8};
+ghost use Rattle.osb_statements.specs.Columns.{number_in, attributes_row};
 ghost use Rattle.osb_statements.specs.Read.{IsReadAs, IsEntryOf, InstanceFits, AreInstancesOf, instance_columns, first_told};
 ghost use Rattle.osb_bare.specs.Bare.{bare_attributes, bare_row};
 ghost use Rattle.osb_statements.specs.Stored.{AreBareRows};
@@ -114,7 +114,8 @@ struct StandingColumns<'a> {
 }
 
 fn columns_of(standing: &Option<Standing>) -> StandingColumns<'_>
-    ensures { AreColumnsOf standing.now result }
+    ensures shown { AreColumnsOf standing.now result }
+    ensures texts { HaveUtf8Texts (attributes_row (attributes_shown standing.now)) }
 {
     match standing {
         None => StandingColumns {
@@ -183,8 +184,9 @@ fn standing_decoded(number: u32, attributes: Attributes) -> Result<Option<Standi
 fn instance_row_in(alloc: Global, row: &Row) -> Result<InstanceRow, StoreFault>
     ensures told { IfOk result (λ found. found ≡ instance_row_decoded row.now) }
     ensures held { IfOk result (λ found. standing_row found ≡ standing_columns row.now) }
+    ensures texts { IfOk result (λ found. HaveUtf8Texts (standing_row found)) }
     ensures known { (entry : InstanceEntry) → row.now ≡ instance_row entry → InstanceFits entry →
-        result ≢ Err faults.NotOurs }
+        HaveUtf8Texts row.now → result ≢ Err faults.NotOurs }
 {
     Ok(InstanceRow {
         busy: busy_numbered(number_in(row, 2)?)?,
@@ -215,9 +217,10 @@ fn instance_in(alloc: Global, row: &Row) -> Result<(Text, InstanceRow), StoreFau
 fn instances_in(alloc: Global, rows: &[Row]) -> Result<Vec<(Text, InstanceRow)>, StoreFault>
     ensures told { IfOk result (λ entries.
         (map instance_row entries.items ≡ map instance_columns rows.now)
-        × AreBareRows entries.items) }
+        × AreBareRows entries.items × AreInUtf8 instance_row entries.items) }
     ensures known { (entries : List InstanceEntry) → rows.now ≡ map instance_row entries →
-        AllByRecursion InstanceFits entries → result ≢ Err faults.NotOurs }
+        AllByRecursion InstanceFits entries → AreInUtf8 instance_row entries →
+        result ≢ Err faults.NotOurs }
 {
     let mut entries = Vec::new(alloc);
     for row in rows {
@@ -234,7 +237,7 @@ pub(crate) fn named_in(row: &Row) -> Result<(Text, u32), StoreFault>
     Ok((text_in(row, 0)?, number_in(row, 1)?))
 }
 
-/// Runs a statement whose parameters are the columns of the row.
+/// Runs a statement whose parameters are the columns of the row. These are UTF-8, as any `str` is.
 fn execute_with<S: Alter>(
     tx: &mut Transaction<'_, S>,
     sql: &str,
@@ -247,6 +250,7 @@ fn execute_with<S: Alter>(
         IsTrue (behind S.Store tx.old).in_transaction →
         ExecutesInside 0 sql.now (instance_row (instance.now, row.now)) (behind S.Store tx.old)
         (behind S.Store tx.new) result }
+    ensures texts { HaveUtf8Texts (instance_row (instance.now, row.now)) }
     ensures inside { StaysInside S.Store tx.old tx.new }
 {
     let columns = columns_of(&row.standing);

@@ -19,7 +19,7 @@ ghost use Rattle.osb_statements.specs.Causes.{IsRefused};
 ghost use Rattle.osb_statements.specs.declared.fault.StoreFault.TheVariants as faults;
 ghost use Rattle.osb_statements.specs.Queries.{ShowsRecords};
 ghost use Rattle.osb_statements.specs.Asked.{first_order, is_kind_of};
-ghost use Rattle.osb_rows.specs.Rows.{Stores};
+ghost use Rattle.osb_rows.specs.Rows.{Stores, HaveUtf8Texts, AreInUtf8};
 ghost use Rattle.std.specs.List.{AllByRecursion};
 ghost use Rattle.osb_statements.specs.Read.{IsReadAs, IsEntryOf, OrderFits, entry_columns, AreOrdersOf};
 ghost use Rattle.osb_statements.specs.Stored.{AreBare, kind_numbered, state_numbered, order_decoded, order_row, order_columns, entry_row, order_cells, entries_in};
@@ -88,8 +88,10 @@ fn outcome_in(row: &Row) -> Result<Outcome, StoreFault>
         (column row.now 10 ≡ Int (pos (state_number outcome.state)))
         × (column row.now 11 ≡ Words outcome.description)
         × (column row.now 12 ≡ Words outcome.credentials)) }
+    ensures texts { IfOk result (λ outcome.
+        HaveUtf8Texts (Words outcome.description ∷ Words outcome.credentials ∷ [])) }
     ensures known { (state : OrderState) → column row.now 10 ≡ Int (pos (state_number state)) →
-        result ≢ Err faults.NotOurs }
+        HaveUtf8Texts row.now → result ≢ Err faults.NotOurs }
 {
     Ok(Outcome {
         state: state_numbered(number_in(row, 10)?)?,
@@ -102,8 +104,9 @@ fn outcome_in(row: &Row) -> Result<Outcome, StoreFault>
 fn order_in(alloc: Global, row: &Row) -> Result<Order, StoreFault>
     ensures told { IfOk result (λ order. order ≡ order_decoded row.now) }
     ensures held { IfOk result (λ order. order_columns row.now ≡ order_row order) }
+    ensures texts { IfOk result (λ order. HaveUtf8Texts (order_row order)) }
     ensures known { (entry : Entry) → row.now ≡ entry_row entry → OrderFits entry →
-        result ≢ Err faults.NotOurs }
+        HaveUtf8Texts row.now → result ≢ Err faults.NotOurs }
 {
     Ok(Order {
         number: number_in(row, 1)?,
@@ -146,9 +149,11 @@ fn entry_in(alloc: Global, row: &Row) -> Result<(Text, Order), StoreFault>
 /// The orders of the rows, each with the id of its instance.
 fn entries_in(alloc: Global, rows: &[Row]) -> Result<Vec<(Text, Order)>, StoreFault>
     ensures told { IfOk result (λ entries.
-        (map entry_row entries.items ≡ map entry_columns rows.now) × AreBare entries.items) }
+        (map entry_row entries.items ≡ map entry_columns rows.now) × AreBare entries.items
+        × AreInUtf8 entry_row entries.items) }
     ensures known { (entries : List Entry) → rows.now ≡ map entry_row entries →
-        AllByRecursion OrderFits entries → result ≢ Err faults.NotOurs }
+        AllByRecursion OrderFits entries → AreInUtf8 entry_row entries →
+        result ≢ Err faults.NotOurs }
 {
     let mut entries = Vec::new(alloc);
     for row in rows {

@@ -39,7 +39,7 @@ use osb_orders::Order;
 use osb_standing::InstanceRow;
 use osb_text::Text;
 use sqlite::types::ValueRef;
-use sqlite::{Alter, Transaction, params};
+use sqlite::{Alter, Row, Transaction, params};
 use std::alloc::Global;
 
 /// A piece has one order more than this, or one instance more, and all orders of the last instance.
@@ -212,7 +212,19 @@ fn is_piece_whole<S: Alter>(
     are_lives(alloc, &read, &contexts)
 }
 
+/// The id of the row; none where it isn't UTF-8.
+fn id_in(row: &Row) -> Result<Option<Text>, StoreFault>
+    ensures { IfErr result IsRefused }
+{
+    match text_in(row, 0) {
+        Ok(id) => Ok(Some(id)),
+        Err(StoreFault::NotOurs) => Ok(None),
+        Err(StoreFault::Refused(cause)) => Err(StoreFault::Refused(cause)),
+    }
+}
+
 /// The id up to which the next piece goes, which the query names by an id and a number of rows, unless few are left.
+/// Where that id isn't UTF-8, all that is left is one piece, whose reading finds it.
 pub(crate) fn end_of_piece<S: Alter>(
     tx: &mut Transaction<'_, S>,
     sql: &str,
@@ -225,7 +237,7 @@ pub(crate) fn end_of_piece<S: Alter>(
 {
     let rows = select(tx, sql, params![after, ROWS])?;
     match rows.first() {
-        Some(row) => Ok(Some(text_in(row, 0)?)),
+        Some(row) => id_in(row),
         None => Ok(None),
     }
 }

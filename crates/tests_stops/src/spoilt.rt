@@ -98,9 +98,21 @@ static SPOILT_NUMBERS: [&str; 12] = [
     "UPDATE instances SET last_seq = last_seq + 4294967296",
 ];
 
+/// The same of its texts, which aren't UTF-8 then.
+static SPOILT_TEXTS: [&str; 7] = [
+    "UPDATE orders SET note = CAST(x'ff' AS TEXT)",
+    "UPDATE orders SET maint = CAST(x'ff' AS TEXT)",
+    "UPDATE orders SET plan_id = CAST(x'ff' AS TEXT)",
+    "UPDATE orders SET instance_id = CAST(x'ff' AS TEXT)",
+    "UPDATE instances SET maint = CAST(x'ff' AS TEXT)",
+    "UPDATE contexts SET context = CAST(x'ff' AS TEXT)",
+    "INSERT INTO bindings VALUES ('i', CAST(x'ff' AS TEXT), 1, 's', 'p', '', '{}', '{}', '{}')",
+];
+
 /// What is done to a new database of version 1 without an index.
-static SPOILT_FIRST: [&[&str]; 12] = [
+static SPOILT_FIRST: [&[&str]; 13] = [
     &[ORDER, FAILED],
+    &[ORDER, READY, "UPDATE orders SET note = CAST(x'ff' AS TEXT)"],
     &[ORDER],
     &[READY],
     &[LISTING, ORDER, FAILED],
@@ -170,6 +182,12 @@ fn other_contexts_are_not_taken(rt: HostRuntime) -> Result<(), Fail> {
 #[test]
 fn other_numbers_are_not_taken(rt: HostRuntime) -> Result<(), Fail> {
     assert!(rt; first_row_taken(rt.alloc(), &SPOILT_NUMBERS)? == None);
+    Ok(())
+}
+
+#[test]
+fn other_texts_are_not_taken(rt: HostRuntime) -> Result<(), Fail> {
+    assert!(rt; first_row_taken(rt.alloc(), &SPOILT_TEXTS)? == None);
     Ok(())
 }
 

@@ -16,7 +16,7 @@ returns-in-Ok-clause-ok g c clean =
     let same = c.in_ok-rows.ensures.reads.same clean in
     let has = c.requires (clean_before old new _ c.select.ensures.reads.survives clean) same.0.was_open in
     contexts_read old new has c.in_ok-rows.rows.items c.args.after.now _ c.in-Ok.entries.items
-    (rw (c.as_bytes.ensures.value) at (c.in_ok-rows.ensures.ok clean)) (c.in-Ok.ensures.told ∙ ap (map context_columns) c.deref.ensures.value)
+    (rw (c.as_bytes.ensures.value) at (c.in_ok-rows.ensures.ok clean)) (c.in-Ok.ensures.told ∙ ap (map context_columns) c.deref.ensures.value) c.in-Ok.ensures.texts
 
 pub returns-in-Err-IntegralValueOutOfRange-clause-known : goal.returns-in-Err-IntegralValueOutOfRange-clause-known
 returns-in-Err-IntegralValueOutOfRange-clause-known g c clean entries stores fit =
@@ -24,5 +24,5 @@ returns-in-Err-IntegralValueOutOfRange-clause-known g c clean entries stores fit
     let new = behind g.S.Store c.select.new.tx in
     let same = c.in_ok-rows.ensures.reads.same clean in
     let has = c.requires (clean_before old new _ c.select.ensures.reads.survives clean) same.0.was_open in
-    let fits = c.entries_in.ensures.known entries (c.deref.ensures.value ∙ contexts_shown old new has c.in_ok-rows.rows.items c.args.after.now _ entries (rw (c.as_bytes.ensures.value) at (c.in_ok-rows.ensures.ok clean)) stores) fit in
+    let fits = c.entries_in.ensures.known entries (c.deref.ensures.value ∙ contexts_shown old new has c.in_ok-rows.rows.items c.args.after.now _ entries (rw (c.as_bytes.ensures.value) at (c.in_ok-rows.ensures.ok clean)) stores) fit stores.texts in
     search rules

@@ -1,4 +1,3 @@
-use Rattle.osb_contexts.specs.Reads.{behind}
 use Rattle.osb_rows.proofs.ResultLemmas.{if_ok}
 use Rattle.osb_contexts.proofs.PageLemmas.{first_read}
 use Rattle.osb_contexts.proofs.pages.read_first.Goals as goal

@@ -1,8 +1,6 @@
-use Rattle.std.proofs.Common.{refl, ap, subst, sym, ◌∙◌}
-use Rattle.sqlite.specs.Effect.{Database}
-use Rattle.osb_contexts.specs.Pages.{tree_of, AreReadTo}
+use Rattle.std.proofs.Common.{refl}
 use Rattle.osb_contexts.specs.Reads.{behind}
-use Rattle.osb_contexts.proofs.PageLemmas.{no_page_yet, one_page_more}
+use Rattle.osb_contexts.proofs.PageLemmas.{no_page_yet}
 use Rattle.osb_contexts.proofs.pages.read_on.Goals as goal
 
 pub loop-init : goal.loop-init

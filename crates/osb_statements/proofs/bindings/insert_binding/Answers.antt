@@ -20,5 +20,5 @@ returns-clause-ok g c clean =
     let row = c.args.row.now in
     steps_by insert_binding (binding_row (binding_entry id (binding, row))) old new c.execute_with.result _ c.execute_with.ensures.ended c.execute_with.ensures.inside.survives clean
     (bare_in old) (entries_in old.now.trees) (instances_in old.now.trees) (insert_sorted binding_cmp (binding_entry id (binding, row)) (bindings_in old.now.trees)) (stored_bare old.now.trees) (instances_bare old.now.trees) (λ before live. (c.requires.tables before live).schema)
-    (λ count before live has h. (adds_binding old new count (c.requires.tables before live) id binding row (c.requires.no_row before live) h, refl))
+    (λ count before live has h. (adds_binding old new count (c.requires.tables before live) id binding row (c.requires.no_row before live) c.execute_with.ensures.texts h, refl))
     (c.execute_with.ensures.runs clean)

@@ -16,7 +16,7 @@ returns-clause-ok g c clean =
     let new = behind g.S.Store c.select.new.tx in
     let same = c.in_ok-rows.ensures.reads.same clean in
     let has = c.requires (clean_before old new _ c.select.ensures.reads.survives clean) same.0.was_open in
-    if_ok c.bindings_in.result (λ entries is have. some_bindings_read old new has c.in_ok-rows.rows.items c.args.after.now _ entries.items (rw (c.as_bytes.ensures.value) at (c.in_ok-rows.ensures.ok clean)) have (is ∙ ap (map binding_columns) c.deref.ensures.value)) c.bindings_in.ensures.told
+    if_ok c.bindings_in.result (λ entries is have. some_bindings_read old new has c.in_ok-rows.rows.items c.args.after.now _ entries.items (rw (c.as_bytes.ensures.value) at (c.in_ok-rows.ensures.ok clean)) have (is.0 ∙ ap (map binding_columns) c.deref.ensures.value) is.1) c.bindings_in.ensures.told
 
 pub returns-clause-known : goal.returns-clause-known
 returns-clause-known g c clean entries stores =
@@ -24,4 +24,4 @@ returns-clause-known g c clean entries stores =
     let new = behind g.S.Store c.select.new.tx in
     let same = c.in_ok-rows.ensures.reads.same clean in
     let has = c.requires (clean_before old new _ c.select.ensures.reads.survives clean) same.0.was_open in
-    c.bindings_in.ensures.known entries (c.deref.ensures.value ∙ some_bindings_shown old new has c.in_ok-rows.rows.items c.args.after.now _ entries (rw (c.as_bytes.ensures.value) at (c.in_ok-rows.ensures.ok clean)) stores)
+    c.bindings_in.ensures.known entries (c.deref.ensures.value ∙ some_bindings_shown old new has c.in_ok-rows.rows.items c.args.after.now _ entries (rw (c.as_bytes.ensures.value) at (c.in_ok-rows.ensures.ok clean)) stores) stores.texts

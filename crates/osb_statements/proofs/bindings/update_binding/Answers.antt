@@ -21,5 +21,5 @@ returns-clause-ok g c clean =
     let row = c.args.row.now in
     steps_by update_binding (binding_row (binding_entry id (binding, row))) old new c.execute_with.result _ c.execute_with.ensures.ended c.execute_with.ensures.inside.survives clean
     (bare_in old) (entries_in old.now.trees) (instances_in old.now.trees) (update_where (is_binding id binding) (with_binding_row row) (bindings_in old.now.trees)) (stored_bare old.now.trees) (instances_bare old.now.trees) (λ before live. (c.requires before live).schema)
-    (λ count before live has h. (updates_binding old new count (c.requires before live) id binding row h, refl))
+    (λ count before live has h. (updates_binding old new count (c.requires before live) id binding row c.execute_with.ensures.texts h, refl))
     (c.execute_with.ensures.runs clean)

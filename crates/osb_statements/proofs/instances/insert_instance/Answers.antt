@@ -2,6 +2,7 @@ use Rattle.std.proofs.Common.{refl, IsTrue, subst}
 use Rattle.sqlite.specs.Held.{state}
 use Rattle.sqlite_keyed.specs.Lists.{insert_sorted}
 use Rattle.osb_audit.specs.Instances.{instance_cmp}
+use Rattle.osb_rows.specs.Rows.{HaveUtf8Texts}
 use Rattle.osb_statements.specs.Instances.{instance_row}
 use Rattle.osb_statements.specs.Stored.{entries_in, instances_in, bindings_in}
 use Rattle.osb_statements.specs.Steps.{bare_in}
@@ -21,5 +22,5 @@ returns-clause-ok g c clean =
     let row = bare_row c.args.row.now in
     steps_by insert_instance (instance_row (id, row)) old new c.execute_with.result _ c.execute_with.ensures.ended c.execute_with.ensures.inside.survives clean
     (bare_in old) (entries_in old.now.trees) (insert_sorted instance_cmp (id, row) (instances_in old.now.trees)) (bindings_in old.now.trees) (stored_bare old.now.trees) (all_inserted _ instance_cmp (id, row) (instances_in old.now.trees) (bare_again c.args.row.now) (instances_bare old.now.trees)) (λ before live. (c.requires.tables before live).schema)
-    (λ count before live has h. (adds_instance old new count (c.requires.tables before live) id row (c.requires.no_row before live) h, refl))
+    (λ count before live has h. (adds_instance old new count (c.requires.tables before live) id row (c.requires.no_row before live) (subst HaveUtf8Texts (bare_shown id c.args.row.now) c.execute_with.ensures.texts) h, refl))
     (subst (λ params. IsTrue old.in_transaction → ExecutesInside 0 insert_instance params old new c.execute_with.result) (bare_shown id c.args.row.now) (c.execute_with.ensures.runs clean))

@@ -17,7 +17,7 @@ returns-clause-ok g c clean =
     let same = c.in_ok-rows.ensures.reads.same clean in
     let has = c.requires (clean_before old new _ c.select.ensures.reads.survives clean) same.0.was_open in
     if_ok c.entries_in.result (λ entries is have. (
-      some_orders_read old new has c.in_ok-rows.rows.items c.args.after.now _ entries.items (rw (c.as_bytes.ensures.value) at (c.in_ok-rows.ensures.ok clean)) have (is.0 ∙ ap (map entry_columns) c.deref.ensures.value),
+      some_orders_read old new has c.in_ok-rows.rows.items c.args.after.now _ entries.items (rw (c.as_bytes.ensures.value) at (c.in_ok-rows.ensures.ok clean)) have (is.0 ∙ ap (map entry_columns) c.deref.ensures.value) is.2,
       is.1,
     )) c.entries_in.ensures.told
 
@@ -27,4 +27,4 @@ returns-clause-known g c clean entries stores fit =
     let new = behind g.S.Store c.select.new.tx in
     let same = c.in_ok-rows.ensures.reads.same clean in
     let has = c.requires (clean_before old new _ c.select.ensures.reads.survives clean) same.0.was_open in
-    c.entries_in.ensures.known entries (c.deref.ensures.value ∙ some_orders_shown old new has c.in_ok-rows.rows.items c.args.after.now _ entries (rw (c.as_bytes.ensures.value) at (c.in_ok-rows.ensures.ok clean)) stores) fit
+    c.entries_in.ensures.known entries (c.deref.ensures.value ∙ some_orders_shown old new has c.in_ok-rows.rows.items c.args.after.now _ entries (rw (c.as_bytes.ensures.value) at (c.in_ok-rows.ensures.ok clean)) stores) fit stores.texts
