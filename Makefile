@@ -8,6 +8,7 @@
 #             builds it and makes a Debian package of it
 # make image  builds it and makes a container image of it, with podman
 # make edits  tries only those of tests/edits.py, over the libraries that are there, and takes no weak one
+# make first  tries what takes seconds
 # make quick  tries what the changes since the last commit that passed may break, within 20 minutes
 # make green  runs the gate for the newest commit in a clean clone, and notes that commit if it passes
 
@@ -17,7 +18,7 @@ export RT
 export PYTHONDONTWRITEBYTECODE = 1
 ADDRESS ?= 127.0.0.1:8080
 
-.PHONY: all run try package image test tried edits quick green clean FORCE
+.PHONY: all run try package image test tried edits first quick green clean FORCE
 
 all: osb-broker
 
@@ -47,6 +48,9 @@ tried:
 
 edits:
 	python3 tests/edits.py --strict
+
+first:
+	@python3 tests/first.py
 
 quick:
 	@python3 tools/quick.py

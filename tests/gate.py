@@ -27,7 +27,7 @@ from processes import end_all
 from rattle import KIT
 
 # What takes seconds.
-FIRST = [["needs"], ["counts"], ["pages"], ["layout"], ["edits", "--files"]]
+FIRST = "first"
 # What tries the gate's own scripts, for minutes: two at a time, beside the rest.
 OWN, AT_ONCE = ["judged", "building", "tried", "gated", "greened"], 2
 # Every proof from nothing and the built program from outside, with the edits beside them.
@@ -44,6 +44,7 @@ PASSED = [
 ]
 # Lines that say that something failed, and how that is tried by itself.
 FAILED = [
+    (r"first: (\w+)( --\w+)? failed", "python3 tests/{}.py{}"),
     (r"rt: (\w+) NOT PROVED.*", "python3 tools/check.py {}"),
     (r"rt: (\w+): its tests NOT PROVED.*", "python3 tools/check.py {} --test"),
     (r"rt: (\w+): its tests FAILED", "cd crates/{} && rt test"),
@@ -79,7 +80,7 @@ class Log:
                 self.passed.append(name.format(*found.groups()))
         for pattern, command in FAILED:
             if found := re.fullmatch(pattern, line):
-                self.failed.append((line[:300], command.format(*found.groups())))
+                self.failed.append((line[:300], command.format(*(it or "" for it in found.groups()))))
         if re.match(SUMS, line):
             self.sums.append(line)
 
@@ -137,7 +138,7 @@ class Gate:
         return status == 0
 
     def passes(self):
-        if not all(self.step(*words) for words in FIRST):
+        if not self.step(FIRST):
             return False
         with ThreadPoolExecutor(AT_ONCE) as pool:
             own = [pool.submit(self.own, name) for name in OWN]

@@ -23,7 +23,7 @@ COPIED = ["tests/gate.py", "tests/outside.py", "tools/crates.py", "tools/rattle.
 # A toolkit that keeps two proofs.
 TOOLKIT = '#!/bin/sh\n[ "$1" = version ] && echo "toolkit 1" || echo {}/kit/page\n'
 SCRIPT = "print('{}: 1 passed, 0 failed')\n"
-EDITS = "import sys, subprocess, time\nif '--files' in sys.argv:\n    sys.exit()\n"
+EDITS = "import sys, subprocess, time\n"
 GOOD = """print('rt: low proved')
 print('rt: high is kept')
 print('low: 1 edits, 0 faults, 1 weak')
@@ -58,7 +58,7 @@ class Small:
             (self.root / name).parent.mkdir(exist_ok=True)
             shutil.copy(os.path.join(ROOT, name), self.root / name)
         shutil.copytree(os.path.join(ROOT, "tests", "lib"), self.root / "tests" / "lib")
-        for name in [*(words[0] for words in gate.FIRST), *gate.OWN]:
+        for name in [gate.FIRST, *gate.OWN, "edits"]:
             (self.root / "tests" / f"{name}.py").write_text(scripts.get(name, SCRIPT.format(name)))
         (self.root / "tests" / "trials.txt").write_text("clients: 9\n")
         (self.root / "crates.txt").write_text("low:\nhigh: low\n")
@@ -102,10 +102,11 @@ def try_failing(room):
     found = ["  failed: the script judged, with status 1", "    by itself: python3 tests/judged.py"]
     yield "how it is tried by itself", lines[-3:-1], found
     yield "the rest is tried", "rt: low proved" in lines, True
-    small = Small(room, pages="print('pages: 0 passed, 1 failed')\nraise SystemExit(1)\n", edits=EDITS + GOOD)
-    status, lines = small.ran()
-    yield "one that takes seconds", (status, lines[-2]), (1, "    by itself: python3 tests/pages.py")
-    yield "behind it nothing is begun", [line for line in lines if line.startswith(("rt: ", "gate: layout"))], []
+    first = "print('first: pages failed')\nprint('first: edits --files failed')\nraise SystemExit(1)\n"
+    status, lines = Small(room, first=first, edits=EDITS + GOOD).ran()
+    commands = [line.partition("by itself: python3 tests/")[2] for line in lines if "by itself: " in line]
+    yield "what takes seconds", (status, commands), (1, ["pages.py", "edits.py --files", "first.py"])
+    yield "behind it nothing is begun", [line for line in lines if line.startswith("rt: ")], []
     status, lines = Small(room, edits=EDITS + BAD).ran()
     commands = [line.partition("by itself: ")[2] for line in lines[-12:] if "by itself: " in line]
     found = ["trials/clients.py PROGRAM", "edits.py", "edits.py low/x"]
@@ -126,7 +127,7 @@ def try_late(room):
     yield "what passed", (passed.startswith("  passed: "), "the proof of low" in passed), (True, True)
     yield "what is left", left, "  left: the proof of high, the edits of low, the trial clients"
     yield "nothing of it goes on", small.remains(), []
-    small = Small(room, needs="import time\ntime.sleep(1000)\n")
+    small = Small(room, first="import time\ntime.sleep(1000)\n")
     status, lines = small.ran(GATE_MINUTES="0.02")
     found = (status, lines[-1].startswith("the gate was stopped on "), lines[-3])
     yield "one whose time is over", found, (1, True, "  passed: nothing")

@@ -21,8 +21,10 @@ from changes import stated
 
 GATE = 'echo "its priority is $(nice)"; cat verdict; grep -q good verdict\n'
 LEMMA = "use Rattle.std.proofs.Common.{refl}\n\npub one : 1 ≡ 1\none = refl\n"
+# What takes seconds: here only the layout.
+LAYOUT = "import subprocess, sys\nraise SystemExit(subprocess.run([sys.executable, 'tests/layout.py']).returncode)\n"
 # What is looked at first, whatever was changed.
-FIRST = ["layout", "pages", "counts", "files of edits"]
+FIRST = ["what takes seconds"]
 PROGRAM = ["the program", "trial program"]
 LEFT = re.compile(r"quick: left: (.*), about (?!0\.0)[\d.]+ minutes")
 
@@ -39,11 +41,12 @@ class Small:
         files |= {".ci/run": GATE, "verdict": "good\n", "docs/ONE.md": "One.\n", "docs/TWO.md": "Two.\n"}
         files |= {"crates/low/src/lib.rt": LOW, "crates/osb_program/src/main.rt": MAIN, "crates/low/edits/a.edit": "a"}
         files |= {"crates/low/edits/b.edit": "b", "crates/tests_basics/src/lib.rt": LOW, ".gitignore": "__pycache__/\n"}
-        files |= {f"tests/{name}.py": "" for name in ("pages", "counts", "edits", "trials/program")}
+        files |= {f"tests/{name}.py": "" for name in ("edits", "trials/program")}
         files |= {"tests/trials.txt": "program: 9\nshown: 9\n", "tests/trials/shown.py": "'TWO.md'\n"}
         files |= {"tests/greened.py": "'green.py'\n"}
         for name, text in files.items():
             self.write(name, text)
+        self.write("tests/first.py", LAYOUT)
         shutil.copytree(os.path.join(ROOT, "tools"), self.root / "tools", ignore=shutil.ignore_patterns("__pycache__"))
         shutil.copy(os.path.join(ROOT, "tests", "layout.py"), self.root / "tests")
         self.git("init", "-q")
@@ -154,8 +157,8 @@ def try_quick(small):
     yield "all passes", (status, "quick: 0 failed, 0 left" in said), (0, True)
     yield "since no commit", small.ran("tools/quick", "nothing")[0], 2
     small.write("crates/low/src/lib.rt", LOW_BY_TWO)
-    status, names = small.planned("--minutes", "0.35")
-    yield "what fits", (status, names), (4, FIRST[:3])
+    status, names = small.planned("--minutes", "0.25")
+    yield "what fits", (status, names), (4, FIRST)
     status, said = small.ran("tools/quick", "--minutes", "0")
     above = ["tests_basics: tests", *PROGRAM]
     yield "what doesn't is named", (status, LEFT.findall(said)), (4, [*FIRST, "low: check", "low: edits", *above])
@@ -167,7 +170,7 @@ def try_quick(small):
     small.write("crates/low/src/lib.rt", LOW.replace("    n + 1\n}", "  n + 1\n}"))
     status, said = small.ran("tools/quick", "--minutes", "0.5")
     first = [line for line in said.splitlines() if line.startswith("quick: ")][1]
-    yield "a wrong layout is found first", (status, first.startswith("quick: failed: layout, ")), (1, True)
+    yield "a wrong layout is found first", (status, first.startswith("quick: failed: what takes seconds, ")), (1, True)
     yield "it is named", re.search(r"^    \S*crates/low/src/lib.rt is not in the layout$", said, re.M) is not None, True
     status, said = small.ran("tests/layout")
     yield "by itself", (status, "3 files" in said), (1, True)

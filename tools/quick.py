@@ -5,11 +5,11 @@
 Without a COMMIT it is the newest one before HEAD that passed the gate on this machine (tools/green.py). If none did, it
 is the last one that origin/main has too, or else the first of all. Files that aren't committed are changes as well.
 
-What takes seconds comes first, and the layout of all files before anything else. Then come the changed crates, their
-edits, the crates above those that state something else, tests, the program, and the trials that name a changed file.
-What doesn't fit the time isn't begun, and nor is what stands on something that failed or was left. Both are named in
-the end, with their minutes. The time is 20 minutes without --minutes. --plan only prints what would be tried. The
-status is 0, or 1 if something failed, or 4 if something was left."""
+What takes seconds comes first (tests/first.py). Then come the changed crates, their edits, the crates above those that
+state something else, tests, the program, and the trials that name a changed file. What doesn't fit the time isn't begun,
+and nor is what stands on something that failed or was left. Both are named in the end, with their minutes. The time is
+20 minutes without --minutes. --plan only prints what would be tried. The status is 0, or 1 if something failed, or 4 if
+something was left."""
 
 import argparse
 import re
@@ -31,7 +31,7 @@ EDITS |= {"osb_records": 7.5, "osb_file": 3.6, "osb_laws": 0.8, "osb_broker": 6.
 EDITS |= {"osb_listen": 6.5, "osb_cli": 7.6}
 TESTS = {"tests_basics": 4.5, "tests_layers": 8.5, "tests_conformance": 15.6, "tests_stops": 22}
 # Minutes of the scripts' own tests and of trials.
-SCRIPTS = {"judged": 3, "building": 3, "tried": 1, "greened": 1, "gated": 0.5, "needs": 0.5}
+SCRIPTS = {"judged": 3, "building": 3, "tried": 1, "greened": 1, "gated": 0.5}
 TRIALS = {"unproved": 3, "packaged": 8, "imaged": 3, "backends": 5, "power": 3, "refused": 3, "killed": 2, "groups": 2}
 MINUTES_OF_OTHERS = 1
 # The trials that speak of a crate; those of the program are tried with each change of it.
@@ -89,10 +89,7 @@ class Steps:
 
     def first(self):
         """What takes seconds, and the scripts' own tests."""
-        yield Step("layout", 0.1, "tests/layout.py")
-        yield Step("pages", 0.1, "tests/pages.py")
-        yield Step("counts", 0.1, "tests/counts.py")
-        yield Step("files of edits", 0.1, "tests/edits.py", "--files")
+        yield Step("what takes seconds", 0.2, "tests/first.py")
         for name, minutes in SCRIPTS.items():
             if self.change.is_named_in(ROOT / "tests" / f"{name}.py"):
                 yield Step(f"scripts: {name}", minutes, f"tests/{name}.py")
