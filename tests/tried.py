@@ -8,6 +8,7 @@ import os
 import pathlib
 import re
 import shutil
+import socket
 import subprocess
 import sys
 import tempfile
@@ -18,7 +19,7 @@ FOLDER = os.path.dirname(os.path.abspath(__file__))
 sys.path += [os.path.join(FOLDER, "lib"), os.path.join(FOLDER, "trials")]
 
 from database import starts
-from serving import ROOT, side_by_side, tell, wait_until
+from serving import PORTS, ROOT, is_free, side_by_side, tell, wait_until
 
 # What each small trial begins with: the number of its run.
 BEGINNING = """import os, pathlib, sys
@@ -74,6 +75,18 @@ def wrong():
     yield "the reply", b"wrong", b"right"
 with ThreadPoolExecutor(2) as pool:
     sys.exit(tell("one", side_by_side(pool, [late, wrong])))
+"""
+# Two parts at the same time: an error ends one, and a wait the other. All that was found is said.
+ERRORS = """
+from concurrent.futures import ThreadPoolExecutor
+def ends():
+    yield "a reply", b"wrong", b"right"
+    raise OSError("in use")
+def late():
+    time.sleep(0.5)
+    raise TimeoutError("no reply")
+with ThreadPoolExecutor(2) as pool:
+    sys.exit(tell("one", side_by_side(pool, [late, ends])))
 """
 LACKS_TOOL = """
 passed_over("one", "a proxy", "nginx", "openssl")
@@ -148,6 +161,24 @@ def try_times(room):
     yield from judged(room, "a wait without end", ENDLESS, 1, 1, failed)
     yield from judged(room, "a time that is too short", EARLY, 1, 1, failed)
     yield from judged(room, "one that crashes", CRASHES, 1, 1, failed)
+
+
+def try_errors(room):
+    outside = Outside(room, {"one": ERRORS})
+    status, printed, _ = outside.tried()
+    said = ["    one: wrong: a reply: ", "    one: wrong: behind a reply: OSError('in use')"]
+    yield "errors that end parts", (status, outside.runs(), [it for it in said if it not in printed]), (1, 1, [])
+
+
+def try_addresses():
+    """Processes that ask at the same time get different addresses, at which nobody listens."""
+    script = "from serving import free_address; print(*(free_address() for _ in range(25)))"
+    own = {**os.environ, "PYTHONPATH": os.path.join(FOLDER, "lib")}
+    asking = [subprocess.Popen([sys.executable, "-c", script], env=own, stdout=subprocess.PIPE, text=True) for _ in range(8)]
+    found = [it for each in asking for it in each.communicate()[0].split()]
+    yield "addresses", (len(found), len(set(found))), (200, 200)
+    with socket.create_server(("127.0.0.1", PORTS[7])):
+        yield "a port that is in use", is_free(PORTS[7]), False
 
 
 # Enough for a beginning on a machine that is busy.
@@ -264,9 +295,10 @@ def try_deaths(room):
 
 def tries():
     trials = [try_times, try_limit, try_wrong_at_limit, try_ended, try_passed_over]
-    trials += [try_last_lines, try_starts, try_deaths]
+    trials += [try_errors, try_last_lines, try_starts, try_deaths]
     with tempfile.TemporaryDirectory() as room, ThreadPoolExecutor(len(trials)) as pool:
         yield from side_by_side(pool, [partial(it, room) for it in trials])
+    yield from try_addresses()
 
 
 if __name__ == "__main__":

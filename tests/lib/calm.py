@@ -41,11 +41,11 @@ class Watch:
         """What a trial finds. If that isn't as expected and the machine stood still, it is made again."""
         for attempt in range(ATTEMPTS):
             before = self.stood_still()
-            found, wait = taken(trial())
-            right = not wait and all(got == expected for _, got, expected in found)
+            found, error = taken(trial)
+            right = not error and all(got == expected for _, got, expected in found)
             if right or self.stood_still() - before < STILL:
                 break
         self.again += attempt
         yield from found
-        if wait:
-            raise wait
+        if error:
+            raise error

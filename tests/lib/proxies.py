@@ -7,7 +7,7 @@ import subprocess
 import tempfile
 
 from conversations import replies
-from serving import EXAMPLES, free_address, read_to_end, wait_until
+from serving import EXAMPLES, SHOWN, free_address, read_to_end, wait_until
 
 UNUSABLE = '{"description":"The request is not usable."}'
 AWAY = '{"description":"The broker does not answer."}'
@@ -64,11 +64,13 @@ class Proxy:
 
     def __enter__(self):
         words = [self.program, *self.words]
-        with open(os.path.join(self.folder, self.said), "a", encoding="utf-8") as said:
-            self.process = subprocess.Popen(words, cwd=self.folder, stdout=said, stderr=subprocess.DEVNULL)
+        complaints = os.path.join(self.folder, "complaints")
+        with open(os.path.join(self.folder, self.said), "a", encoding="utf-8") as said, open(complaints, "w") as errors:
+            self.process = subprocess.Popen(words, cwd=self.folder, stdout=said, stderr=errors)
         wait_until(f"{self.program} listens", lambda: self.process.poll() is not None or self.takes_clients(), 60)
         if self.process.poll() is not None:
-            raise RuntimeError(f"{self.program} doesn't listen")
+            with open(complaints, encoding="utf-8") as errors:
+                raise RuntimeError(f"{self.program} doesn't listen: {errors.read()[-SHOWN:]}")
         return self
 
     def takes_clients(self):

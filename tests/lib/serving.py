@@ -1,5 +1,6 @@
 """The built program as a server on loopback, and how a trial says what it found."""
 
+import fcntl
 import json
 import os
 import re
@@ -22,11 +23,32 @@ def newest_version():
         return re.search(r"^## ([\d.]+)", file.read(), re.MULTILINE).group(1)
 
 
+# The ports that are given to servers here: the system gives them to nobody who connects or asks for any port. The file has
+# the last of them, for all trials that run at the same time.
+PORTS = range(20_000, 32_768)
+LAST_PORT = os.path.join(tempfile.gettempdir(), f"osb-broker-{os.getuid()}-port")
+
+
+def is_free(port):
+    try:
+        with socket.socket() as free:
+            free.bind(("127.0.0.1", port))
+    except OSError:
+        return False
+    return True
+
+
 def free_address():
-    """An address of loopback at which nobody listens. Another may take it before the program does."""
-    with socket.socket() as free:
-        free.bind(("127.0.0.1", 0))
-        return f"127.0.0.1:{free.getsockname()[1]}"
+    """An address of loopback at which nobody listens, and which no other trial was given lately."""
+    with open(LAST_PORT, "a+", encoding="utf-8") as file:
+        fcntl.flock(file, fcntl.LOCK_EX)
+        file.seek(0)
+        last = int(file.read() or PORTS[-1])
+        behind = (PORTS[(last - PORTS.start + it) % len(PORTS)] for it in range(1, len(PORTS)))
+        port = next(filter(is_free, behind))
+        file.truncate(0)
+        file.write(str(port))
+    return f"127.0.0.1:{port}"
 
 
 def new_database(folder):
@@ -180,26 +202,27 @@ def wait_until(what, is_so, seconds):
 WAITS = (subprocess.TimeoutExpired, TimeoutError)
 
 
-def taken(tries):
-    """What is found until a wait ends the trial, and that wait, or none."""
+def taken(part):
+    """What a part finds until an error ends it, and that error, or none."""
     found = []
     try:
-        for each in tries:
+        for each in part():
             found.append(each)
-    except WAITS as wait:
-        return found, wait
+    except Exception as error:
+        return found, error
     return found, None
 
 
 def side_by_side(pool, parts):
-    """What parts find that are tried at the same time. If waits ended some, the last is raised behind all findings."""
-    ended = None
-    for part in as_completed([pool.submit(lambda part=part: taken(part())) for part in parts]):
-        found, wait = part.result()
+    """What parts find that are tried at the same time. If errors ended some, one is raised behind all findings: a wait only
+    if all are waits."""
+    errors = []
+    for part in as_completed([pool.submit(taken, it) for it in parts]):
+        found, error = part.result()
         yield from found
-        ended = wait or ended
-    if ended:
-        raise ended
+        errors += [error] if error else []
+    for error in sorted(errors, key=lambda it: isinstance(it, WAITS)):
+        raise error
 
 
 # What is lacking if something isn't tried since it would take too long here.
@@ -222,7 +245,7 @@ def apart(found, expected):
 
 def tell(name, tries):
     """Prints what wasn't found as expected, and gives the status to end with: 1 if anything is wrong, ONLY_LATE if
-    something only took too long. A wait that ends the trial is late, too."""
+    something only took too long. An error that ends the trial is wrong, too, and a wait that does is late."""
     passed = wrong = late = 0
     trial = "the beginning"
     try:
@@ -234,10 +257,12 @@ def tell(name, tries):
             late, wrong = late + is_late, wrong + (not is_late)
             how = "late" if is_late else "wrong"
             print(f"{name}: {how}: {trial}: {apart(repr(found), repr(expected))}", flush=True)
-    except WAITS as wait:
-        late += 1
+    except Exception as error:
+        is_late = isinstance(error, WAITS)
+        late, wrong = late + is_late, wrong + (not is_late)
         traceback.print_exc(limit=-3, file=sys.stdout)
-        print(f"{name}: late: behind {trial}: {wait!s:.{SHOWN}}", flush=True)
+        how, said = ("late", str(error)) if is_late else ("wrong", repr(error))
+        print(f"{name}: {how}: behind {trial}: {said:.{SHOWN}}", flush=True)
     print(f"{name}: {passed} passed, {wrong + late} failed{f', {late} of them late' if late else ''}", flush=True)
     if wrong or not (passed or late):
         return 1

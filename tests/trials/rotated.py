@@ -16,6 +16,7 @@ import sys
 import tempfile
 import threading
 import time
+from functools import partial
 
 sys.path.append(os.path.join(os.path.dirname(os.path.abspath(__file__)), "..", "lib"))
 
@@ -169,7 +170,7 @@ def tries(program):
             clients = [Client(serving, door, number) for number, door in enumerate(doors)]
             for client in clients:
                 client.start()
-            found, wait = taken(rotation(serving, path, clients))
+            found, error = taken(partial(rotation, serving, path, clients))
             yield from found
             yield "it runs", serving.process.poll(), None
             for client in clients:
@@ -179,10 +180,10 @@ def tries(program):
     for client in clients:
         name = f"the {client.door} {client.number}"
         yield f"{name}: other answers", set(client.statuses) - ALLOWED[client.door], set()
-        if not wait:
+        if not error:
             yield f"{name}: asked while it was away", client.away > 0, True
-    if wait:
-        raise wait
+    if error:
+        raise error
     yield "instances of each platform", min(it.made for it in clients if it.door == "platform") > 0, True
 
 
