@@ -252,8 +252,12 @@ def compare(found, clauses, definitions, crates):
     return 1 if worse else 0
 
 
+def is_of_tests(crate):
+    return crate.startswith("tests_") or crate == "osb_conformance"
+
+
 def main(words):
-    crates = sorted(file.parent.name for file in ROOT.glob("crates/*/src") if not file.parent.name.startswith("tests_"))
+    crates = sorted(it for it in (file.parent.name for file in ROOT.glob("crates/*/src")) if not is_of_tests(it))
     clauses = {crate: [it for file in sorted((ROOT / "crates" / crate / "src").rglob("*.rt")) for it in clauses_in(file)] for crate in crates}
     definitions = Definitions(crates)
     if words[:1] == ["--behind"] and len(words) in (2, 3):

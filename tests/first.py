@@ -1,6 +1,6 @@
 #!/usr/bin/env python3
-"""What takes seconds, and proves nothing: what this machine lacks, the counts, the pages, the layout of all files and the files
-of the edits. All are tried at the same time.
+"""What takes seconds, and proves nothing: what this machine lacks, the counts, the pages, the input of the conversations, the
+layout of all files and the files of the edits. All are tried at the same time.
 
 usage: tests/first.py
 """
@@ -13,7 +13,7 @@ import time
 from concurrent.futures import ThreadPoolExecutor
 
 ROOT = pathlib.Path(__file__).resolve().parent.parent
-SCRIPTS = ["needs", "counts", "pages", "layout", "edits --files"]
+SCRIPTS = ["needs", "counts", "pages", "stdin", "layout", "edits --files"]
 
 
 def run(script):

@@ -29,13 +29,15 @@ EDITS |= {"osb_orders": 0.9, "osb_standing": 0.8, "osb_audit": 0.5, "osb_bare": 
 EDITS |= {"osb_tables": 0.5, "osb_machine": 3.7, "osb_trim": 1.6, "osb_contexts": 2.5, "osb_statements": 6}
 EDITS |= {"osb_records": 7.5, "osb_file": 3.6, "osb_laws": 0.8, "osb_broker": 6.1, "osb_restart": 3.6}
 EDITS |= {"osb_listen": 6.5, "osb_cli": 7.6}
-TESTS = {"tests_basics": 4.5, "tests_layers": 8.5, "tests_conformance": 15.6, "tests_stops": 22}
+TESTS = {"tests_basics": 4.5, "tests_layers": 8.5, "osb_conformance": 15.6, "tests_stops": 22}
 # Minutes of the scripts' own tests and of trials.
 SCRIPTS = {"judged": 3, "building": 3, "tried": 1, "greened": 1, "gated": 0.5}
 TRIALS = {"unproved": 3, "packaged": 8, "imaged": 3, "backends": 5, "power": 3, "refused": 3, "killed": 2, "groups": 2}
 MINUTES_OF_OTHERS = 1
+# What the trial `worked` sends.
+CONVERSATIONS = "crates/osb_conformance/conversations/"
 # The trials that speak of a crate; those of the program are tried with each change of it.
-OF_PROGRAM = ["program", "served", "ready", "mistakes"]
+OF_PROGRAM = ["program", "served", "worked", "ready", "mistakes", "settings"]
 OF_CRATES = {
     "osb_file": ["begun", "database", "backup", "power", "trim"],
     "osb_statements": ["database", "begun", "power"],
@@ -129,6 +131,7 @@ class Steps:
         crates = [*below(PROGRAM), PROGRAM]
         meant = [it for it in self.change.meant if it in crates]
         names = [*OF_PROGRAM * bool(meant), *(name for it in meant for name in OF_CRATES.get(it, []))]
+        names += ["worked"] * any(it.startswith(CONVERSATIONS) for it in self.change.files)
         listed = re.findall(r"(?m)^(\w+):", (ROOT / "tests" / "trials.txt").read_text())
         trials = [ROOT / "tests" / "trials" / f"{it}.py" for it in listed]
         trials = [it for it in trials if it.stem in names or self.change.is_named_in(it)]

@@ -158,8 +158,10 @@ def try_others(program, folder, path):
         ("an index more", "an index more: more", copied(path, folder), ["CREATE INDEX more ON orders (seq)"]),
         ("a forged name", "an index more: ?", copied(path, folder), ['CREATE INDEX "a\nb" ON orders (seq)']),
         ("a view more", "a view more: more", copied(path, folder), ["CREATE VIEW more AS SELECT 1"]),
+        ("a table less", "the tables of another program", copied(path, folder), ["DROP TABLE bindings"]),
         ("a column more", "the tables of another program", copied(path, folder), ["ALTER TABLE format ADD COLUMN a INTEGER"]),
         ("other rows", "rows that don't fit", copied(path, folder), ["DELETE FROM instances"]),
+        ("no version", "rows that don't fit", copied(path, folder), ["DELETE FROM format"]),
         ("a text that isn't UTF-8", "rows that don't fit", copied(path, folder), ["UPDATE orders SET note = CAST(x'ff' AS TEXT)"]),
         ("other rows of version 1", "rows that don't fit", made_before(folder, 2), ["DELETE FROM instances"]),
     ]

@@ -283,6 +283,7 @@ SPOILED = {
         "DELETE FROM instances WHERE instance_id = 'i'",
         "DELETE FROM contexts WHERE instance_id = 'i' AND seq = 0",
     ],
+    "an instance without a row but with a context": ["DELETE FROM instances WHERE instance_id = 'i'"],
     "an absent instance without a row": [
         "DELETE FROM instances WHERE instance_id = 'g'",
         "DELETE FROM contexts WHERE instance_id = 'g' AND seq = 0",
@@ -338,6 +339,7 @@ SPOILED = {
     "an instance without a context": ["DELETE FROM contexts WHERE instance_id = 'i' AND seq = 0"],
     "an absent instance without one": ["DELETE FROM contexts WHERE instance_id = 'g' AND seq = 0"],
     "no contexts": ["DELETE FROM contexts"],
+    "contexts alone": [f"DELETE FROM {name}" for name in ("orders", "instances", "bindings")],
     "a context without an order": ["INSERT INTO contexts VALUES ('i', 3, '{}')"],
     "a context without an instance": ["INSERT INTO contexts VALUES ('z', 0, '')"],
     "a context that isn't compact": ["UPDATE contexts SET context = '{ }' WHERE instance_id = 'r'"],
@@ -349,6 +351,11 @@ SPOILED = {
     "an absent instance with a context": ["UPDATE contexts SET context = '{}' WHERE instance_id = 'g' AND seq = 0"],
     "version 0": ["UPDATE format SET version = 0"],
     "version 1": ["UPDATE format SET version = 1"],
+    "version 1 with contexts and one index": ["DROP INDEX subject_orders", "UPDATE format SET version = 1"],
+    "version 1 with contexts and no index": [
+        *[f"DROP INDEX {name}" for name in ("subject_orders", "busy_instances")],
+        "UPDATE format SET version = 1",
+    ],
     "version 3": ["UPDATE format SET version = 3"],
     "no version": ["DELETE FROM format"],
     "two versions": ["INSERT INTO format VALUES (2)"],
@@ -364,7 +371,7 @@ SPOILED = {
     ],
     "a further table": ["CREATE TABLE more (a TEXT)"],
     "a further index": ["CREATE INDEX more ON orders (kind)"],
-    "the second index alone": ["DROP INDEX busy_instances"],
+    "only the second index": ["DROP INDEX busy_instances"],
     "the indexes in another order": [
         "DROP INDEX busy_instances",
         "CREATE INDEX busy_instances ON instances (busy, instance_id)",
@@ -409,7 +416,8 @@ def out_of_range(tables):
     """Numbers that aren't of 32 bits, in one row of each of these tables."""
     for table in tables:
         for column in NUMBERS[table]:
-            for number in (-1, 1 << 32, -(1 << 63), (1 << 63) - 1):
+            # (in 32 bits the last one is what was there)
+            for number in (-1, 1 << 32, -(1 << 63), (1 << 63) - 1, f"{column} + {1 << 32}"):
                 yield f"{column} of {table}: {number}", f"UPDATE {table} SET {column} = {number} {last_row(table)}"
 
 
@@ -438,16 +446,24 @@ SPOILED_BEFORE = {
     "version 0 without contexts": ["UPDATE format SET version = 0"],
     "version 2 without contexts": ["UPDATE format SET version = 2"],
     "version 3 without contexts": ["UPDATE format SET version = 3"],
+    "two versions before": ["INSERT INTO format VALUES (2)"],
+    "no version before": ["DELETE FROM format"],
     "version 1 with contexts": [CONTEXTS_TABLE],
+    "a phase of another order before": ["UPDATE instances SET phase = 2 WHERE instance_id = 'new'"],
+    "a binding without a row before": ["DELETE FROM bindings WHERE instance_id = 'small'"],
+    "a table of bindings that is missing before": ["DROP TABLE bindings"],
+    "an order of no instance before": ["DELETE FROM instances WHERE instance_id = 'new'"],
+    "an instance of no order before": ["DELETE FROM orders WHERE instance_id = 'new'"],
+}
+# The same, where it has both indexes.
+SPOILED_WITH_INDEXES = {
+    "only the second index before": ["DROP INDEX busy_instances"],
     "version 2 with contexts behind the indexes": [
         CONTEXTS_TABLE,
         "UPDATE format SET version = 2",
         "INSERT INTO contexts SELECT instance_id, 0, iif(phase = 0, '', '{}') FROM instances",
         "INSERT INTO contexts SELECT instance_id, seq, '{}' FROM orders",
     ],
-    "a phase of another order before": ["UPDATE instances SET phase = 2 WHERE instance_id = 'new'"],
-    "a binding without a row before": ["DELETE FROM bindings WHERE instance_id = 'small'"],
-    "a table of bindings that is missing before": ["DROP TABLE bindings"],
 }
 TABLES_BEFORE = ["format", "orders", "instances", "bindings"]
 
@@ -492,7 +508,9 @@ def refuses_spoiled(program, folder, path, spoiled):
 def try_spoiled(program, folder, path):
     """What doesn't stand for well-formed lives isn't taken, and stays as it is."""
     yield from refuses_spoiled(program, folder, path, SPOILED)
-    yield from refuses_spoiled(program, folder, made_before(folder, 2), SPOILED_BEFORE)
+    for count in range(len(INDEXES) + 1):
+        yield from refuses_spoiled(program, folder, made_before(folder, count), SPOILED_BEFORE)
+    yield from refuses_spoiled(program, folder, made_before(folder, 2), SPOILED_WITH_INDEXES)
     other = made_from(path, folder, dumped)
     yield "another order of the tables", starts(program, other), NOT_OURS
     first = made_before(folder, 2)
@@ -632,6 +650,11 @@ def try_made_before(program, folder):
         with Serving(program, path) as serving:
             yield from goes(serving, GOES_ON)
         yield "its integrity in the end", integrity(copied(path, folder)), {"ok"}
+    empty = made_before(folder, len(INDEXES))
+    run(empty, *(f"DELETE FROM {name}" for name in ("orders", "instances", "bindings")))
+    with Serving(program, empty, "--existing") as serving:
+        yield from goes(serving, BEGUN)
+    yield "version 1 without rows", tables(copied(empty, folder)), TABLES
 
 
 def try_pieces_before(program, folder):
@@ -1081,6 +1104,7 @@ def try_looked_at(program, folder, path):
     yield "it stays version 1", state_of(old), before
     empty = new_database(folder)
     yield "no file", looked_at(program, empty), unseen("no such file")
+    yield "a name with another meaning", looked_at(program, ":memory:"), unseen("no such file")
     yield "none is made", os.path.exists(empty), False
     open(empty, "wb").close()
     yield "an empty file", looked_at(program, empty), (0, b"new\n", b"")

@@ -1,4 +1,4 @@
-//! The table of contexts: migrations, and single statements over connections in memory.
+//! The table of contexts: single statements over connections in memory.
 
 ghost use Rattle.std.specs.Prelude.{◌≡◌, false, IfOk};
 ghost use Rattle.sqlite.specs.Held.{state};
@@ -9,8 +9,8 @@ ghost use Rattle.osb_contexts.specs.Steps.{HasContexts};
 ghost use Rattle.osb_contexts.specs.Reads.{behind, Does};
 
 use osb_contexts::{
-    NamedTable, are_contexts_named, are_rows_named, complete, insert_context, insert_contexts,
-    read_context, read_contexts, reshape, set_version, update_context,
+    NamedTable, are_contexts_named, are_rows_named, insert_context, insert_contexts, read_context,
+    read_contexts, reshape, update_context,
 };
 use osb_joined::ContextEntry;
 use osb_tables::{FoundSchema, Indexes, find};
@@ -43,36 +43,11 @@ static ROWS: [&str; 4] = [
     "INSERT INTO bindings VALUES ('i', 'b', 2, 's', 'p', 'a', '{}', '{}', '{}')",
 ];
 
-static VERSION: [(&str, i64); 2] = [
-    ("SELECT count(*) FROM format", 1),
-    ("SELECT version FROM format", 2),
-];
-
-static MIGRATED: [(&str, i64); 6] = [
-    ("SELECT count(*) FROM format", 1),
-    ("SELECT version FROM format", 2),
-    ("SELECT count(*) FROM orders WHERE plan_id = 'p'", 1),
-    ("SELECT count(*) FROM instances WHERE plan_id = 'p'", 1),
-    ("SELECT count(*) FROM bindings WHERE plan_id = 'p'", 1),
-    ("SELECT count(*) FROM contexts", 3),
-];
-
 fn run<S: Alter>(conn: &mut Connection<S>, statements: &[&str]) -> Result<(), Error> {
     for statement in statements {
         conn.execute(statement, &[])?;
     }
     Ok(())
-}
-
-/// Whether each query answers this number.
-fn are_answers<S: Alter>(conn: &mut Connection<S>, cases: &[(&str, i64)]) -> Result<bool, Error> {
-    for (sql, expected) in cases {
-        let found: i64 = conn.query_row(sql, &[])?.get(0)?;
-        if found != *expected {
-            return Ok(false);
-        }
-    }
-    Ok(true)
 }
 
 /// Makes a database of version 1 with these indexes and a few rows.
@@ -129,80 +104,6 @@ fn three(alloc: Global) -> Result<Vec<ContextEntry>, Error>
     Ok(entries)
 }
 
-// ---- migrations
-
-/// Migrates the database, and commits that where `is_kept`.
-fn migrate_in<S: Alter>(
-    conn: &mut Connection<S>,
-    alloc: Global,
-    is_kept: bool,
-) -> Result<(), Error> {
-    let indexes = indexes_of(conn)?;
-    let entries = three(alloc)?;
-    let mut tx = conn.transaction();
-    reshape(&mut tx, indexes)?;
-    insert_contexts(&mut tx, &entries)?;
-    set_version(&mut tx, alloc)?;
-    if is_kept {
-        tx.commit()
-    } else {
-        tx.rollback();
-        Ok(())
-    }
-}
-
-/// A database that had these indexes, after the migration.
-fn migrated(alloc: Global, indexes: &[&str], is_kept: bool) -> Result<Connection<MemStore>, Error> {
-    let mut conn = first(alloc, indexes)?;
-    migrate_in(&mut conn, alloc, is_kept)?;
-    Ok(conn)
-}
-
-fn found_after(alloc: Global, indexes: &[&str], is_kept: bool) -> Result<FoundSchema, Error> {
-    let conn = migrated(alloc, indexes, is_kept)?;
-    let found = find(conn.schema());
-    drop(conn);
-    Ok(found)
-}
-
-/// Whether the rows are there after the migration.
-fn has_rows(alloc: Global, indexes: &[&str]) -> Result<bool, Error> {
-    let mut conn = migrated(alloc, indexes, true)?;
-    let has_rows = are_answers(&mut conn, &MIGRATED);
-    drop(conn);
-    has_rows
-}
-
-#[test]
-fn each_form_is_migrated(rt: HostRuntime) -> Result<(), Fail> {
-    let second = FoundSchema::Second(Indexes::Both);
-    assert!(rt; found_after(rt.alloc(), &[], true)? == second);
-    assert!(rt; found_after(rt.alloc(), &[BUSY], true)? == second);
-    assert!(rt; found_after(rt.alloc(), &[BUSY, SUBJECT], true)? == second);
-    Ok(())
-}
-
-#[test]
-fn the_rows_stay(rt: HostRuntime) -> Result<(), Fail> {
-    assert!(rt; has_rows(rt.alloc(), &[])?);
-    assert!(rt; has_rows(rt.alloc(), &[BUSY])?);
-    assert!(rt; has_rows(rt.alloc(), &[BUSY, SUBJECT])?);
-    Ok(())
-}
-
-#[test]
-fn a_rollback_leaves_version_1(rt: HostRuntime) -> Result<(), Fail> {
-    let none = FoundSchema::First(Indexes::None);
-    let listing = FoundSchema::First(Indexes::Listing);
-    let both = FoundSchema::First(Indexes::Both);
-    assert!(rt; found_after(rt.alloc(), &[], false)? == none);
-    assert!(rt; found_after(rt.alloc(), &[BUSY], false)? == listing);
-    assert!(rt; found_after(rt.alloc(), &[BUSY, SUBJECT], false)? == both);
-    Ok(())
-}
-
-// ---- indexes
-
 /// The indexes of a database of version 2 over which no transaction runs.
 fn second_indexes_of<S: Alter>(conn: &Connection<S>) -> Result<Indexes, Error>
     ensures { IfOk result (λ indexes. ((state S.Store conn.now).in_transaction ≡ false)
@@ -216,53 +117,6 @@ fn second_indexes_of<S: Alter>(conn: &Connection<S>) -> Result<Indexes, Error>
         _ => Err(Error::InvalidQuery),
     }
 }
-
-fn complete_with<S: Alter>(tx: &mut Transaction<'_, S>, indexes: Indexes) -> Result<(), Error>
-    requires { ShowsSchema (made five_tables indexes) (behind S.Store tx.old) }
-{
-    match indexes {
-        Indexes::None => complete(tx, false),
-        Indexes::Listing => complete(tx, true),
-        Indexes::Both => Ok(()),
-    }
-}
-
-fn complete_in<S: Alter>(conn: &mut Connection<S>) -> Result<(), Error> {
-    let indexes = second_indexes_of(conn)?;
-    let mut tx = conn.transaction();
-    complete_with(&mut tx, indexes)?;
-    tx.commit()
-}
-
-/// What is found of an empty database that becomes one of version 2 with these indexes, once it is complete.
-fn completed_in<S: Alter>(
-    conn: &mut Connection<S>,
-    indexes: &[&str],
-) -> Result<FoundSchema, Error> {
-    run(conn, &TABLES)?;
-    run(conn, &[CONTEXTS])?;
-    run(conn, indexes)?;
-    complete_in(conn)?;
-    Ok(find(conn.schema()))
-}
-
-/// The same in memory.
-fn completed(alloc: Global, indexes: &[&str]) -> Result<FoundSchema, Error> {
-    let mut conn = Connection::open_in_memory(alloc)?;
-    let found = completed_in(&mut conn, indexes);
-    drop(conn);
-    found
-}
-
-#[test]
-fn lacking_indexes_are_made(rt: HostRuntime) -> Result<(), Fail> {
-    let second = FoundSchema::Second(Indexes::Both);
-    assert!(rt; completed(rt.alloc(), &[])? == second);
-    assert!(rt; completed(rt.alloc(), &[BUSY])? == second);
-    Ok(())
-}
-
-// ---- single calls
 
 /// Makes the table of contexts, with one context that is then another one.
 fn change<S: Alter>(tx: &mut Transaction<'_, S>, indexes: Indexes) -> Result<(), Error>
@@ -403,29 +257,6 @@ fn are_many_named(alloc: Global, most: u32, last: &str, table: NamedTable) -> Re
     named
 }
 
-fn set_twice<S: Alter>(conn: &mut Connection<S>, alloc: Global) -> Result<(), Error> {
-    let indexes = indexes_of(conn)?;
-    let mut tx = conn.transaction();
-    reshape(&mut tx, indexes)?;
-    set_version(&mut tx, alloc)?;
-    set_version(&mut tx, alloc)?;
-    tx.commit()
-}
-
-/// Whether the format has one version after that.
-fn has_one_version_in<S: Alter>(conn: &mut Connection<S>, alloc: Global) -> Result<bool, Error> {
-    set_twice(conn, alloc)?;
-    are_answers(conn, &VERSION)
-}
-
-/// The same of a new database of version 1.
-fn has_one_version(alloc: Global) -> Result<bool, Error> {
-    let mut conn = first(alloc, &[])?;
-    let has_one = has_one_version_in(&mut conn, alloc);
-    drop(conn);
-    has_one
-}
-
 #[test]
 fn a_context_becomes_another(rt: HostRuntime) -> Result<(), Fail> {
     assert!(rt; is_context(rt.alloc(), 1, "{\"a\":1}")?);
@@ -475,11 +306,5 @@ fn a_table_without_rows_has_none_without_an_id(rt: HostRuntime) -> Result<(), Fa
     assert!(rt; are_many_named(rt.alloc(), 1, "", NamedTable::Orders)?);
     assert!(rt; are_many_named(rt.alloc(), 1, "", NamedTable::Instances)?);
     assert!(rt; are_many_named(rt.alloc(), 1, "", NamedTable::Bindings)?);
-    Ok(())
-}
-
-#[test]
-fn there_is_one_version(rt: HostRuntime) -> Result<(), Fail> {
-    assert!(rt; has_one_version(rt.alloc())?);
     Ok(())
 }

@@ -1,16 +1,9 @@
-//! Only tests: what the table of contexts, the records and a database file answer by themselves, through their
-//! public calls; why a store refuses a call; what is found again after a stop of the machine, at any call of a
-//! disk; and what clients read over a socket.
+//! Only tests: what the table of contexts answers by itself, through public calls; why a store refuses a call; what
+//! is found again after a stop of the machine, at any call of a disk; and what a client reads over a socket.
 #![tactic(auto)]
 
 #[cfg(test)]
-mod adopting;
-#[cfg(test)]
-mod causes;
-#[cfg(test)]
 mod contexts;
-#[cfg(test)]
-mod files;
 #[cfg(test)]
 mod full;
 #[cfg(test)]
@@ -29,8 +22,6 @@ mod restarts;
 mod runs;
 #[cfg(test)]
 mod sockets;
-#[cfg(test)]
-mod spoilt;
 #[cfg(test)]
 mod stops;
 #[cfg(test)]

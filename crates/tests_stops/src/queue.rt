@@ -1,6 +1,6 @@
-//! Clients in memory, whose reads and writes may fail.
+//! Clients in memory, one after the other.
 
-ghost use Rattle.std.specs.Prelude.{map, length};
+ghost use Rattle.std.specs.Prelude.{map};
 ghost use Rattle.osb_frames.specs.Calls.{all_bytes, failed_or_empty_count};
 ghost use Rattle.osb_frames.specs.Counted.{calls_of};
 ghost use Rattle.osb_listen.specs.Conversations.{conversation_of};
@@ -10,21 +10,16 @@ use osb_file::WatchedFile;
 use osb_frames::Counted;
 use osb_listen::{Entrance, ListenFault};
 use std::alloc::Global;
-use std::io::{self, ErrorKind, Read, Write};
+use std::io::{self, Read, Write};
 use std::net::SocketAddr;
 use std::test::Fail;
 use std::time::Duration;
 
-/// A client: what it sends and how that ends, and what it takes.
+/// A client: what it sends, and how many bytes of that a read gives at most.
 #[derive(Clone, Copy)]
 pub(crate) struct Client<'a> {
     pub(crate) bytes: &'a [u8],
-    /// How many bytes a read gives at most.
     pub(crate) piece: usize,
-    /// Whether the read behind them fails. Otherwise it finds the end.
-    pub(crate) resets: bool,
-    /// How many bytes it takes before its writes fail.
-    pub(crate) room: usize,
 }
 
 /// What a client sends.
@@ -36,9 +31,6 @@ pub(crate) struct Sending<'a> {
 impl<'a> Read for Sending<'a> {
     fn read(&mut self, buf: &mut [u8]) -> io::Result<usize> {
         let bytes = self.client.bytes;
-        if bytes.is_empty() && self.client.resets {
-            return Err(io::Error::from(ErrorKind::ConnectionReset));
-        }
         let n = bytes.len().min(buf.len()).min(self.client.piece);
         buf[..n].copy_from_slice(&bytes[..n]);
         self.client.bytes = &bytes[n..];
@@ -50,18 +42,12 @@ impl<'a> Read for Sending<'a> {
 #[derive(Drop)]
 pub(crate) struct Taking {
     taken: Vec<u8>,
-    room: usize,
 }
 
 impl Write for Taking {
     fn write(&mut self, bytes: &[u8]) -> io::Result<usize> {
-        let n = bytes.len().min(self.room);
-        if n == 0 {
-            return Err(io::Error::from(ErrorKind::BrokenPipe));
-        }
-        self.taken.extend_from_slice(&bytes[..n])?;
-        self.room -= n;
-        Ok(n)
+        self.taken.extend_from_slice(bytes)?;
+        Ok(bytes.len())
     }
 
     fn flush(&mut self) -> io::Result<()> {
@@ -80,31 +66,18 @@ pub(crate) struct Queue<'a> {
     sent: Vec<Vec<u8>>,
     /// Whether memory was refused for one of these.
     lost: bool,
-    /// Whether the database file is there.
-    has_file: bool,
-    /// Whether all of them are ready at the same time.
-    together: bool,
     served: Log<Counted<Sending<'a>>, (Counted<Taking>, bool)>,
-    misses: Log<(), ()>,
 }
 
 impl<'a> Queue<'a> {
-    pub(crate) fn of(
-        alloc: Global,
-        clients: &'a [Client<'a>],
-        has_file: bool,
-        together: bool,
-    ) -> Queue<'a> {
+    pub(crate) fn of(alloc: Global, clients: &'a [Client<'a>]) -> Queue<'a> {
         Queue {
             alloc,
             clients,
             next: 0,
             sent: Vec::new(alloc),
             lost: false,
-            has_file,
-            together,
             served: Log::new(),
-            misses: Log::new(),
         }
     }
 
@@ -113,7 +86,6 @@ impl<'a> Queue<'a> {
         let client = self.clients.get(self.next).copied()?;
         let taking = Taking {
             taken: Vec::new(self.alloc),
-            room: client.room,
         };
         Some((Sending { client }, taking))
     }
@@ -136,7 +108,7 @@ impl<'a> Entrance for Queue<'a> {
         (calls_of client.0) (all_bytes (calls_of client.1.0))
         (failed_or_empty_count (calls_of client.1.0)) client.1.1) q.served.items };
 
-    ghost missed = { λ q. length q.misses.items };
+    ghost missed = { λ _. 0 };
 
     fn listen(
         &mut self,
@@ -155,20 +127,11 @@ impl<'a> Entrance for Queue<'a> {
             return Err(ListenFault::CannotAccept);
         };
         self.next = self.next.saturating_add(1);
-        if !self.has_file {
-            self.misses = self.misses.and(&(), &());
-            return Err(ListenFault::FileTaken);
-        }
         Ok((Counted::new(sending), Counted::new(taking)))
     }
 
     fn take_ready(&mut self) -> Option<(Self::In, Self::Out)> {
-        if !self.together {
-            return None;
-        }
-        let (sending, taking) = self.next_client()?;
-        self.next = self.next.saturating_add(1);
-        Some((Counted::new(sending), Counted::new(taking)))
+        None
     }
 
     fn leave(&mut self, input: Self::In, output: Self::Out, met_fault: bool) {

@@ -91,7 +91,7 @@ fn sent_in<D: Crash + Drop>(
     clients: &[Client<'_>],
 ) -> Result<Option<Vec<Vec<u8>>>, Fail> {
     let files = at_rest(files)?;
-    let mut queue = Queue::of(rt.alloc(), clients, true, false);
+    let mut queue = Queue::of(rt.alloc(), clients);
     let left = serve_runs(
         rt,
         settings,

@@ -8,8 +8,6 @@ pub const GET: &str = "GET /v2/service_instances/i";
 
 pub const PATCH: &str = "PATCH /v2/service_instances/i";
 
-pub const PATCH_LATER: &str = "PATCH /v2/service_instances/i?accepts_incomplete=true";
-
 pub const DELETE: &str = "DELETE /v2/service_instances/i?service_id=svc&plan_id=p-sync";
 
 pub const DELETE_LATER: &str =
@@ -17,15 +15,10 @@ pub const DELETE_LATER: &str =
 
 pub const POLL: &str = "GET /v2/service_instances/i/last_operation";
 
-pub const BIND: &str = "PUT /v2/service_instances/i/service_bindings/b";
-
 pub const BIND_LATER: &str =
     "PUT /v2/service_instances/i/service_bindings/b?accepts_incomplete=true";
 
 pub const GET_BINDING: &str = "GET /v2/service_instances/i/service_bindings/b";
-
-pub const UNBIND: &str =
-    "DELETE /v2/service_instances/i/service_bindings/b?service_id=svc&plan_id=p-sync";
 
 pub const UNBIND_LATER: &str =
     "DELETE /v2/service_instances/i/service_bindings/b?service_id=svc&plan_id=p-async&accepts_incomplete=true";
@@ -39,8 +32,6 @@ pub const REPORT_1: &str = "PUT /backend/v1/orders/i/1";
 pub const REPORT_2: &str = "PUT /backend/v1/orders/i/2";
 
 pub const REPORT_3: &str = "PUT /backend/v1/orders/i/3";
-
-pub const REPORT_4: &str = "PUT /backend/v1/orders/i/4";
 
 pub const SYNC: &str =
     r#"{"service_id":"svc","plan_id":"p-sync","organization_guid":"o","space_guid":"s"}"#;
@@ -56,17 +47,9 @@ pub const IN_PROGRESS: &str = r#"{"state":"in progress"}"#;
 
 pub const UPDATE_TO_1: &str = r#"{"service_id":"svc","parameters":{"n":1}}"#;
 
-pub const UPDATE_TO_2: &str = r#"{"service_id":"svc","parameters":{"n":2}}"#;
-
 pub const TO_ASYNC: &str = r#"{"service_id":"svc","plan_id":"p-async"}"#;
 
-pub const TO_SYNC: &str = r#"{"service_id":"svc","plan_id":"p-sync"}"#;
-
-pub const MEMORY_1: &str = r#"{"credentials":{"uri":"mem:1"}}"#;
-
 pub const CREATE_1: &str = r#"{"operation":"create-1"}"#;
-
-pub const UPDATE_2: &str = r#"{"operation":"update-2"}"#;
 
 pub const BIND_2: &str = r#"{"operation":"bind-2"}"#;
 

@@ -111,15 +111,6 @@ pub fn goes_on<S: Alter>(
     are_replies(alloc, exchanges, outputs.as_slice())
 }
 
-/// The same of a broker over these settings and without orders, which takes one request of a
-/// connection.
-pub fn goes_over(alloc: Global, settings: &Settings, exchanges: &[Exchange]) -> Result<(), Fail> {
-    let mut broker = new_broker(alloc, settings, 1)?;
-    let went = goes_on(alloc, &mut broker, exchanges);
-    drop(broker);
-    went
-}
-
 /// The records after these exchanges, and a failure where one goes otherwise.
 pub fn after_all<S: Alter + Drop>(
     alloc: Global,
@@ -140,14 +131,6 @@ pub fn after(
     exchange: Exchange,
 ) -> Result<Records<MemStore>, Fail> {
     after_all(alloc, settings, records, &[exchange])
-}
-
-/// The same over the built-in settings.
-pub fn goes(alloc: Global, exchanges: &[Exchange]) -> Result<(), Fail> {
-    let settings = built_in(alloc)?;
-    let went = goes_over(alloc, &settings, exchanges);
-    drop(settings);
-    went
 }
 
 /// What a broker without orders, which takes so many requests of a connection, writes to these bytes.

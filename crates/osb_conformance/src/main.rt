@@ -1,0 +1,71 @@
+//! Holds worked conversations with the broker, which are read from standard input, and compares each
+//! reply byte for byte.
+//!
+//! The text has groups of conversations (`conversations`), and each request is a connection of its own. The
+//! program prints a line for each group. On standard error it says which replies, states and orders are
+//! others than those of the text, and it ends with status 1 then.
+#![tactic(auto)]
+
+mod beside;
+#[cfg(test)]
+mod connections;
+mod conversations;
+#[cfg(test)]
+mod differing;
+#[cfg(test)]
+mod framing;
+mod held;
+#[cfg(test)]
+mod large_contexts;
+mod lines;
+#[cfg(test)]
+mod listing;
+#[cfg(test)]
+mod plans;
+#[cfg(test)]
+mod rooms;
+#[cfg(test)]
+mod settings;
+#[cfg(test)]
+mod stored;
+#[cfg(test)]
+mod streams;
+#[cfg(test)]
+mod trimmed;
+#[cfg(test)]
+mod versions;
+
+use conversations::{Group, read};
+use held::hold;
+use std::io;
+use std::process::ExitCode;
+use std::test::Fail;
+
+/// Holds the conversations of a group, and prints what differs. Says whether nothing does.
+fn goes_as_written(rt: &HostRuntime, group: &Group) -> Result<bool, Fail> {
+    let mut is_right = true;
+    for conversation in &group.conversations {
+        for difference in &hold(rt.alloc(), conversation)? {
+            is_right = false;
+            eprintln!(rt; "{}/{}: {difference}", group.name, conversation.name)?;
+        }
+    }
+    Ok(is_right)
+}
+
+fn main(rt: HostRuntime) -> Result<ExitCode, Fail> {
+    let text = io::read_to_string(rt.alloc(), rt.stdin())?;
+    let groups = read(rt.alloc(), text.as_str())?;
+    let mut are_right = true;
+    for group in &groups {
+        let is_right = goes_as_written(&rt, group)?;
+        are_right = are_right && is_right;
+        let how = if is_right { "as written" } else { "otherwise" };
+        println!(rt; "{}: {how}", group.name)?;
+    }
+    Ok(if are_right {
+        ExitCode::SUCCESS
+    } else {
+        ExitCode::FAILURE
+    })
+}
