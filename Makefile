@@ -8,6 +8,8 @@
 #             builds it and makes a Debian package of it
 # make image  builds it and makes a container image of it, with podman
 # make edits  tries only those of tests/edits.py, over the libraries that are there, and takes no weak one
+# make must-fail
+#             gives the wrong bodies of tests/must-fail.txt to the toolkit's own judge, rt must-fail; no part of the gate
 # make first  tries what takes seconds
 # make quick  tries what the changes since the last commit that passed may break, within 20 minutes
 # make green  runs the gate for the newest commit in a clean clone, and notes that commit if it passes
@@ -18,7 +20,7 @@ export RT
 export PYTHONDONTWRITEBYTECODE = 1
 ADDRESS ?= 127.0.0.1:8080
 
-.PHONY: all run try package image test tried edits first quick green clean FORCE
+.PHONY: all run try package image test tried edits must-fail first quick green clean FORCE
 
 all: osb-broker
 
@@ -48,6 +50,9 @@ tried:
 
 edits:
 	python3 tests/edits.py --strict
+
+must-fail:
+	@python3 tools/must_fail.py
 
 first:
 	@python3 tests/first.py

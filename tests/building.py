@@ -74,7 +74,7 @@ MAIN_LISTENS = MAIN_LISTENS.replace("fn main()", "fn main(rt: HostRuntime)").rep
         Err(_) => ExitCode::from(1),
     }""",
 )
-TOOLS = ("build.py", "check.py", "crates.py", "proved.py", "rattle.py", "stamps.py")
+TOOLS = ("build.py", "check.py", "crates.py", "minutes.py", "minutes.txt", "proved.py", "rattle.py", "stamps.py")
 # In the place of a toolkit whose compiler is slow: somebody changes a file while it works.
 SLOW = "#!/bin/sh\necho '// changed' >> {root}/crates/low/src/lib.rt\nexec {{rattle}} \"$@\"\n"
 

@@ -33,6 +33,8 @@ OWN, AT_ONCE = ["judged", "building", "tried", "gated", "greened"], 2
 # Every proof from nothing and the built program from outside, with the edits beside them.
 REST = ["edits", "--beside", "make", "--no-print-directory", "tried"]
 MINUTES = float(os.environ.get("GATE_MINUTES", 170))
+# With so many processors and so much memory the toolkit shares what is idle between the checks that run.
+SHARED_FROM, SHARED_BYTES = 4, 18_000_000_000
 # A variable of the environment of all that the gate starts, by which it is found.
 MARK = "OSB_GATE"
 # Lines that say that something passed, and what.
@@ -62,6 +64,11 @@ def say(text):
 
 def machine():
     return f"{len(os.sched_getaffinity(0))} processors, {free_memory() / 1e9:.0f} GB free, {toolkit()}"
+
+
+def sharing(processors, memory):
+    """Says to the toolkit whether it shares what is idle by itself: it does if no number of checks is given."""
+    return {"RT_JOBS": ""} if processors >= SHARED_FROM and memory >= SHARED_BYTES else {}
 
 
 def has_tests(crate):
@@ -103,7 +110,8 @@ class Gate:
     def start(self, name, *words):
         words = [sys.executable, str(ROOT / "tests" / f"{name}.py"), *words]
         how = {"stdin": subprocess.DEVNULL, "stdout": subprocess.PIPE, "stderr": subprocess.STDOUT}
-        how |= {"text": True, "errors": "replace", "cwd": ROOT, "env": {**os.environ, MARK: self.mark}}
+        shared = sharing(len(os.sched_getaffinity(0)), free_memory())
+        how |= {"text": True, "errors": "replace", "cwd": ROOT, "env": {**shared, **os.environ, MARK: self.mark}}
         script = subprocess.Popen(words, **how)
         if self.is_late:
             # (it began as all was ended)

@@ -134,7 +134,14 @@ def try_late(room):
     yield "nothing of that goes on", small.remains(), []
 
 
+def try_sharing():
+    """The toolkit shares by itself with four processors and memory for their checks."""
+    shared = [gate.sharing(*it) for it in ((2, 64e9), (4, 10e9), (4, 20e9), (16, 64e9))]
+    yield "what is shared", [it.get("RT_JOBS") for it in shared], [None, None, "", ""]
+
+
 def tries():
+    yield from try_sharing()
     with tempfile.TemporaryDirectory() as room:
         for part in (try_passing, try_failing, try_late):
             yield from part(room)

@@ -8,7 +8,8 @@ docs/GLOSSARY.md, or names what isn't there.
 A sentence has 30 words at most, with one 'where' at most, and a row of a table 60. What stands in backquotes is one
 word, and code isn't counted. No page has a word of WORDS outside of code. README has 900 words at most, with its code.
 A path of this repository is there, and a link leads to a page and to a heading of it. So does a heading or the
-beginning of an item that a page names in quotes behind a link, or before 'above' or 'below'."""
+beginning of an item that a page names in quotes behind a link, or before 'above' or 'below'. docs/GATE.md has the table
+that tools/minutes.py prints."""
 
 import fnmatch
 import os
@@ -17,6 +18,10 @@ import re
 import sys
 
 ROOT = pathlib.Path(__file__).resolve().parent.parent
+sys.path.append(str(ROOT / "tools"))
+
+from minutes import table
+
 PAGES = [ROOT / "README.md", *sorted((ROOT / "docs").glob("*.md")), ROOT / "CHANGELOG.md", ROOT / "SECURITY.md"]
 # Pages that weren't gone through by the rule yet. What they name is looked for all the same. This list only shrinks.
 LATER = set()
@@ -176,6 +181,8 @@ def main(words):
         found = list(leads(page, pages, there)) + ([] if name in LATER else list(by_the_rule(page)))
         if name == "README.md" and len(page.text.split()) > LONGEST_README:
             found.append((1, f"{len(page.text.split())} words"))
+        if name == "docs/GATE.md" and "\n".join(table()) not in page.text:
+            found.append((1, "its table isn't that of python3 tools/minutes.py"))
         for number, fault in sorted(found):
             print(f"{name}:{number}: {fault}")
         failed += bool(found)

@@ -18,40 +18,14 @@ import sys
 import time
 
 from crates import LIBRARIES, ROOT, below, free_memory, has_changed, sum_of
+from minutes import read_minutes
 from proved import count_in, is_kept, is_recorded, keep, made, prove
 from rattle import rlib
 
 PROGRAM = "osb_program"
-# About how many minutes a crate takes where nothing of it is kept: those of one process, and those that its jobs share;
-# where these are none it gets one job (docs/GATE.md, 'A first make' and 'What a crate costs').
-MINUTES = {
-    "osb_text": (0.4, 0.8),
-    "osb_frames": (0.3, 0.8),
-    "osb_replies": (0.5, 0.2),
-    "osb_tables": (0.5, 0.3),
-    "osb_rows": (0.1, 0),
-    "osb_catalog": (1.1, 2.3),
-    "osb_advice": (0.5, 1.4),
-    "osb_asks": (1.1, 2.4),
-    "osb_orders": (0.4, 1.5),
-    "osb_standing": (0.1, 1.2),
-    "osb_machine": (0.6, 2.1),
-    "osb_audit": (0.6, 1.2),
-    "osb_bare": (0.1, 0),
-    "osb_joined": (0.3, 0.3),
-    "osb_contexts": (0.9, 0.9),
-    "osb_statements": (1.5, 8.0),
-    "osb_records": (0.6, 2.2),
-    "osb_file": (0.5, 7.5),
-    "osb_laws": (0.1, 0),
-    "osb_broker": (1.4, 3.3),
-    "osb_listen": (1.2, 3.4),
-    "osb_trim": (0.3, 0.1),
-    "osb_cli": (2.0, 4.4),
-    "osb_program": (5.0, 0),
-    "osb_restart": (2.5, 0.8),
-    "tests_support": (0.6, 0.8),
-}
+# About how many minutes a crate takes where nothing of it is kept: those of one process, and those that its jobs share; where
+# these are none it gets one job.
+MINUTES = read_minutes()["check"]
 MINUTES_OF_OTHERS = (0.1, 0.1)
 MOST_JOBS = 4
 # What a check takes of memory, and each of its jobs beyond the first.

@@ -21,18 +21,11 @@ from build import PROGRAM, schedule_of
 from changes import Change
 from crates import LIBRARIES, ROOT, below
 from green import commit_of, git, newest_green
+from minutes import minutes_of
 from proved import is_kept
 
-# Minutes of the edits of a crate, and of a crate of tests (docs/GATE.md, 'What a crate costs').
-EDITS = {"osb_text": 1.7, "osb_frames": 1.6, "osb_replies": 0.7, "osb_catalog": 2.2, "osb_advice": 2.1, "osb_asks": 2.1}
-EDITS |= {"osb_orders": 0.9, "osb_standing": 0.8, "osb_audit": 0.5, "osb_bare": 0.1, "osb_joined": 0.5}
-EDITS |= {"osb_tables": 0.5, "osb_machine": 3.7, "osb_trim": 1.6, "osb_contexts": 2.5, "osb_statements": 6}
-EDITS |= {"osb_records": 7.5, "osb_file": 3.6, "osb_laws": 0.8, "osb_broker": 6.1, "osb_restart": 3.6}
-EDITS |= {"osb_listen": 6.5, "osb_cli": 7.6}
-TESTS = {"tests_basics": 4.5, "tests_layers": 8.5, "osb_conformance": 15.6, "tests_stops": 22}
-# Minutes of the scripts' own tests and of trials.
-SCRIPTS = {"judged": 3, "building": 3, "tried": 1, "greened": 1, "gated": 0.5}
-TRIALS = {"unproved": 3, "packaged": 8, "imaged": 3, "backends": 5, "power": 3, "refused": 3, "killed": 2, "groups": 2}
+# Minutes of the edits of a crate, of a crate of tests, of the scripts' own tests and of trials.
+EDITS, TESTS, SCRIPTS, TRIALS = (minutes_of(it) for it in ("edits", "tests", "script", "trial"))
 MINUTES_OF_OTHERS = 1
 # What the trial `worked` sends.
 CONVERSATIONS = "crates/osb_conformance/conversations/"

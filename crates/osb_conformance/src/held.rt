@@ -5,6 +5,8 @@
 
 use crate::beside::{looked_life, stay_beside};
 use crate::conversations::{Conversation, Kind, Step};
+use crate::exchanges::{Differences, after, bytes_of, compare, served};
+use crate::orders::is_life_behind;
 use osb_catalog::Settings;
 use osb_orders::PlainLives;
 use osb_records::{Records, open_memory};
@@ -12,98 +14,7 @@ use sqlite::MemStore;
 use std::alloc::Global;
 use std::test::Fail;
 use tests_support::catalogs::{built_in, settings_with};
-use tests_support::exchange::{last_reply, request};
-use tests_support::serving::broker_over;
-
-/// What is found, and what the text says in its place.
-type Differences = Vec<String>;
-
-/// Adds a difference where two texts are not the same.
-fn compare(
-    alloc: Global,
-    differences: &mut Differences,
-    what: &str,
-    found: &str,
-    expected: &str,
-) -> Result<(), Fail> {
-    if found != expected {
-        differences.push(format!(in alloc; "{what}: {found}, not {expected}")?)?;
-    }
-    Ok(())
-}
-
-/// The bytes of a request.
-fn bytes_of(alloc: Global, step: &Step) -> Result<Vec<u8>, Fail> {
-    let line = step.text.as_str();
-    let body = step.body.as_str();
-    if step.fields.is_empty() {
-        return request(alloc, line, body);
-    }
-    let fields = step.fields.as_str();
-    let text = format!(in alloc; "{line} HTTP/1.1\r\nHost: b\r\n{fields}\r\n{body}")?;
-    Ok(text.into_bytes())
-}
-
-/// The bytes of the reply to a request. Without a body it has none.
-fn expected_of(alloc: Global, step: &Step) -> Result<Vec<u8>, Fail> {
-    match step.reply.split_once(" {") {
-        Some((status, rest)) => {
-            let body = format!(in alloc; "{{{rest}")?;
-            last_reply(alloc, status, body.as_str())
-        }
-        None => last_reply(alloc, step.reply.as_str(), ""),
-    }
-}
-
-/// Adds a difference where a reply is another than that of its step.
-fn compare_reply(
-    alloc: Global,
-    differences: &mut Differences,
-    step: &Step,
-    output: &[u8],
-) -> Result<(), Fail> {
-    let expected = expected_of(alloc, step)?;
-    if output != expected.as_slice() {
-        let found = String::from_utf8_lossy(alloc, output)?;
-        let told = format!(in alloc; "{} {}: {found}, not {}", step.text, step.body, step.reply)?;
-        differences.push(told)?;
-    }
-    Ok(())
-}
-
-/// The records behind these requests to one broker, each on a connection of its own, and the replies.
-fn served(
-    alloc: Global,
-    settings: &Settings,
-    records: Records<MemStore>,
-    steps: &[&Step],
-) -> Result<(Records<MemStore>, Vec<Vec<u8>>), Fail> {
-    let mut connections = Vec::new(alloc);
-    for step in steps {
-        connections.push(bytes_of(alloc, *step)?)?;
-    }
-    let mut broker = broker_over(alloc, settings, records, 1)?;
-    let outputs = broker.serve_all(connections.as_slice())?;
-    Ok((broker.into_records(), outputs))
-}
-
-/// The records behind these requests, and a difference for each reply that is another.
-fn after(
-    alloc: Global,
-    settings: &Settings,
-    records: Records<MemStore>,
-    steps: &[&Step],
-    differences: &mut Differences,
-) -> Result<Records<MemStore>, Fail> {
-    let (records, outputs) = served(alloc, settings, records, steps)?;
-    if outputs.len() != steps.len() {
-        return Err("another number of replies")?;
-    }
-    for (step, output) in steps.iter().zip(&outputs) {
-        compare_reply(alloc, differences, *step, output.as_slice())?;
-    }
-    Ok(records)
-}
+use tests_support::exchange::request;
 
 /// The built-in settings with one text in the place of another, as `FROM => TO` says.
 fn settings_by(alloc: Global, text: &str) -> Result<Settings, Fail> {
@@ -139,45 +50,10 @@ fn looked_at(alloc: Global, text: &str) -> Result<String, Fail> {
     Ok(format!(in alloc; "GET /v2/service_instances/{instance}/service_bindings/{binding}")?)
 }
 
-/// The name of the order in a line.
-fn name_in(line: &str) -> &str {
-    match line.split_once(' ') {
-        Some((name, _)) => name,
-        None => line,
-    }
-}
-
-/// Whether a life has the orders of `head` and one of that name behind them.
-fn has_after(life: &str, head: &str, name: &str) -> bool {
-    match life.rsplit_once('\n') {
-        Some((first, last)) => first == head && name_in(last) == name,
-        None => false,
-    }
-}
-
-/// Whether the order of this line is the last one now, either one more than there were or the last of
-/// them, and all others are as they were.
-fn ends_in(before: &str, after: &str, line: &str) -> bool {
-    match after.rsplit_once('\n') {
-        Some((head, last)) => {
-            last == line && (head == before || has_after(before, head, name_in(line)))
-        }
-        None => false,
-    }
-}
-
-/// Whether a life is the one before, or ends in the order that is written.
-fn is_life_behind(before: &str, behind: &str, order: &Option<String>) -> bool {
-    match order {
-        Some(line) => ends_in(before, behind, line.trim_start()),
-        None => behind == before,
-    }
-}
-
 /// A conversation so far: its settings, its records, the plain lives beside them, what is looked at, and
 /// what differs.
 #[derive(Drop)]
-struct Talk {
+struct Held {
     settings: Settings,
     records: Records<MemStore>,
     plain: PlainLives,
@@ -185,9 +61,9 @@ struct Talk {
     differences: Differences,
 }
 
-impl Talk {
-    fn new(alloc: Global) -> Result<Talk, Fail> {
-        Ok(Talk {
+impl Held {
+    fn new(alloc: Global) -> Result<Held, Fail> {
+        Ok(Held {
             settings: built_in(alloc)?,
             records: open_memory(alloc)?,
             plain: PlainLives::new(alloc),
@@ -196,23 +72,23 @@ impl Talk {
         })
     }
 
-    /// Behind a request, in a run of its own.
-    fn goes(self, alloc: Global, step: &Step) -> Result<Talk, Fail> {
-        let mut talk = self;
+    /// Makes a request, in a run of its own.
+    fn go(self, alloc: Global, step: &Step) -> Result<Held, Fail> {
+        let mut held = self;
         let left = after(
             alloc,
-            &talk.settings,
-            talk.records,
+            &held.settings,
+            held.records,
             &[step],
-            &mut talk.differences,
+            &mut held.differences,
         )?;
-        talk.records = taken_over(alloc, left)?;
-        talk.stays_beside(alloc, bytes_of(alloc, step)?.as_slice())?;
-        Ok(talk)
+        held.records = taken_over(alloc, left)?;
+        held.state_by(alloc, bytes_of(alloc, step)?.as_slice())?;
+        Ok(held)
     }
 
     /// The state by the view for a request. Fails where the records aren't beside the plain lives.
-    fn stays_beside(&mut self, alloc: Global, bytes: &[u8]) -> Result<String, Fail> {
+    fn state_by(&mut self, alloc: Global, bytes: &[u8]) -> Result<String, Fail> {
         stay_beside(
             alloc,
             &self.settings,
@@ -222,10 +98,9 @@ impl Talk {
         )
     }
 
-    /// Looks at the state.
-    fn is(&mut self, alloc: Global, expected: &str) -> Result<(), Fail> {
+    fn compare_state(&mut self, alloc: Global, expected: &str) -> Result<(), Fail> {
         let bytes = request(alloc, self.looked.as_str(), "")?;
-        let found = self.stays_beside(alloc, bytes.as_slice())?;
+        let found = self.state_by(alloc, bytes.as_slice())?;
         compare(
             alloc,
             &mut self.differences,
@@ -235,8 +110,7 @@ impl Talk {
         )
     }
 
-    /// Looks at the orders.
-    fn has(&mut self, alloc: Global, expected: &str) -> Result<(), Fail> {
+    fn compare_orders(&mut self, alloc: Global, expected: &str) -> Result<(), Fail> {
         let looked = self.looked.as_str();
         let found = looked_life(alloc, &self.settings, &mut self.records, looked)?;
         compare(
@@ -249,7 +123,7 @@ impl Talk {
     }
 
     /// Asks a broker of its own with these records, and looks at the orders then.
-    fn is_asked(
+    fn ask(
         &mut self,
         alloc: Global,
         mut records: Records<MemStore>,
@@ -267,20 +141,20 @@ impl Talk {
         Ok(())
     }
 
-    /// Behind a step, of which there were so many before.
-    fn after(
+    /// Takes a step, of which so many went before.
+    fn take(
         mut self,
         alloc: Global,
         steps: &[Step],
         count: usize,
         step: &Step,
-    ) -> Result<Talk, Fail> {
+    ) -> Result<Held, Fail> {
         match step.kind {
             Kind::Over => self.settings = settings_by(alloc, step.text.as_str())?,
             Kind::At => self.looked = looked_at(alloc, step.text.as_str())?,
-            Kind::Goes => return self.goes(alloc, step),
-            Kind::Asked => self.is_asked(alloc, records_after(alloc, steps, count)?, step)?,
-            Kind::Is => self.is(alloc, step.text.as_str())?,
+            Kind::Goes => return self.go(alloc, step),
+            Kind::Asked => self.ask(alloc, records_after(alloc, steps, count)?, step)?,
+            Kind::Is => self.compare_state(alloc, step.text.as_str())?,
         }
         Ok(self)
     }
@@ -288,14 +162,14 @@ impl Talk {
 
 /// What differs where each request is in a run of its own.
 fn in_runs(alloc: Global, steps: &[Step]) -> Result<Differences, Fail> {
-    let mut talk = Talk::new(alloc)?;
-    for (number, step) in steps.iter().enumerate() {
-        talk = talk.after(alloc, steps, number, step)?;
+    let mut held = Held::new(alloc)?;
+    for (count, step) in steps.iter().enumerate() {
+        held = held.take(alloc, steps, count, step)?;
         if let (false, Some(orders)) = (step.kind == Kind::Asked, &step.orders) {
-            talk.has(alloc, orders.as_str())?;
+            held.compare_orders(alloc, orders.as_str())?;
         }
     }
-    let Talk { differences, .. } = talk;
+    let Held { differences, .. } = held;
     Ok(differences)
 }
 

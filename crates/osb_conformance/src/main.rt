@@ -12,6 +12,7 @@ mod connections;
 mod conversations;
 #[cfg(test)]
 mod differing;
+mod exchanges;
 #[cfg(test)]
 mod framing;
 mod held;
@@ -20,6 +21,7 @@ mod large_contexts;
 mod lines;
 #[cfg(test)]
 mod listing;
+mod orders;
 #[cfg(test)]
 mod plans;
 #[cfg(test)]
@@ -35,22 +37,42 @@ mod trimmed;
 #[cfg(test)]
 mod versions;
 
-use conversations::{Group, read};
+use conversations::{Conversation, Group, read};
 use held::hold;
 use std::io;
 use std::process::ExitCode;
 use std::test::Fail;
 
-/// Holds the conversations of a group, and prints what differs. Says whether nothing does.
-fn goes_as_written(rt: &HostRuntime, group: &Group) -> Result<bool, Fail> {
-    let mut is_right = true;
-    for conversation in &group.conversations {
-        for difference in &hold(rt.alloc(), conversation)? {
-            is_right = false;
-            eprintln!(rt; "{}/{}: {difference}", group.name, conversation.name)?;
+/// Holds a conversation, and prints what differs. Says whether nothing does.
+fn goes_as_written(
+    rt: &HostRuntime,
+    group: &str,
+    conversation: &Conversation,
+) -> Result<bool, Fail> {
+    let name = conversation.name.as_str();
+    match hold(rt.alloc(), conversation) {
+        Ok(differences) => {
+            for difference in &differences {
+                eprintln!(rt; "{group}/{name}: {difference}")?;
+            }
+            Ok(differences.is_empty())
+        }
+        Err(fault) => {
+            // If this can't be written, the fault is still said.
+            let _ = eprintln!(rt; "{group}/{name} can't be held:");
+            Err(fault)
         }
     }
-    Ok(is_right)
+}
+
+/// The same of all conversations of a group.
+fn go_as_written(rt: &HostRuntime, group: &Group) -> Result<bool, Fail> {
+    let mut are_right = true;
+    for conversation in &group.conversations {
+        let is_right = goes_as_written(rt, group.name.as_str(), conversation)?;
+        are_right = are_right && is_right;
+    }
+    Ok(are_right)
 }
 
 fn main(rt: HostRuntime) -> Result<ExitCode, Fail> {
@@ -58,7 +80,7 @@ fn main(rt: HostRuntime) -> Result<ExitCode, Fail> {
     let groups = read(rt.alloc(), text.as_str())?;
     let mut are_right = true;
     for group in &groups {
-        let is_right = goes_as_written(&rt, group)?;
+        let is_right = go_as_written(&rt, group)?;
         are_right = are_right && is_right;
         let how = if is_right { "as written" } else { "otherwise" };
         println!(rt; "{}: {how}", group.name)?;
