@@ -74,15 +74,21 @@ impl Held {
 
     /// Makes a request, in a run of its own.
     fn go(self, alloc: Global, step: &Step) -> Result<Held, Fail> {
-        let mut held = self;
-        let left = after(
-            alloc,
-            &held.settings,
-            held.records,
-            &[step],
-            &mut held.differences,
-        )?;
-        held.records = taken_over(alloc, left)?;
+        let Held {
+            settings,
+            records,
+            plain,
+            looked,
+            mut differences,
+        } = self;
+        let left = after(alloc, &settings, records, &[step], &mut differences)?;
+        let mut held = Held {
+            settings,
+            records: taken_over(alloc, left)?,
+            plain,
+            looked,
+            differences,
+        };
         held.state_by(alloc, bytes_of(alloc, step)?.as_slice())?;
         Ok(held)
     }
