@@ -91,7 +91,7 @@ returns c = same c.args.n
 PROOFS = {"Lib.antt": "pub mod Lemma\n", "Lemma.antt": LEMMA}
 PROOFS |= {"smaller/Answers.antt": ANSWER, "itself/Answers.antt": BY_LEMMA}
 SCRIPTS = ["tests/edits.py", *(f"tests/lib/{name}.py" for name in ("edit", "judgement", "places"))]
-SCRIPTS += [f"tools/{name}.py" for name in ("build", "crates", "proved", "rattle")]
+SCRIPTS += [f"tools/{name}.py" for name in ("build", "crates", "minutes", "proved", "rattle")] + ["tools/minutes.txt"]
 
 
 def edit(function, old, new):
