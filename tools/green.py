@@ -107,6 +107,8 @@ def try_commit(commit, keep):
     room, begun = tempfile.mkdtemp(prefix="osb-broker-green-", dir=ROOT.parent), time.monotonic()
     clone, log = os.path.join(room, "clone"), FOLDER / f"{commit}.log"
     say(f"{commit[:10]} is tried in {clone}; its log is {log}")
+    # (a trial runs the program as another user)
+    os.chmod(room, 0o755)
     try:
         subprocess.run(["git", "clone", "-q", str(ROOT), clone], check=True)
         subprocess.run(["git", "-C", clone, "checkout", "-q", "--detach", commit], check=True)
