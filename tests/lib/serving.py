@@ -23,9 +23,9 @@ def newest_version():
         return re.search(r"^## ([\d.]+)", file.read(), re.MULTILINE).group(1)
 
 
-# The ports that are given to servers here: the system gives them to nobody who connects or asks for any port. The file has
-# the last of them, for all trials that run at the same time.
-PORTS = range(20_000, 32_768)
+# The ports that are given to servers here: the system gives them to nobody who connects or asks for any port, and
+# `lasting_address` of tests/trials/unproved.py has those behind them. The file has the last one, for all trials.
+PORTS = range(10_000, 20_000)
 LAST_PORT = os.path.join(tempfile.gettempdir(), f"osb-broker-{os.getuid()}-port")
 
 
