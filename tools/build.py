@@ -23,8 +23,8 @@ from proved import count_in, is_kept, is_recorded, keep, made, prove
 from rattle import rlib
 
 PROGRAM = "osb_program"
-# About how many minutes a crate takes where nothing of it is kept: those of one process, and those that its jobs share; where
-# these are none it gets one job.
+# About how many minutes a crate takes where nothing of it is kept: those of one process, and those that its jobs share. If
+# its jobs share nothing, it gets one job.
 MINUTES = read_minutes()["check"]
 MINUTES_OF_OTHERS = (0.1, 0.1)
 MOST_JOBS = 4

@@ -3,8 +3,8 @@
 
 usage: tests/trials/settings.py PROGRAM
 
-Each case is the built-in settings with one text in the place of another. What is said stands written out here, by
-docs/SETTINGS.md and docs/OPERATING.md; none of it comes from the program.
+Each case is the built-in settings with one text in the place of another. What has to be said is written out here, by
+docs/SETTINGS.md and docs/OPERATING.md. Nothing of it comes from the program.
 """
 
 import itertools
@@ -43,7 +43,7 @@ REASONS = [
     ),
 ]
 
-# Values in the place of a login that are none, and that are one; and the second login of a door.
+# Values in the place of a login: those that aren't one, and one that is; and the second login of a door.
 NO_LOGINS = ["null", "[]", '"u"', "{}", '{"user":"u"}', '{"password":"p"}', '{"user":1,"password":"p"}', '{"user":"u","password":null}']
 NO_SECOND_LOGINS = ["1", "true", '{"user":"u","password":["p"]}', *NO_LOGINS[1:]]
 WITH_MORE = '{"user":"u","password":"p","unread":1}'
@@ -66,7 +66,7 @@ LOGINS += [(login_of("platform"), WITH_MORE, "")]
 SECOND_LOGINS = [(*with_also(door, also), f"2 Missing {door}") for door in PASSWORDS for also in NO_SECOND_LOGINS]
 SECOND_LOGINS += [(*with_also(door, also), "") for door in PASSWORDS for also in SECOND]
 
-# The texts that a service and a plan must have, and values that are none.
+# The texts that a service and a plan must have, and values that aren't such a text.
 TEXTS = [("id", "svc"), ("id", "p-async"), ("name", "store"), ("name", "large"), ("description", "Key store"), ("description", "Later")]
 NO_VALUES = ["null", '""', "1", "[]", "{}", "true"]
 REQUIRED_TEXTS = [(f'"{name}":"{text}"', f'"{name}":{value}', f"2 Missing {name}") for name, text in TEXTS for value in NO_VALUES]
