@@ -25,7 +25,9 @@ its files and what is put in their place.
 `rt ci` has proved every function just before, so here each other function of the crate is taken at its
 word: its proof is a hole, and only the edited function is checked against what the others promise. That
 takes seconds, where an edit under must-fail/ costs a check of the whole crate. Edits of several functions
-are tried in one check. A check that is killed, most likely for memory, is tried once more by itself.
+are tried in one check. So is a further edit of one function, if it changes nothing else: it is made in a copy
+of that function, and judged by the copy's goals. A check that is killed, most likely for memory, is tried once
+more by itself.
 
 An edit has one of three outcomes.
 
@@ -121,7 +123,7 @@ def check(crate, names, edits, kept, only=(), more=(), answered=True):
                 shutil.copytree(ROOT / "crates" / crate / part, folder / part)
         for edit in edits:
             edit.apply(folder)
-        keep_only(folder, crate, names)
+        keep_only(folder, crate, {*names, *(edit.refused for edit in edits)})
         for edit in [] if answered else edits:
             for name in ("Answers.antt", "Proof.antt"):
                 folder.joinpath("proofs", *edit.refused.split("::"), name).unlink(missing_ok=True)
@@ -139,7 +141,7 @@ def try_batch(crate, names, batch, kept):
         if verdict.kind is Kind.NOTHING and is_beside:
             again.append(edit)
         else:
-            verdicts[edit] = verdict
+            verdicts[edit.original] = verdict
     for part in [again] if len(again) < len(batch) else [[edit] for edit in again]:
         verdicts |= try_batch(crate, names, part, kept) if part else {}
     return verdicts
@@ -305,7 +307,7 @@ def say_the_same(crate, names, edits, kept):
     found = []
     for batch in batches(edits):
         judged = check(crate, names, batch, kept, more=HALVED, answered=False)
-        proved = [edit for edit in batch if judged.passes(edit.refused)]
+        proved = [edit.original for edit in batch if judged.passes(edit.refused)]
         # (it may do so only by another definition in the same text)
         found += [it for it in proved if len(batch) == 1 or proves_by_itself(crate, names, it, kept)]
     said = "the search proves it: only the written answer refuses what it says in other words"

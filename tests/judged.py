@@ -20,6 +20,7 @@ from unittest import mock
 sys.path.append(os.path.join(os.path.dirname(os.path.abspath(__file__)), "lib"))
 
 import edits
+from edit import text_of
 from judgement import Judgement, Kind
 from kits import kit_with
 from serving import ROOT, tell
@@ -184,10 +185,17 @@ def try_verdicts():
         yield f"{count} weak edits", (passes, named), (count <= edits.MOST_WEAK, count)
 
 
+# A function with an arm that is empty.
+ARMS = ["fn last(n: Option<u32>) {", "    match n {", "        None => {}", "        Some(n) => end(n),", "    }", "}"]
+
+
 def try_texts():
-    """Edits that can't be in one text, and one that the search proves only by another's definition."""
+    """Edits that can't be in one text, one that the search proves only by another's definition, and a function's lines."""
+    yield "the lines of a function with an empty arm", text_of(ARMS, 0), (0, len(ARMS) - 1)
     kinds = {"one": "src/a.rt", "other": "src/b.rt", "law": "specs/A.antt", "rule": "specs/B.antt"}
     made = {name: mock.Mock(refused=name, pairs=[(file, "old", "new")]) for name, file in kinds.items()}
+    for it in made.values():
+        it.original = it
     found = [[it.refused for it in batch] for batch in edits.batches(list(made.values()))]
     yield "edits of definitions by themselves", found, [["one", "other"], ["law", "rule"]]
     for count, said in [(1, ["law", "rule"]), (2, [])]:
@@ -235,6 +243,7 @@ def try_wrong(room):
     status, said = small.judged("--beside", "sh", "-c", "echo 'rt: small proved'")
     found = {name for name in WRONG if f"small/edits/{name}: " in said and f"small/edits/{name}: refused" not in said}
     yield "edits that show nothing", (status, found, "4 to be tried, 3 faults" in said), (1, set(WRONG), True)
+    yield "another edit of a function, one of which says the same", "two_more: refused in next: returns: " in said, True
     broken = (SOURCE + CALLER).replace("    n + 1\n", "    n + 3\n")
     both = {"two_more": edit("next", "    n + 3", "    n + 2"), "once": edit("after_next", "next(next(n))", "next(n)")}
     status, said = Small(room, both, source=broken).judged()

@@ -76,7 +76,7 @@ def kind_of(words):
     crate = words[words.index("--crate-name") + 1]
     if crate not in LIBRARIES:
         return None
-    if words[1] == "check":
+    if "--allow-holes" in words:
         return "edits", crate
     return "tests" if "--test" in words else "check", crate
 

@@ -5,6 +5,7 @@ proof is a hole."""
 
 import pathlib
 import re
+import shutil
 
 ROOT = pathlib.Path(__file__).resolve().parent.parent.parent
 
@@ -40,12 +41,26 @@ def functions(folder):
             of_cycle = of_cycle and not found
 
 
-def empty_body(lines, place):
-    """Puts a body that gives nothing in the place of a function's, and marks its other lines."""
+def body_of(lines, place):
+    """The places of the first and the last line of a function's body, by that of its name."""
     indent = FUNCTION.match(lines[place]).group(1)
     first = next(it for it in range(place, len(lines)) if lines[it] == indent + "{" or lines[it].endswith((" {", "{}")))
-    if not lines[first].endswith("{}"):
-        last = lines.index(indent + "}", first + 1)
+    return first, first if lines[first].endswith("{}") else lines.index(indent + "}", first + 1)
+
+
+def text_of(lines, place):
+    """The places of the first and the last line of a function, with its attributes and comments, by that of its name."""
+    first = place
+    while first and lines[first - 1].strip().startswith(("#[", "///")):
+        first -= 1
+    return first, body_of(lines, place)[1]
+
+
+def empty_body(lines, place):
+    """Puts a body that gives nothing in the place of a function's, and marks its other lines."""
+    first, last = body_of(lines, place)
+    if first < last:
+        indent = FUNCTION.match(lines[place]).group(1)
         lines[first + 1 : last] = [indent + "    loop {}"] + [None] * (last - first - 2)
 
 
@@ -95,6 +110,11 @@ class Edit:
             elif line:
                 self.strange.append(line)
 
+    @property
+    def original(self):
+        """The edit as its file says it."""
+        return self
+
     def __str__(self):
         return f"{self.crate}/{self.folder}/{self.name}"
 
@@ -131,6 +151,54 @@ class Edit:
         for name, text in self.texts(folder)[0].items():
             (folder / name).write_text(text)
 
+    def changed_function(self):
+        """The text of its function with the edit; nothing where the edit changes anything else."""
+        folder = ROOT / "crates" / self.crate
+        place = next(((file, at) for path, file, at in functions(folder) if "::".join(path) == self.refused), None)
+        if place is None or any(folder / name != place[0] for name, _, _ in self.pairs):
+            return ""
+        lines = place[0].read_text().splitlines()
+        first, last = text_of(lines, place[1])
+        text = "\n".join(lines[first : last + 1])
+        for _, old, new in self.pairs:
+            if text.count(old) != 1:
+                return ""
+            text = text.replace(old, new)
+        return text
+
+
+class Copy:
+    """An edit that is made in a copy of its function, with another name and a copy of its proof: so it can be in one text
+    with other edits of that function."""
+
+    def __init__(self, edit, number):
+        *self.owner, self.function = edit.refused.split("::")
+        self.original, self.crate, self.pairs = edit, edit.crate, []
+        self.name = f"{self.function}_edit_{number}"
+        self.refused = "::".join([*self.owner, self.name])
+
+    def __str__(self):
+        return str(self.original)
+
+    def apply(self, folder):
+        """Puts the copy behind its function, which other edits may have changed before."""
+        path = [*self.owner, self.function]
+        file, place = next((file, place) for other, file, place in functions(folder) if other == path)
+        lines = file.read_text().splitlines()
+        text = re.sub(rf"\bfn {self.function}\b", f"fn {self.name}", self.original.changed_function(), count=1)
+        end = text_of(lines, place)[1] + 1
+        file.write_text("\n".join([*lines[:end], "", text, *lines[end:]]) + "\n")
+        self.copy_proof(folder / "proofs")
+
+    def copy_proof(self, proofs):
+        given, made = proofs.joinpath(*self.owner, self.function), proofs.joinpath(*self.owner, self.name)
+        if given.is_dir():
+            shutil.copytree(given, made)
+        path = "".join(f"{it}." for it in self.owner)
+        for file in made.rglob("*.antt"):
+            text = file.read_text().replace(f"proofs.{path}{self.function}.", f"proofs.{path}{self.name}.")
+            file.write_text(re.sub(rf"\b{self.function}_spec\b", f"{self.name}_spec", text))
+
 
 def is_of_definition(edit):
     return any(name.startswith("specs/") for name, _, _ in edit.pairs)
@@ -144,13 +212,24 @@ def clash(edit, other):
     return edit.refused == other.refused or is_of_definition(edit) != is_of_definition(other) or mixed
 
 
+def place_in(batch, edit, number):
+    """The edit as it can be in one text with these, or nothing: one of a function that they change, and of nothing else,
+    in a copy of that function."""
+    clashing = [it for it in batch if clash(edit, it)]
+    if not clashing:
+        return edit
+    in_copy = all(edit.refused == it.refused for it in clashing) and edit.changed_function()
+    return Copy(edit, number) if in_copy else None
+
+
 def batches(edits):
-    """The edits, in few lists of which no two clash."""
+    """The edits, in few lists of which no two clash. Those in copies of functions come behind the others."""
     made = []
-    for edit in edits:
-        batch = next((it for it in made if not any(clash(edit, other) for other in it)), None)
-        if batch is None:
-            made.append([edit])
+    for number, edit in enumerate(edits, 1):
+        for batch in made:
+            if placed := place_in(batch, edit, number):
+                batch.append(placed)
+                break
         else:
-            batch.append(edit)
-    return made
+            made.append([edit])
+    return [sorted(batch, key=lambda it: isinstance(it, Copy)) for batch in made]

@@ -31,17 +31,19 @@ class Platform:
     def __init__(self, proxy, name, connections):
         self.proxy, self.name, self.connections = proxy, name, connections
         self.chance = random.Random(name)
-        self.numbers = itertools.count(1)
+        self.numbers, self.requests = itertools.count(1), itertools.count(1)
         self.fates = Counter()
         self.plan = self.instance = None
         self.bindings = []
 
     def asks(self, method, target, body=None):
-        """The status and the object of a reply; none where no usable one was heard."""
+        """The status and the object of a reply; none where no usable one was heard. Each request has an identity of its
+        own, and each body its members in another order."""
         if time.monotonic() > self.until:
             raise TimeoutError(f"not in time: {method} {target}")
         time.sleep(PAUSE)
-        sent = request(method, target, json.dumps(body) if body else "", CLOSE)
+        identity = f"X-Broker-API-Request-Identity: {self.name}-{next(self.requests)}\r\n"
+        sent = request(method, target, json.dumps(self.in_any_order(body)) if body else "", identity + CLOSE)
         [fate] = self.chance.choices(list(FATES), FATES.values()) if time.monotonic() < self.calm else [WHOLE]
         self.fates[fate] += 1
         try:
@@ -49,6 +51,13 @@ class Platform:
             return (status, json.loads(text)) if status < 500 else None
         except (OSError, ValueError):
             return None
+
+    def in_any_order(self, value):
+        """The same value, with the members of its objects in another order."""
+        if not isinstance(value, dict):
+            return value
+        names = self.chance.sample(list(value), len(value))
+        return {name: self.in_any_order(value[name]) for name in names}
 
     def hears(self, sent, fate):
         with self.proxy.connection() as client:

@@ -16,14 +16,15 @@ def built_in():
 
 @dataclass
 class Exchange:
-    """A request and its reply. `fields` is None if the request has the usual field lines of its door. An ask has a broker of
-    its own; `order` is the order that it opens or ends there, or None."""
+    """A request and its reply. `fields` is None if the request has the usual field lines of its door, and `identity` is the
+    line that its reply repeats. An ask has a broker of its own; `order` is the order that it opens or ends there, or None."""
 
     settings: str
     is_ask: bool
     method: str
     target: str
     fields: list | None = None
+    identity: str = ""
     body: str = ""
     status: str = ""
     reply: str = ""
@@ -58,7 +59,7 @@ class Reader:
             self.settings = self.with_text(*rest.split(" => "))
         elif kind in (">", "?"):
             self.exchanges.append(Exchange(self.settings, kind == "?", *rest.split(" ", 1)))
-        elif kind in (":", "|", "<", "*"):
+        elif kind in (":", "~", "|", "<", "*"):
             self.add(self.exchanges[-1], kind, rest)
         elif kind not in ("", "#", "@", "=") and line != f"=== {self.file}":
             raise ValueError(f"{self.file}: {line}")
@@ -78,6 +79,8 @@ class Reader:
         """Adds a field line, a body, the reply or an order to an exchange. Orders elsewhere are a whole life."""
         if kind == ":":
             exchange.fields = [*(exchange.fields or []), rest]
+        elif kind == "~":
+            exchange.identity = f"X-Broker-API-Request-Identity: {rest}\r\n"
         elif kind == "|":
             exchange.body = rest
         elif kind == "<":

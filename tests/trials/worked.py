@@ -55,7 +55,7 @@ class Broker:
         return self.serving
 
     def answers(self, exchange):
-        asked = request(exchange.method, exchange.target, exchange.body, fields=exchange.fields)
+        asked = request(exchange.method, exchange.target, exchange.body, exchange.identity, exchange.fields)
         return self.over(exchange.settings).sends(asked)
 
     def stop(self):
@@ -71,7 +71,8 @@ class Broker:
 
 
 def expected_of(exchange):
-    return reply_of(exchange.status, exchange.reply, lines=CHALLENGE if exchange.status.startswith("401 ") else "")
+    challenge = CHALLENGE if exchange.status.startswith("401 ") else ""
+    return reply_of(exchange.status, exchange.reply, lines=exchange.identity + challenge)
 
 
 def answered(program, folder, broker, exchange):

@@ -138,7 +138,7 @@ module _ (rules : Rules) (limits : Limits) where
       let carried = carries rules limits s got (asks gone.q gone.n front) in
       (lost, (carried.0, subst (λ v. Carried rules limits s got carried.0 v) (sym after) carried.1), no_answer ended s calls met_fault sent count u t wrote shown gone)
 
-  attempted : (s : Lives) (it : Conversation) (t : Lives) → IsConversation rules limits 1 s it t → Attempted s (all_bytes it.calls) it.sent it.failed t
+  pub attempted : (s : Lives) (it : Conversation) (t : Lives) → IsConversation rules limits 1 s it t → Attempted s (all_bytes it.calls) it.sent it.failed t
   attempted s it t is = by is.outcome.is
     where
       by : (t ≡ is.outcome.shown) ⊎ LostAnswer is.ended (machine rules) limits 1 s (all_bytes it.calls) [] it.sent is.outcome.shown t → Attempted s (all_bytes it.calls) it.sent it.failed t

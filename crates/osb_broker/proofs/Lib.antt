@@ -32,10 +32,17 @@ pub mod ReportedLemmas
 mod CountLemmas
 mod ConversationLemmas
 mod RepliedLemmas
+mod ExchangeLemmas
+mod ExchangeGroupLemmas
+mod AskedLemmas
+mod AskedCountLemmas
 mod ShardLemmas
+mod ShardExchangeLemmas
 mod LoginLemmas
 mod ErrorLemmas
 mod BodyLemmas
 mod TrimmedRunLemmas
 mod TrimmedEpisodeLemmas
+mod TrimmedExchangeLemmas
 mod Vectors
+mod AskedVectors

@@ -13,7 +13,7 @@ use Rattle.osb_broker.specs.Served.{FirstTexts}
 use Rattle.osb_broker.specs.Serving.{Past, replies_unmarked}
 
 -- nothing is cut behind the last that is looked for
-goes_none : (limits : Limits) (c : Bool) (bytes : List ℕ) → Cuts limits (cond c 0 0) bytes [] closed
+pub goes_none : (limits : Limits) (c : Bool) (bytes : List ℕ) → Cuts limits (cond c 0 0) bytes [] closed
 goes_none limits true bytes = (refl, refl)
 goes_none limits false bytes = (refl, refl)
 

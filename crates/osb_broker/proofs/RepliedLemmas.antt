@@ -22,7 +22,7 @@ or_true : (b : Bool) → (b || true) ≡ true
 or_true true = refl
 or_true false = refl
 
-knows : (outcome : AttemptOutcome) (sent : List ℕ) → WasSent outcome sent → ¬ IsNoAnswer sent → answers outcome ≡ true
+pub knows : (outcome : AttemptOutcome) (sent : List ℕ) → WasSent outcome sent → ¬ IsNoAnswer sent → answers outcome ≡ true
 knows (answered texts) sent was other = refl
 knows failed sent was other = absurd (other was)
 knows lost sent was other = absurd (other was)

@@ -176,7 +176,7 @@ reading_quiet rules lives (the.Bind a) reads = cc
 reading_quiet rules lives (the.Unbind a) reads = cc
 reading_quiet rules lives (the.Report a) reads = cc
 
-reading_stays : (rules : Rules) (lives : Lives) (ask : Ask) → is_reading ask ≡ true → after_step rules lives ask ≡ lives
+pub reading_stays : (rules : Rules) (lives : Lives) (ask : Ask) → is_reading ask ≡ true → after_step rules lives ask ≡ lives
 reading_stays rules lives ask reads = quiet_step _ lives (instance_id_of ask) (reading_quiet rules lives ask reads)
 
 module _ (rules : Rules) (limits : Limits) (id : List ℕ) (number : ℕ) (bytes : List ℕ) where

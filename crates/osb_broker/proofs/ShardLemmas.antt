@@ -47,7 +47,7 @@ not_catalog (the.Orders a) id e = refl
 not_catalog (the.Report a) id e = refl
 
 -- whether it may be answered, by the instance that it names
-answerable_by : (has : List ℕ → Bool) (ask : Ask) (id : List ℕ) → instance_id_of ask ≡ Some id → is_answerable has (Ok ask) ≡ has id
+pub answerable_by : (has : List ℕ → Bool) (ask : Ask) (id : List ℕ) → instance_id_of ask ≡ Some id → is_answerable has (Ok ask) ≡ has id
 answerable_by has ask id is = ap (λ b. not (not b) || names_one has (instance_id_of ask)) (not_catalog ask id is) ∙ ap (names_one has) is
 
 module _ (rules : Rules) (limits : Limits) (has : List ℕ → Bool) where
@@ -69,7 +69,7 @@ module _ (rules : Rules) (limits : Limits) (has : List ℕ → Bool) where
           let differ : other ≡ id → ⊥ = λ x. let sure : bytes_eq other id ≡ true = (bytes_eq-Decides other id).1 x in let bad : true ≡ false = sym sure ∙ t in cc in
           others_stay rules s ask id other is differ ∙ same other here ∙ sym (others_stay rules v ask id other is differ)
 
-  answered_alike : (s v : Lives) → HaveSame has s v → (r : Result Ask AskFault) → is_answerable has r ≡ true → Alike s v r
+  pub answered_alike : (s v : Lives) → HaveSame has s v → (r : Result Ask AskFault) → is_answerable has r ≡ true → Alike s v r
   answered_alike s v same (Err f) e = record { told = refl; same = same }
   answered_alike s v same (Ok the.Catalog) e = record { told = refl; same = λ id here. same id here }
   answered_alike s v same (Ok (the.Orders a)) e = cc
@@ -206,7 +206,7 @@ module _ (rules : Rules) (limits : Limits) (takes : Message → Bool) where
 -- ---- all of them
 
 -- one broker's lives have become others
-abbrev stepped : ℕ → Lives → (ℕ → Lives) → ℕ → Lives
+abbrev pub stepped : ℕ → Lives → (ℕ → Lives) → ℕ → Lives
 stepped m u before n = cond (m == n) u (before n)
 
 module _ (rules : Rules) (limits : Limits) (takes : Message → Bool) (shard : List ℕ → ℕ) where
@@ -270,7 +270,7 @@ module _ (rules : Rules) (limits : Limits) (shard : List ℕ → ℕ) where
       (it.next, record { marks = c.marks; is = it.is; unmarked = c.unmarked }, it.same)
 
   -- where nothing was carried out
-  stayed : (m : ℕ) (u : Lives) (before : ℕ → Lives) (s : Lives) → u ≡ before m → AreOfShards shard before s → AreOfShards shard (stepped m u before) s
+  pub stayed : (m : ℕ) (u : Lives) (before : ℕ → Lives) (s : Lives) → u ≡ before m → AreOfShards shard before s → AreOfShards shard (stepped m u before) s
   stayed m u before s e are id = by (m == shard id) refl
     where
       by : (b : Bool) → (m == shard id) ≡ b → life_of s id ≡ life_of (cond b u (before (shard id))) id

@@ -23,7 +23,7 @@ use Rattle.osb_broker.proofs.TrimmedRunLemmas.{M, left_match, same_replies, conn
 
 module _ (fronts : Fronts) (rules : Rules) where
   -- it holds of some lives that match
-  abbrev Left : (Lives → Type 0) → Lives → Type 0
+  abbrev pub Left : (Lives → Type 0) → Lives → Type 0
   Left Holds after = (later : Lives) × Holds later × Matches fronts after later
 
   -- what holds of the bytes of a connection, whatever follows them
@@ -133,7 +133,7 @@ module _ (fronts : Fronts) (rules : Rules) where
             (more.0, record { shown = shown; ends = ends; is = inr more.1 }, more.2)
 
   module _ (limits : Limits) (k : ℕ) where
-    conversation_from : (lives others : Lives) (conversation : Conversation) (after : Lives) → Matches fronts lives others → IsConversation rules limits k lives conversation after → Left (IsConversation rules limits k others conversation) after
+    pub conversation_from : (lives others : Lives) (conversation : Conversation) (after : Lives) → Matches fronts lives others → IsConversation rules limits k lives conversation after → Left (IsConversation rules limits k others conversation) after
     conversation_from lives others conversation after h is =
         let it = ends_as_or_lost (machine rules).takes_memory limits k lives others h is.ended conversation.calls conversation.met_fault [] conversation.sent after is.outcome in
         (it.0, record { ended = is.ended; reads = is.reads; needed = is.needed; wrote = is.wrote; outcome = it.1 }, it.2)

@@ -18,7 +18,7 @@ use Rattle.osb_broker.proofs.StepLemmas.{answer_alone}
 
 module _ (fronts : Fronts) (rules : Rules) where
   -- one request
-  same_answer : (lives others : Lives) (asked : Result Ask AskFault) → Matches fronts lives others → (step_for rules lives asked).0 ≡ (step_for rules others asked).0
+  pub same_answer : (lives others : Lives) (asked : Result Ask AskFault) → Matches fronts lives others → (step_for rules lives asked).0 ≡ (step_for rules others asked).0
   same_answer lives others (Ok ask) h = ap answer_alone (answers_match fronts rules lives others ask h)
   same_answer lives others (Err fault) h = refl
 

@@ -34,6 +34,9 @@ pub mod Replied
 -- Clients that are served together.
 pub mod Begun
 pub mod Waiting
+-- What was said with clients whose requests come between one another, and what is asked again acts once.
+pub mod Exchanges
+pub mod Asked
 -- Several brokers are one.
 pub mod Shards
 -- A reply that reports an error has changed nothing, and who lacks the login learns nothing. Each body is an object.

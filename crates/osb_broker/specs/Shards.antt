@@ -1,8 +1,9 @@
 -- Instances that are spread over several brokers, each with lives of its own.
-use Rattle.std.specs.Prelude.{ℕ, ◌≡◌, ◌==◌, Bool, true, false, not, ◌||◌, List, [], ◌∷◌, map, length, Option, Some, None, Result, Ok, Err}
+use Rattle.std.specs.Prelude.{ℕ, ◌≡◌, ◌⊎◌, ◌==◌, Bool, true, false, not, ◌||◌, List, [], ◌∷◌, map, length, Option, Some, None, Result, Ok, Err}
 use Rattle.std.specs.List.{AllByRecursion}
 use Rattle.osb_frames.specs.declared.limits.Limits.{Limits}
-use Rattle.osb_frames.specs.Cuts.{Message, whole, IsFront}
+use Rattle.osb_frames.specs.Calls.{Call}
+use Rattle.osb_frames.specs.Cuts.{Message, Front, whole, IsFront}
 use Rattle.osb_catalog.specs.Rules.{Rules}
 use Rattle.osb_asks.specs.declared.ask.Ask.{Ask}
 use Rattle.osb_asks.specs.declared.ask_fault.AskFault.{AskFault}
@@ -11,11 +12,13 @@ use Rattle.osb_orders.specs.Lives.{Lives, life_of}
 use Rattle.osb_asks.specs.Subjects.{instance_id_of}
 use Rattle.osb_broker.specs.Steps.{needs_lives}
 use Rattle.osb_broker.specs.Connection.{Run}
+use Rattle.osb_broker.specs.Serving.{EndsWith, OfConnection}
 use Rattle.osb_broker.specs.Resend.{refusing}
 use Rattle.osb_broker.specs.Apart.{picked}
 use Rattle.osb_broker.specs.Attempts.{Attempt, connections_of}
 use Rattle.osb_broker.specs.Histories.{History}
 use Rattle.osb_broker.specs.ActsOnce.{Carried}
+use Rattle.osb_broker.specs.Exchanges.{Exchange, AreExchanges}
 
 -- ---- what one broker is sent
 
@@ -154,3 +157,38 @@ HistoriesAreOne = (rules : Rules) (limits : Limits) (shard : List ℕ → ℕ)
     History (Carried rules limits) (before n) (picked (went_to n at) attempts) (after n)) →
     AreOfShards shard before lives →
     (all : Lives) × History (Carried rules limits) lives attempts all × AreOfShards shard after all
+
+-- ---- exchanges with clients
+
+-- what is first asks something such, if it is a request
+abbrev pub asks_such : Rules → (Result Ask AskFault → Bool) → Front → Bool
+asks_such rules such (whole q n) = such (ask_of rules q)
+asks_such rules such _ = true
+
+-- The client's request is such, if it made one: what is first in its bytes is known, whatever follows those that were
+-- read, or as it ended there; or a read failed.
+abbrev pub RequestIs : Rules → Limits → (Result Ask AskFault → Bool) → List Call → Type 0
+RequestIs rules limits such calls =
+    ((front : Front) × OfConnection (λ bytes. IsFront limits bytes front) calls
+    × (asks_such rules such front ≡ true))
+    ⊎ EndsWith None calls
+
+-- each exchange is with the broker of the instance of which it asks something, or with any if it needs no lives
+abbrev pub RoutesExchanges : Rules → Limits → (List ℕ → ℕ) → List ℕ → List Exchange → Type 0
+RoutesExchanges rules limits shard [] [] = Unit {0}
+RoutesExchanges rules limits shard (n ∷ at) (x ∷ later) =
+    RequestIs rules limits (is_answerable (is_at shard n)) x.said.calls
+    × RoutesExchanges rules limits shard at later
+RoutesExchanges rules limits shard [] (x ∷ later) = ⊥
+RoutesExchanges rules limits shard (n ∷ at) [] = ⊥
+
+-- Exchanges with several brokers are exchanges with one, in any order in which each broker has its own. Each of them
+-- stops and starts when it does.
+abbrev pub ExchangesAreOne : Type 0
+ExchangesAreOne = (rules : Rules) (limits : Limits) (k : ℕ) (shard : List ℕ → ℕ)
+    (before after : ℕ → Lives) (lives : Lives) (at : List ℕ) (exchanges : List Exchange) →
+    RoutesExchanges rules limits shard at exchanges →
+    ((n : ℕ) →
+    AreExchanges rules limits k (before n) (picked (went_to n at) exchanges) (after n)) →
+    AreOfShards shard before lives →
+    (all : Lives) × AreExchanges rules limits k lives exchanges all × AreOfShards shard after all

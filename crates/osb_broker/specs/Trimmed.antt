@@ -1,4 +1,4 @@
--- What is said with clients is the same from trimmed lives: by whole connections, and over stops and starts.
+-- What is said with clients is the same from trimmed lives: by whole connections, by conversations and by exchanges.
 use Rattle.std.specs.Prelude.{ℕ, Bool, List}
 use Rattle.osb_frames.specs.declared.limits.Limits.{Limits}
 use Rattle.osb_frames.specs.Cuts.{Message}
@@ -9,6 +9,7 @@ use Rattle.osb_trim.specs.Stays.{AreAlike}
 use Rattle.osb_trim.specs.Trimmed.{trimmed_lives}
 use Rattle.osb_broker.specs.Connection.{Run}
 use Rattle.osb_broker.specs.Conversations.{Conversation, AreEpisodes}
+use Rattle.osb_broker.specs.Exchanges.{Exchange, AreRuns}
 use Rattle.osb_broker.specs.Resend.{refusing}
 
 -- ---- connections, one after the other, whatever their bytes are and whichever requests are refused
@@ -43,3 +44,16 @@ abbrev pub EpisodesStay : Type 0
 EpisodesStay = (rules : Rules) (limits : Limits) (k : ℕ) (lives : Lives) → IsLives lives →
     SameEpisodes rules limits k lives (trimmed_lives lives)
     × SameEpisodes rules limits k (trimmed_lives lives) lives
+
+-- ---- exchanges with clients, over stops and starts of the program
+
+abbrev pub SameExchanges : Rules → Limits → ℕ → Lives → Lives → Type 0
+SameExchanges rules limits k lives others =
+    (runs : List (List Exchange)) (after : Lives) →
+    AreRuns rules limits k lives runs after →
+    (later : Lives) × AreRuns rules limits k others runs later × AreAlike later after
+
+abbrev pub ExchangesStay : Type 0
+ExchangesStay = (rules : Rules) (limits : Limits) (k : ℕ) (lives : Lives) → IsLives lives →
+    SameExchanges rules limits k lives (trimmed_lives lives)
+    × SameExchanges rules limits k (trimmed_lives lives) lives

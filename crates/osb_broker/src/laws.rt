@@ -22,10 +22,12 @@ ghost use Rattle.osb_broker.specs.Counted.{RequestsOpenOne};
 ghost use Rattle.osb_broker.specs.Conversations.{EpisodesAreHistories, EpisodesGoOn};
 ghost use Rattle.osb_broker.specs.Begun.{GroupsAreConversations};
 ghost use Rattle.osb_broker.specs.Replied.{RepliedRequestsActOnce, SentRequestsActAtMostOnce};
-ghost use Rattle.osb_broker.specs.Shards.{ShardsAreApart, ShardsKeepOut, UnnamedMayBeLeftOut, ShardsAreOne, HistoriesAreOne};
+ghost use Rattle.osb_broker.specs.Exchanges.{OneRequestEach, ConnectionsByThemselves, GroupsAreExchanges, RunsGoOn};
+ghost use Rattle.osb_broker.specs.Asked.{AskedAgainActsOnce, AskedAgainActsAtMostOnce, AskedAgainOpensOne};
+ghost use Rattle.osb_broker.specs.Shards.{ShardsAreApart, ShardsKeepOut, UnnamedMayBeLeftOut, ShardsAreOne, HistoriesAreOne, ExchangesAreOne};
 ghost use Rattle.osb_broker.specs.Errors.{ErrorsStay};
 ghost use Rattle.osb_broker.specs.Bodies.{RepliesAreObjects, FaultsAreObjects};
-ghost use Rattle.osb_broker.specs.Trimmed.{RunsStay, EpisodesStay};
+ghost use Rattle.osb_broker.specs.Trimmed.{RunsStay, EpisodesStay, ExchangesStay};
 ghost use Rattle.osb_broker.specs.Logins.{UnknownLearnNothing, AsksHaveLogins, PlatformReportsNothing};
 
 use osb_asks::laws::{never_memory, one_place, valid_texts};
@@ -167,8 +169,8 @@ pub fn replied()
 
 /// Brokers that each have some of the instances, by any function from ids to brokers, and are sent
 /// what is asked of these, are together one broker: their texts are those of one run of all
-/// connections, and each instance has the life that its broker leaves. So are their histories, in
-/// which each stops and starts when it does. One of them serves what it is sent as it would among
+/// connections, and each instance has the life that its broker leaves. So are their histories and
+/// their exchanges, in which each stops and starts when it does. One of them serves what it is sent as it would among
 /// all others, and leaves the instances that aren't its own. The backend's listing is of the lives
 /// of one broker; like all that names no instance, it may be left out of a run.
 pub fn shards()
@@ -177,6 +179,7 @@ pub fn shards()
     ensures unnamed { UnnamedMayBeLeftOut }
     ensures one { ShardsAreOne }
     ensures histories { HistoriesAreOne }
+    ensures exchanges { ExchangesAreOne }
 {}
 
 /// A request that isn't answered 200, 201 or 202 leaves the lives.
@@ -215,4 +218,20 @@ pub fn logins()
 pub fn trimmed()
     ensures runs { RunsStay }
     ensures episodes { EpisodesStay }
+    ensures exchanges { ExchangesStay }
+{}
+
+/// Clients are connected at the same time, and each makes any number of requests, over stops and
+/// starts. With one request each, their exchanges are conversations; those of a client by itself are its
+/// connection, and those of clients that are answered together come one after the other. What is asked
+/// of an instance again and again acts once where it was answered, whichever connections carry it, at
+/// most once in any case, and opens one order, and one more for each failure that is reported.
+pub fn exchanges()
+    ensures one_each { OneRequestEach }
+    ensures alone { ConnectionsByThemselves }
+    ensures groups { GroupsAreExchanges }
+    ensures runs { RunsGoOn }
+    ensures once { AskedAgainActsOnce }
+    ensures most { AskedAgainActsAtMostOnce }
+    ensures opens { AskedAgainOpensOne }
 {}

@@ -32,7 +32,7 @@ pub use broker::Broker;
 pub use buffer::Buffer;
 pub use fault::{NewFault, ServeFault};
 pub use laws::{
-    apart, bodies, episodes, errors, histories, logins, never_fails, reads_are_bounded,
+    apart, bodies, episodes, errors, exchanges, histories, logins, never_fails, reads_are_bounded,
     refusals_show, replied, reported, resend, runs_go_on, shards, texts_are_of_the_cut, together,
     trimmed, unknown,
 };

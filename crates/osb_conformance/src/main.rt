@@ -6,42 +6,11 @@
 //! others than those of the text, and it ends with status 1 then.
 #![tactic(auto)]
 
-mod beside;
-#[cfg(test)]
-mod connections;
-mod conversations;
-#[cfg(test)]
-mod differing;
-mod exchanges;
-#[cfg(test)]
-mod framing;
-mod held;
-#[cfg(test)]
-mod large_contexts;
-mod lines;
-#[cfg(test)]
-mod listing;
-mod orders;
-#[cfg(test)]
-mod plans;
-#[cfg(test)]
-mod rooms;
-#[cfg(test)]
-mod settings;
-#[cfg(test)]
-mod stored;
-#[cfg(test)]
-mod streams;
-#[cfg(test)]
-mod trimmed;
-#[cfg(test)]
-mod versions;
-
-use conversations::{Conversation, Group, read};
-use held::hold;
 use std::io;
 use std::process::ExitCode;
 use std::test::Fail;
+use tests_worked::conversations::{Conversation, Group, read};
+use tests_worked::held::hold;
 
 /// Holds a conversation, and prints what differs. Says whether nothing does.
 fn goes_as_written(

@@ -21,16 +21,23 @@ fn fields_for(line: &str) -> &'static str {
     }
 }
 
-/// A request with the login of its door, and with a length where it has a body.
-pub fn request(alloc: Global, line: &str, body: &str) -> Result<Vec<u8>, Fail> {
+/// A request with the login of its door and with further lines, and with a length where it has a body.
+pub fn request_with(alloc: Global, line: &str, lines: &str, body: &str) -> Result<Vec<u8>, Fail> {
     let fields = fields_for(line);
     let length = body.len();
     let text = if body.is_empty() {
-        format!(in alloc; "{line} HTTP/1.1\r\n{fields}\r\n")?
+        format!(in alloc; "{line} HTTP/1.1\r\n{fields}{lines}\r\n")?
     } else {
-        format!(in alloc; "{line} HTTP/1.1\r\n{fields}Content-Length: {length}\r\n\r\n{body}")?
+        format!(in alloc;
+            "{line} HTTP/1.1\r\n{fields}{lines}Content-Length: {length}\r\n\r\n{body}"
+        )?
     };
     Ok(text.into_bytes())
+}
+
+/// The same without further lines.
+pub fn request(alloc: Global, line: &str, body: &str) -> Result<Vec<u8>, Fail> {
+    request_with(alloc, line, "", body)
 }
 
 /// A request for the catalog with further lines, and bytes after its head.
@@ -39,8 +46,13 @@ pub fn catalog_with(alloc: Global, lines: &str, rest: &str) -> Result<Vec<u8>, F
     Ok(text.into_bytes())
 }
 
-/// The reply that closes its connection.
-pub fn last_reply(alloc: Global, status: &str, body: &str) -> Result<Vec<u8>, Fail> {
+/// The reply that closes its connection, with further lines behind its length.
+pub fn last_reply_with(
+    alloc: Global,
+    status: &str,
+    lines: &str,
+    body: &str,
+) -> Result<Vec<u8>, Fail> {
     let challenge = if status.starts_with("401") {
         "WWW-Authenticate: Basic realm=\"broker\"\r\n"
     } else {
@@ -48,7 +60,12 @@ pub fn last_reply(alloc: Global, status: &str, body: &str) -> Result<Vec<u8>, Fa
     };
     let length = body.len();
     let text = format!(in alloc;
-        "HTTP/1.1 {status}\r\nContent-Type: application/json\r\nContent-Length: {length}\r\n{challenge}Connection: close\r\n\r\n{body}"
+        "HTTP/1.1 {status}\r\nContent-Type: application/json\r\nContent-Length: {length}\r\n{lines}{challenge}Connection: close\r\n\r\n{body}"
     )?;
     Ok(text.into_bytes())
+}
+
+/// The same without further lines.
+pub fn last_reply(alloc: Global, status: &str, body: &str) -> Result<Vec<u8>, Fail> {
+    last_reply_with(alloc, status, "", body)
 }

@@ -1,4 +1,5 @@
 use Rattle.osb_broker.proofs.ShardLemmas.{shards_apart, shards_keep_out, left_out, runs_one, go_on}
+use Rattle.osb_broker.proofs.ShardExchangeLemmas.{exchanges_one}
 use Rattle.osb_broker.proofs.laws.shards.Goals as goal
 
 pub returns-clause-apart : goal.returns-clause-apart
@@ -15,3 +16,6 @@ returns-clause-one c = runs_one
 
 pub returns-clause-histories : goal.returns-clause-histories
 returns-clause-histories c = go_on
+
+pub returns-clause-exchanges : goal.returns-clause-exchanges
+returns-clause-exchanges c = exchanges_one
