@@ -32,9 +32,9 @@ more by itself.
 An edit has one of three outcomes.
 
 - It is refused: its own function has a goal that shows a wrong result. That is what the function ensures, what a
-  function that it calls requires, an invariant, or a written answer that now proves another statement. The goal is
-  printed. That the search met its limits counts only in a function that passes as it is, past the same holes, within
-  half of them.
+  function that it calls requires, an invariant, or a written answer, or a lemma of it, that now proves another
+  statement. The goal is printed. That the search met its limits counts only in a function that passes as it is, past
+  the same holes, within half of them.
 - It is weak: each such goal met only the limits of the search, or is an answer that names what the edit took away. The
   last lines name the weak ones. More than MOST_WEAK are a fault; with --strict each is.
 - It is a fault of the edit: it is proved, it wasn't tried, or each open goal is one of safety (an index, a sum).

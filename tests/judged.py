@@ -116,6 +116,7 @@ NOTE = "note: src/lib.rt:1:1: what the function ensures (`returns`): {}"
 OPEN = NOTE + "\nfn small::f: no proof; `search` did not prove `returns`"
 ERROR = "./proofs/f/Answers.antt:1:1: error: `returns`: {}"
 WRITTEN = ERROR + "\nfn small::f: not proved; it stands on others; `Rattle.small.proofs.f.Answers.returns` is refused"
+LEMMA_REFUSED = "./proofs/Lemma.antt:1:1: error: `same`: {}\nfn small::f: not proved; it stands on `{}`, which antt refuses"
 PRINTED = {
     Kind.MEANING: OPEN.format("the facts allow values at which this goal is false"),
     Kind.WRITTEN: WRITTEN.format("the two types differ"),
@@ -178,6 +179,9 @@ def try_verdicts():
     """What refuses a function, by what a check prints of it."""
     for kind, printed in PRINTED.items():
         yield f"{kind.value}", Judgement("small", printed).verdict("f").kind, kind
+    for lemma, kind in [("small.proofs.Lemma.same", Kind.WRITTEN), ("std.proofs.Lemma.same", Kind.NOTHING)]:
+        said = LEMMA_REFUSED.format("the two types differ", f"Rattle.{lemma}")
+        yield f"a law that stands on {lemma}", Judgement("small", said).verdict("f").kind, kind
     for count in (edits.MOST_WEAK, edits.MOST_WEAK + 1):
         with contextlib.redirect_stdout(io.StringIO()) as said:
             passes = edits.report(9, edits.Found(weak=[f"weak {it}" for it in range(count)]), edits.MOST_WEAK)

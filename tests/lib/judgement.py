@@ -6,6 +6,7 @@ from dataclasses import dataclass
 
 NOTE = re.compile(r"note: src/\S+: (.*) \(`([^`]+)`\)(.*)")
 ERROR = re.compile(r"\./proofs/(\S+)/(?:Answers|Proof|Invariants)\.antt:\d+:\d+: error: (?:`([^`]+)`: )?(.*)")
+LEMMA = re.compile(r"\./proofs/(\w+)\.antt:\d+:\d+: error: `([^`]+)`: (.*)")
 # What a note says of a goal that shows a wrong result, and how the names of such goals begin where it says nothing.
 SHOWS = re.compile(r"what the function ensures|invariant|requires|`search` found no proof")
 NAMED = ("returns", "loop", "invariant_of")
@@ -59,12 +60,14 @@ class Judgement:
 
     def __init__(self, crate, text):
         self.crate, self.text = crate, text
-        self.said, self.goals, self.answers, goals = {}, {}, {}, {}
+        self.said, self.goals, self.answers, self.lemmas, goals = {}, {}, {}, {}, {}
         for line in text.splitlines():
             if found := NOTE.match(line):
                 goals[found.group(2)] = (found.group(1), found.group(3))
             elif found := ERROR.match(line):
                 self.answers.setdefault(found.group(1).replace("/", "::"), []).append((found.group(2), found.group(3)))
+            elif found := LEMMA.match(line):
+                self.lemmas[f"{found.group(1)}.{found.group(2)}"] = found.group(3)
             elif found := re.match(rf"fn {crate}::(\S+): (.*)", line):
                 self.said[found.group(1)], self.goals[found.group(1)], goals = found.group(2), goals, {}
 
@@ -81,17 +84,22 @@ class Judgement:
         return self.said_of(function).startswith(("no holes", "depends on a hole"))
 
     def open_goals(self, function):
-        """Each goal of the function itself that is open: one that search didn't prove, or an answer of its own that is
-        refused. What it calls plays no part in either."""
+        """Each goal of the function itself that is open: one that search didn't prove, or an answer of its own, or a
+        lemma of that, that is refused. What it calls plays no part in any."""
         said = self.said_of(function)
         if said.startswith("no proof"):
             proved = re.search(r"`search` did not prove (`[^;]*)", said)
             for goal in re.findall(r"`([^`]+)`", proved.group(1)) if proved else []:
                 yield Goal(goal, *self.goals[function].get(goal, ("", "")))
-        own = f"Rattle.{self.crate}.proofs.{function.replace('::', '.')}."
-        if said.startswith("not proved; it stands on") and own in said.partition(";")[2]:
+        if not said.startswith("not proved; it stands on"):
+            return
+        of_crate = f"Rattle.{self.crate}.proofs."
+        if f"{of_crate}{function.replace('::', '.')}." in said:
             for goal, error in self.answers.get(function, []):
                 yield Goal(goal, WRITTEN, error)
+        for name, error in self.lemmas.items():
+            if f"`{of_crate}{name}`" in said:
+                yield Goal(name, WRITTEN, error)
 
     def verdict(self, function):
         """What refuses the function most surely, or else what is said of it and of its open goals."""
