@@ -5,13 +5,12 @@
 #     sh tests/needs.sh               says what is missing, on standard error
 #     sh tests/needs.sh --packages    writes only the packages, for apt-get
 #     sh tests/needs.sh --more        writes those of what the gate passes over where it isn't there
-#     sh tests/needs.sh --lacking     writes the names of that, as the trials have them
 
-packages= names=
+packages=
 what=$1
 
 lacks() {
-    packages="$packages $2" names="$names $1"
+    packages="$packages $2"
     [ -n "$what" ] || echo "make test: missing: $1 (Debian: $2)" >&2
 }
 
@@ -27,7 +26,7 @@ links_libraries() {
     printf '#include <stdlib.h>\nvoid *taken(void) { return malloc(1); }\n' | cc -shared -fPIC -x c -o /dev/null - 2>/dev/null
 }
 
-if [ "$what" = --more ] || [ "$what" = --lacking ]; then
+if [ "$what" = --more ]; then
     has nginx || lacks nginx nginx-light
     has haproxy || lacks haproxy haproxy
     has openssl || lacks openssl openssl
@@ -38,9 +37,9 @@ if [ "$what" = --more ] || [ "$what" = --lacking ]; then
     has runc || lacks runc runc
     has node || lacks node nodejs
     has go || lacks go golang-go
-    ls /usr/lib/postgresql/*/bin/initdb >/dev/null 2>&1 || lacks postgresql postgresql
-    { python3 -c 'import psycopg2' || /usr/bin/python3 -c 'import psycopg2'; } 2>/dev/null || lacks python3-psycopg2 python3-psycopg2
-    [ "$what" = --more ] && echo $packages || echo $names
+    ls /usr/lib/postgresql/*/bin/initdb >/dev/null 2>&1 || lacks PostgreSQL postgresql
+    { python3 -c 'import psycopg2' || /usr/bin/python3 -c 'import psycopg2'; } 2>/dev/null || lacks psycopg2 python3-psycopg2
+    echo $packages
     exit 0
 fi
 
