@@ -14,10 +14,7 @@ use Rattle.osb_catalog.specs.Rules.{Rules}
 use Rattle.osb_orders.specs.Lives.{Lives}
 use Rattle.osb_broker.specs.declared.fault.ServeFault.TheVariants.{Write}
 use Rattle.osb_broker.specs.Answering.{Answers, AnswersOrLost, WritesReply}
-use Rattle.osb_broker.specs.Begun.{GroupsAreConversations, IsWaiting, MatchBegun, SentText}
-use Rattle.osb_broker.specs.declared.begun.Begun.{Begun}
-use Rattle.osb_broker.specs.declared.begun.Begun.TheVariants.{Ended, Waits}
-use Rattle.osb_broker.specs.declared.fault.ServeFault.{ServeFault}
+use Rattle.osb_broker.specs.Begun.{GroupsAreConversations, IsWaiting, SentText}
 use Rattle.osb_broker.specs.Conversations.{Conversation, IsConversation}
 use Rattle.osb_broker.specs.Crashes.{LostAnswer, ServedOrLost}
 use Rattle.osb_broker.specs.Machine.{Answered, Machine, reply_of}
@@ -176,7 +173,3 @@ last_closes_or_lost rules q s t base before now after close answers = elim answe
   | inl whole_answer ↦ last_closes rules q s t base before now after close whole_answer
   | inr both ↦ both.1.closes
 ]
-
-pub begun_weaker : (begun : Begun) (P P' : Result (Unit {0}) ServeFault → Type 0) (Q Q' : Type 0) → ((ended : Result (Unit {0}) ServeFault) → P ended → P' ended) → (Q → Q') → MatchBegun begun P Q → MatchBegun begun P' Q'
-begun_weaker (Ended ended) P P' Q Q' one other is = one ended is
-begun_weaker Waits P P' Q Q' one other is = other is

@@ -1,14 +1,14 @@
 -- Requests that are decided one after the other, and whose changes are made in one transaction.
-use Rattle.std.proofs.Common.{◌≡◌, ◌≢◌, ◌∙◌, ℕ, ◌<◌, ◌+◌, get_or, inl, inr, Bool, true, false, not, bytes_eq, List, [], ◌∷◌, ◌++◌, length, map, take, drop, vec_items, Option, None, Some, unwrap_or, if◌then◌else◌, Result, Ok, Err, OnErr, IfOk, MatchResult, IsTrue, sym, refl, ap, subst, arith}
+use Rattle.std.proofs.Common.{◌≡◌, ◌≢◌, ◌∙◌, ℕ, zero, suc, ◌<◌, ◌≤◌, ◌+◌, ◌==◌, ◌||◌, get_or, inl, inr, Bool, true, false, not, bytes_eq, List, [], ◌∷◌, ◌++◌, length, map, take, drop, vec_items, Option, None, Some, unwrap_or, if◌then◌else◌, Result, Ok, Err, OnErr, IfOk, MatchResult, IsTrue, sym, refl, ap, subst, arith}
 use Rattle.std.specs.Global.{Vec}
 use Rattle.std.specs.Ordering.{nat_cmp, eq_by_cmp}
 use Rattle.std.specs.Cmp.Lexicographic.{slice_cmp, nat_list_cmp_total}
 use Rattle.std.specs.FinMap.{get, insert, get-insert}
 use Rattle.std.proofs.lemmas.Map.Text.{is_eq-slice_cmp}
 use Rattle.std.specs.List.{concat, list_all, AllByRecursion}
-use Rattle.std.proofs.lemmas.Bool.{and_parts, true≢false}
+use Rattle.std.proofs.lemmas.Bool.{and_parts, ne_eqb, true≢false}
 use Rattle.std.proofs.lemmas.Slice.Eq.{bytes_eq-Decides}
-use Rattle.std.proofs.lemmas.List.{append-nil, append_assoc, drop-drop, length-drop, map-append, take_all}
+use Rattle.std.proofs.lemmas.List.{append-nil, append_assoc, drop-drop, length-drop, map-append, nil_from_length, take_all}
 use Rattle.std.proofs.Math.Seq.{take-add}
 use Rattle.sqlite.specs.Tree.{Trees}
 use Rattle.sqlite.specs.Held.{Held, state}
@@ -16,10 +16,11 @@ use Rattle.sqlite.specs.State.{State, HasCleanDisk, Survives}
 use Rattle.sqlite.proofs.StateLemmas.{survives_then, survives_weaker}
 use Rattle.sqlite_trees.specs.declared.store.Store.{Ghosts}
 use Rattle.osb_frames.specs.declared.limits.Limits.{Limits}
-use Rattle.osb_frames.specs.Cuts.{Message, whole, IsFront}
+use Rattle.osb_frames.specs.Cuts as cut
+use Rattle.osb_frames.specs.Cuts.{Message, closes, fault, whole, IsFront, empty, End, ended, closed}
 use Rattle.osb_frames.proofs.FrontLemmas.{front_unique}
 use Rattle.osb_replies.specs.Parts.{refused}
-use Rattle.osb_replies.specs.Text.{reply_text}
+use Rattle.osb_replies.specs.Text.{ReplyParts, reply_text}
 use Rattle.osb_catalog.specs.Rules.{Rules}
 use Rattle.osb_asks.specs.Asks.{ask_of}
 use Rattle.osb_orders.specs.declared.order.Change.{Change}
@@ -40,16 +41,16 @@ use Rattle.osb_broker.specs.declared.prepared.Prepared.{Prepared}
 use Rattle.osb_broker.specs.BrokerState.{IsShut, LivesGo, Works}
 use Rattle.osb_broker.specs.Connection.{Run}
 use Rattle.osb_broker.specs.Crashes.{LeavesLives, LostAnswer, RunOrLost, ServedOrLost}
-use Rattle.osb_broker.specs.Groups.{AreAnswered, Decides, HasAll, IsGroup, IsOfAnother, Joins}
+use Rattle.osb_broker.specs.Groups.{AreAnswered, Decides, HasAll, IsGroup, IsOfAnother, Joins, NoneFollows}
 use Rattle.osb_broker.specs.Inside.{AreAnsweredAlike, EachStays, GivesPrepared, IsOfInstance, LivesStay, ServesEach, ServesMore, Worked}
-use Rattle.osb_broker.specs.Machine.{Machine, reply_of}
+use Rattle.osb_broker.specs.Machine.{Answered, Machine, reply_of}
 use Rattle.osb_broker.specs.Prepared.{after_pending, answer_parts, IsApplicable}
 use Rattle.osb_broker.specs.Served.{RunServed, Served}
 use Rattle.osb_broker.specs.Steps.{capped, machine, needs_lives}
 use Rattle.osb_broker.proofs.CrashLemmas.{leaves_next, leaves_stored, leaves_weaker}
 use Rattle.osb_broker.proofs.LostLemmas.{shown_run}
-use Rattle.osb_broker.proofs.OneByOneLemmas.{text_of_request}
-use Rattle.osb_broker.proofs.RequestLemmas.{asks, broken, Kind, Seen, silent, view}
+use Rattle.osb_broker.proofs.OneByOne.{TextTo, GoesOn, ends, faults, answers, OneByOne}
+use Rattle.osb_broker.proofs.OneByOneLemmas.{alone, at_nothing, in_front, one_by_one, text_of_request}
 use Rattle.osb_broker.proofs.StoreLemmas.{survives_same}
 use Rattle.osb_broker.proofs.WholeLemmas.{taken_next}
 use Rattle.osb_broker.proofs.ShutLemmas.{go_through, is_shut, lives_stay, not_touched, worked_then}
@@ -76,14 +77,14 @@ all_of_others (first ∷ changes) one lives others =
 -- ---- a request that is decided
 
 -- what it is answered, and its change, from all lives that have the same life of its instance
-pub decides : {S E : Type 0} (g : Ghosts S) (rules : Rules) (q : Message) (old new : Held S) (prepared : Prepared) (one : LifeChange) (text : List ℕ) → GivesPrepared {E = E} g rules (ask_of rules q) old new (Ok prepared) → prepared.pending ≡ Some one → text ≡ reply_text (reply_of q true (answer_parts prepared.answer))
-    → Works (state g old) → HasCleanDisk (state g new) → Decides rules q (stored (state g old)) text one
-decides g rules q old new prepared one text gives some is works clean others formed same =
+pub decides : {S E : Type 0} (g : Ghosts S) (rules : Rules) (q : Message) (last : Bool) (old new : Held S) (prepared : Prepared) (one : LifeChange) (text : List ℕ) → GivesPrepared {E = E} g rules (ask_of rules q) old new (Ok prepared) → prepared.pending ≡ Some one → text ≡ reply_text (reply_of q last (answer_parts prepared.answer))
+    → Works (state g old) → HasCleanDisk (state g new) → Decides rules q last (stored (state g old)) text one
+decides g rules q last old new prepared one text gives some is works clean others formed same =
     let names : IsOfInstance (ask_of rules q) (Some one) = subst (IsOfInstance (ask_of rules q)) some gives.names in
     let alike : AreAnsweredAlike rules (ask_of rules q) (stored (state g old)) others =
     subst (λ asked. AreAnsweredAlike rules asked (stored (state g old)) others) (sym names.1) (answers_apart rules others (stored (state g old)) names.0 one.instance names.2 same) in
     let prepares = gives.alike works clean others formed alike in (
-      is ∙ ap (λ answer. reply_text (reply_of q true answer)) prepares.answer,
+      is ∙ ap (λ answer. reply_text (reply_of q last answer)) prepares.answer,
       sym (ap (λ pending. after_pending pending others) some) ∙ prepares.lives_are,
       subst (λ pending. IsApplicable pending others) some prepares.allowed,
     )
@@ -98,17 +99,17 @@ decides_open g rules q old new prepared one gives some clean = by (needs_lives (
 
 -- ---- a group
 
-pub no_group : (rules : Rules) (limits : Limits) (lives : Lives) → IsLives lives → IsGroup rules limits lives [] [] []
-no_group rules limits lives formed = record { answered = refl; made = tt; some = tt; whole = formed }
+pub no_group : (rules : Rules) (limits : Limits) (k : ℕ) (lives : Lives) → IsLives lives → IsGroup rules limits k lives [] [] []
+no_group rules limits k lives formed = record { answered = refl; made = tt; some = tt; whole = formed }
 
-answered_more : (rules : Rules) (limits : Limits) (old mid : Lives) (connections texts : List (List ℕ)) (bytes text : List ℕ) (q : Message) (n : ℕ) → AreAnswered rules limits old connections texts mid → IsFront limits bytes (whole q n) → text ≡ reply_text (reply_of q true ((machine rules).step mid q).0)
-    → AreAnswered rules limits old (connections ++ bytes ∷ []) (texts ++ text ∷ []) ((machine rules).step mid q).1
-answered_more rules limits old mid [] [] bytes text q n is front says =
-    (q, n, front, subst (λ s. text ≡ reply_text (reply_of q true ((machine rules).step s q).0)) is says, ap (λ s. ((machine rules).step s q).1) is)
-answered_more rules limits old mid (one ∷ connections) (other ∷ texts) bytes text q n (r, m, at, told, is) front says =
-    (r, m, at, told, answered_more rules limits ((machine rules).step old r).1 mid connections texts bytes text q n is front says)
-answered_more rules limits old mid [] (other ∷ texts) bytes text q n is front says = absurd is
-answered_more rules limits old mid (one ∷ connections) [] bytes text q n is front says = absurd is
+answered_more : (rules : Rules) (limits : Limits) (k : ℕ) (old mid : Lives) (connections texts : List (List ℕ)) (bytes text : List ℕ) (q : Message) (n : ℕ) → AreAnswered rules limits k old connections texts mid → IsFront limits bytes (whole q n) → NoneFollows k n bytes → text ≡ reply_text (reply_of q (k == 1) ((machine rules).step mid q).0)
+    → AreAnswered rules limits k old (connections ++ bytes ∷ []) (texts ++ text ∷ []) ((machine rules).step mid q).1
+answered_more rules limits k old mid [] [] bytes text q n is front last says =
+    (q, n, front, last, subst (λ s. text ≡ reply_text (reply_of q (k == 1) ((machine rules).step s q).0)) is says, ap (λ s. ((machine rules).step s q).1) is)
+answered_more rules limits k old mid (one ∷ connections) (other ∷ texts) bytes text q n (r, m, at, behind, told, is) front last says =
+    (r, m, at, behind, told, answered_more rules limits k ((machine rules).step old r).1 mid connections texts bytes text q n is front last says)
+answered_more rules limits k old mid [] (other ∷ texts) bytes text q n is front last says = absurd is
+answered_more rules limits k old mid (one ∷ connections) [] bytes text q n is front last says = absurd is
 
 made_more : (changes : List LifeChange) (one : LifeChange) (lives : Lives) → AllCanBeMade changes lives → CanBeMade one (all_changed changes lives) → AllCanBeMade (changes ++ one ∷ []) lives
 made_more [] one lives all here = (here, tt)
@@ -119,8 +120,8 @@ some_more [] one all here = (here, tt)
 some_more (first ∷ changes) one all here = (all.0, some_more changes one all.1 here)
 
 -- with one connection more
-module _ (rules : Rules) (limits : Limits) (lives : Lives) (connections : List (List ℕ)) (bytes : List ℕ) (old new : Group)
-    (group : IsGroup rules limits lives connections (map vec_items old.outputs.items) old.changes.items) (joins : Joins rules limits lives bytes old new) where
+module _ (rules : Rules) (limits : Limits) (k : ℕ) (lives : Lives) (connections : List (List ℕ)) (bytes : List ℕ) (old new : Group)
+    (group : IsGroup rules limits k lives connections (map vec_items old.outputs.items) old.changes.items) (joins : Joins rules limits k lives bytes old new) where
   abbrev one : LifeChange
   one = joins.one
 
@@ -134,23 +135,23 @@ module _ (rules : Rules) (limits : Limits) (lives : Lives) (connections : List (
   after = ((machine rules).step mid joins.q).1
 
   abbrev Grown : List LifeChange → Type 0
-  Grown changes = IsGroup rules limits lives (connections ++ bytes ∷ []) (map vec_items new.outputs.items) changes
+  Grown changes = IsGroup rules limits k lives (connections ++ bytes ∷ []) (map vec_items new.outputs.items) changes
 
-  decided : (joins.output.items ≡ reply_text (reply_of joins.q true ((machine rules).step mid joins.q).0)) × (lives_changed one.change one.instance mid ≡ after) × CanBeMade one mid
+  decided : (joins.output.items ≡ reply_text (reply_of joins.q (k == 1) ((machine rules).step mid joins.q).0)) × (lives_changed one.change one.instance mid ≡ after) × CanBeMade one mid
   decided = joins.decides mid group.whole (all_of_others before one lives joins.apart)
 
   outputs : map vec_items new.outputs.items ≡ map vec_items old.outputs.items ++ joins.output.items ∷ []
   outputs = ap (map vec_items) joins.outputs ∙ map-append vec_items old.outputs.items (joins.output ∷ [])
 
-  answered : AreAnswered rules limits lives (connections ++ bytes ∷ []) (map vec_items new.outputs.items) after
-  answered = subst (λ l. AreAnswered rules limits lives (connections ++ bytes ∷ []) l after) (sym outputs) (answered_more rules limits lives mid connections _ bytes _ joins.q joins.n group.answered joins.front decided.0)
+  answered : AreAnswered rules limits k lives (connections ++ bytes ∷ []) (map vec_items new.outputs.items) after
+  answered = subst (λ l. AreAnswered rules limits k lives (connections ++ bytes ∷ []) l after) (sym outputs) (answered_more rules limits k lives mid connections _ bytes _ joins.q joins.n group.answered joins.front joins.last decided.0)
 
   changes_nothing : one.change ≡ Nothing → Grown new.changes.items
   changes_nothing e =
       let same : new.changes.items ≡ before = joins.none e in
       let still : mid ≡ after = sym (ap (λ c. lives_changed c one.instance mid) e) ∙ decided.1 in
       subst Grown (sym same) (record {
-        answered = subst (AreAnswered rules limits lives (connections ++ bytes ∷ []) (map vec_items new.outputs.items)) (sym still) answered;
+        answered = subst (AreAnswered rules limits k lives (connections ++ bytes ∷ []) (map vec_items new.outputs.items)) (sym still) answered;
         made = group.made;
         some = group.some;
         whole = group.whole;
@@ -161,7 +162,7 @@ module _ (rules : Rules) (limits : Limits) (lives : Lives) (connections : List (
       let grown : new.changes.items ≡ before ++ one ∷ [] = joins.some differs in
       let leads : all_changed (before ++ one ∷ []) lives ≡ lives_changed one.change one.instance mid = changed_more before one lives in
       subst Grown (sym grown) (record {
-        answered = subst (AreAnswered rules limits lives (connections ++ bytes ∷ []) (map vec_items new.outputs.items)) (sym (leads ∙ decided.1)) answered;
+        answered = subst (AreAnswered rules limits k lives (connections ++ bytes ∷ []) (map vec_items new.outputs.items)) (sym (leads ∙ decided.1)) answered;
         made = made_more before one lives group.made decided.2;
         some = some_more before one group.some differs;
         whole = subst IsLives (sym leads) decided.2.0;
@@ -191,13 +192,13 @@ pub all_done : (connections : List (Vec ℕ)) (done : ℕ) → drop done connect
 all_done connections done none = take_all done connections (omega (arith, ap length none, length-drop done connections))
 
 -- with the next of these connections
-pub group_on : (rules : Rules) (limits : Limits) (lives : Lives) (connections : List (Vec ℕ)) (i : ℕ) (connection : Vec ℕ) (old new : Group) → i < length connections → connection ≡ get_or connections i connection
-    → IsGroup rules limits lives (map vec_items (take i connections)) (map vec_items old.outputs.items) old.changes.items → Joins rules limits lives connection.items old new
-    → IsGroup rules limits lives (map vec_items (take (i + 1) connections)) (map vec_items new.outputs.items) new.changes.items
-group_on rules limits lives connections i connection old new low at group joins =
-    subst (λ l. IsGroup rules limits lives l (map vec_items new.outputs.items) new.changes.items)
+pub group_on : (rules : Rules) (limits : Limits) (k : ℕ) (lives : Lives) (connections : List (Vec ℕ)) (i : ℕ) (connection : Vec ℕ) (old new : Group) → i < length connections → connection ≡ get_or connections i connection
+    → IsGroup rules limits k lives (map vec_items (take i connections)) (map vec_items old.outputs.items) old.changes.items → Joins rules limits k lives connection.items old new
+    → IsGroup rules limits k lives (map vec_items (take (i + 1) connections)) (map vec_items new.outputs.items) new.changes.items
+group_on rules limits k lives connections i connection old new low at group joins =
+    subst (λ l. IsGroup rules limits k lives l (map vec_items new.outputs.items) new.changes.items)
     (sym (asked_next connections i connection low at))
-    (group_more rules limits lives (map vec_items (take i connections)) connection.items old new group joins)
+    (group_more rules limits k lives (map vec_items (take i connections)) connection.items old new group joins)
 
 -- one read after another leaves the lives
 pub stays_on : {old mid new : State} → LivesStay old mid → LivesStay mid new → LivesStay old new
@@ -227,39 +228,111 @@ of_others (one ∷ changes) id all =
 
 -- ---- what it comes to
 
-one_served : (rules : Rules) (limits : Limits) (lives : Lives) (bytes text : List ℕ) (q : Message) (n : ℕ) → IsFront limits bytes (whole q n) → text ≡ reply_text (reply_of q true ((machine rules).step lives q).0) → Served (capped rules) limits 1 lives bytes [] text ((machine rules).step lives q).1
-one_served rules limits lives bytes text q n front says =
-    let reply = reply_of q true ((machine rules).step lives q).0 in
-    record {
-      marks = false ∷ [];
-      texts = reply_text reply ∷ [];
-      is = text_of_request (capped rules) limits lives bytes q n false reply ((machine rules).step lives q).1 front (refl, refl);
-      written = says ∙ sym (append-nil (reply_text reply));
-    }
+-- no byte is behind the last
+pub none_behind : (n : ℕ) (bytes : List ℕ) → length bytes ≤ n → drop n bytes ≡ []
+none_behind n bytes last = nil_from_length (drop n bytes) (omega (arith, last, length-drop n bytes))
 
-pub answered_run : (rules : Rules) (limits : Limits) (old : Lives) (connections texts : List (List ℕ)) (new : Lives) → AreAnswered rules limits old connections texts new → RunServed (capped rules) limits 1 old connections texts new
-answered_run rules limits old [] [] new is = record { marks = []; texts = []; is = is; written = refl }
-answered_run rules limits old (bytes ∷ connections) (text ∷ texts) new (q, n, front, says, is) =
-    let one = one_served rules limits old bytes text q n front says in
-    let more = answered_run rules limits ((machine rules).step old q).1 connections texts new is in
+module _ (rules : Rules) (limits : Limits) where
+  -- a connection on which one request is answered, and others might come that don't
+  one_of_more : (k : ℕ) (lives : Lives) (bytes : List ℕ) (q : Message) (n : ℕ) → IsFront limits bytes (whole q n) → length bytes ≤ n → (shut : Bool) → closes q ≡ shut
+      → (end : End) × TextTo (capped rules) limits (suc (suc k)) lives bytes (false ∷ []) (reply_text (reply_of q (suc k == 0) ((machine rules).step lives q).0) ∷ []) end ((machine rules).step lives q).1
+  one_of_more k lives bytes q n front last true shut = (closed, alone (capped rules) limits (suc k) lives bytes q n front (ap (λ c. c || (suc k == 0)) shut))
+  one_of_more k lives bytes q n front last false shut =
+      let none : IsFront limits (drop n bytes) cut.nothing = empty (none_behind n bytes last) refl in
+      (ended, in_front (capped rules) limits (suc k) lives bytes q n [] [] ended ((machine rules).step lives q).1 front shut (at_nothing (capped rules) limits k ((machine rules).step lives q).1 (drop n bytes) none))
+
+  one_served : (k : ℕ) (lives : Lives) (bytes text : List ℕ) (q : Message) (n : ℕ) → IsFront limits bytes (whole q n) → NoneFollows k n bytes → text ≡ reply_text (reply_of q (k == 1) ((machine rules).step lives q).0) → Served (capped rules) limits k lives bytes [] text ((machine rules).step lives q).1
+  one_served k lives bytes text q n front (inl one) says =
+      let reply = reply_of q true ((machine rules).step lives q).0 in
+      let told : text ≡ reply_text reply = says ∙ ap (λ j. reply_text (reply_of q (j == 1) ((machine rules).step lives q).0)) one in
+      subst (λ j. Served (capped rules) limits j lives bytes [] text ((machine rules).step lives q).1) (sym one) (record {
+        marks = false ∷ [];
+        texts = reply_text reply ∷ [];
+        is = text_of_request (capped rules) limits lives bytes q n false reply ((machine rules).step lives q).1 front (refl, refl);
+        written = told ∙ sym (append-nil (reply_text reply));
+      })
+  one_served (suc (suc k)) lives bytes text q n front (inr (more, last)) says =
+      let said : Bool → List ℕ = λ last. reply_text (reply_of q last ((machine rules).step lives q).0) in
+      let same : (suc (suc k) == 1) ≡ (suc k == 0) = ne_eqb (suc (suc k)) 1 (omega arith) ∙ sym (ne_eqb (suc k) 0 (omega arith)) in
+      record {
+        marks = false ∷ [];
+        texts = said (suc k == 0) ∷ [];
+        is = (one_of_more k lives bytes q n front last (closes q) refl).1.0;
+        written = says ∙ ap said same ∙ sym (append-nil (said (suc k == 0)));
+      }
+  one_served (suc zero) lives bytes text q n front (inr (more, last)) says = absurd (one_is_not_more more)
+    where
+      one_is_not_more : suc zero < suc zero → ⊥
+      one_is_not_more more = omega (arith, more)
+  one_served zero lives bytes text q n front (inr (more, last)) says = absurd (none_is_not_more more)
+    where
+      none_is_not_more : suc zero < zero → ⊥
+      none_is_not_more more = omega (arith, more)
+
+pub answered_run : (rules : Rules) (limits : Limits) (k : ℕ) (old : Lives) (connections texts : List (List ℕ)) (new : Lives) → AreAnswered rules limits k old connections texts new → RunServed (capped rules) limits k old connections texts new
+answered_run rules limits k old [] [] new is = record { marks = []; texts = []; is = is; written = refl }
+answered_run rules limits k old (bytes ∷ connections) (text ∷ texts) new (q, n, front, last, says, is) =
+    let one = one_served rules limits k old bytes text q n front last says in
+    let more = answered_run rules limits k ((machine rules).step old q).1 connections texts new is in
     record {
       marks = one.marks ∷ more.marks;
       texts = one.texts ∷ more.texts;
       is = (_, one.is, more.is);
       written = ap (λ l. l ∷ texts) one.written ∙ ap (λ l. concat one.texts ∷ l) more.written;
     }
-answered_run rules limits old [] (text ∷ texts) new is = absurd is
-answered_run rules limits old (bytes ∷ connections) [] new is = absurd is
+answered_run rules limits k old [] (text ∷ texts) new is = absurd is
+answered_run rules limits k old (bytes ∷ connections) [] new is = absurd is
+
+module _ (rules : Rules) (limits : Limits) where
+  -- what was answered where one request is: the fixed 500, and the lives stay, or the machine's reply
+  pub record OneAnswer (k : ℕ) (lives : Lives) (texts : List (List ℕ)) (q : Message) (new : Lives) : Type 0 where
+    pub mark : Bool
+    pub reply : ReplyParts
+    pub answered : Answered (capped rules) q (k == 0) mark lives reply new
+    pub says : texts ≡ reply_text reply ∷ []
+
+  -- nothing is answered of no bytes
+  nothing_more : (k : ℕ) (lives : Lives) (bytes : List ℕ) (marks : List Bool) (texts : List (List ℕ)) (new : Lives) → bytes ≡ [] → OneByOne (capped rules) limits k lives bytes marks texts new → (texts ≡ []) × (new ≡ lives)
+  nothing_more zero lives bytes marks texts new none done = (done.1, done.2)
+  nothing_more (suc k) lives bytes marks texts new none (ends at done) = (done.1, done.2)
+  nothing_more (suc k) lives bytes marks texts new none (faults f at a b c) = let same = front_unique limits bytes (fault f) cut.nothing at (empty none refl) in cc
+  nothing_more (suc k) lives bytes marks texts new none (answers mark text close u later ma ta one em ex goes) = let same = front_unique limits bytes (whole one.q one.n) cut.nothing one.front (empty none refl) in cc
+
+  pub one_answer : (k : ℕ) (lives : Lives) (bytes : List ℕ) (marks : List Bool) (texts : List (List ℕ)) (new : Lives) (q : Message) (n : ℕ) → IsFront limits bytes (whole q n) → NoneFollows (suc k) n bytes → OneByOne (capped rules) limits (suc k) lives bytes marks texts new → OneAnswer k lives texts q new
+  one_answer k lives bytes marks texts new q n front last (ends at done) = let same = front_unique limits bytes cut.nothing (whole q n) at front in cc
+  one_answer k lives bytes marks texts new q n front last (faults f at a b c) = let same = front_unique limits bytes (fault f) (whole q n) at front in cc
+  one_answer k lives bytes marks texts new q n front last (answers mark text close u later ma ta one em ex goes) =
+      let same = front_unique limits bytes (whole one.q one.n) (whole q n) one.front front in
+      let is : one.q ≡ q = cc in
+      let so_many : one.n ≡ n = cc in
+      let behind = done_behind close (one.after ∙ ap (λ l. drop l bytes) so_many) goes in
+      record {
+        mark = mark;
+        reply = one.reply;
+        answered = subst (λ v. Answered (capped rules) q (k == 0) mark lives one.reply v) (sym behind.1) (subst (λ r. Answered (capped rules) r (k == 0) mark lives one.reply u) is one.answered);
+        says = ex ∙ ap (λ l. text ∷ l) behind.0 ∙ ap (λ l. l ∷ []) one.says;
+      }
+    where
+      done_behind : (close : Bool) → later ≡ drop n bytes → GoesOn close (OneByOne (capped rules) limits k u later) u ma ta new → (ta ≡ []) × (new ≡ u)
+      done_behind true is done = (done.1, done.2)
+      done_behind false is more = by last
+        where
+          by : NoneFollows (suc k) n bytes → (ta ≡ []) × (new ≡ u)
+          by (inl only) = let none : k ≡ 0 = omega (arith, only) in let done = subst (λ j. OneByOne (capped rules) limits j u later ma ta new) none more in (done.1, done.2)
+          by (inr (some, short)) = nothing_more k u later ma ta new (is ∙ none_behind n bytes short) more
 
 -- A request of which the output is one that any lives may have, and which leaves them: it was carried out, and its answer
 -- was lost, or it changes nothing.
-lost_one : (rules : Rules) (limits : Limits) (lives : Lives) (bytes output : List ℕ) (q : Message) (n : ℕ) → IsFront limits bytes (whole q n) → Served (capped rules) limits 1 lives bytes [] output lives → ServedOrLost (capped rules) limits 1 lives bytes [] output ((machine rules).step lives q).1
-lost_one rules limits lives bytes output q n front served = by (view rules (λ r. true) limits lives bytes served.marks served.texts lives served.is)
+lost_one : (rules : Rules) (limits : Limits) (k : ℕ) (lives : Lives) (bytes output : List ℕ) (q : Message) (n : ℕ) → IsFront limits bytes (whole q n) → NoneFollows (suc k) n bytes → Served (capped rules) limits (suc k) lives bytes [] output lives → ServedOrLost (capped rules) limits (suc k) lives bytes [] output ((machine rules).step lives q).1
+lost_one rules limits k lives bytes output q n front last served = by it.mark it.answered
   where
     after : Lives
     after = ((machine rules).step lives q).1
 
-    lost : served.texts ≡ reply_text refused ∷ [] → LostAnswer (Ok tt) (capped rules) limits 1 lives bytes [] output lives after
+    it : OneAnswer rules limits k lives served.texts q lives
+    it = one_answer rules limits k lives bytes served.marks served.texts lives q n front last (one_by_one (capped rules) limits (suc k) lives bytes served.marks served.texts lives served.is)
+
+    lost : served.texts ≡ reply_text refused ∷ [] → LostAnswer (Ok tt) (capped rules) limits (suc k) lives bytes [] output lives after
     lost told = record {
       requests = [];
       held = bytes;
@@ -276,25 +349,19 @@ lost_one rules limits lives bytes output q n front served = by (view rules (λ r
       leaves = refl;
     }
 
-    by : ((kind : Kind limits bytes) × Seen rules (λ r. true) limits bytes kind lives served.marks served.texts lives) → ServedOrLost (capped rules) limits 1 lives bytes [] output after
-    by (silent none, seen) = let same = front_unique limits bytes _ (whole q n) none front in cc
-    by (broken f at, seen) = let same = front_unique limits bytes _ (whole q n) at front in cc
-    by (asks r m at, (true, reply, marks, texts, answered)) =
-        record { shown = lives; served = served; is = inr (lost (texts ∙ ap (λ p. reply_text p ∷ []) answered.1)) }
-    by (asks r m at, (false, reply, marks, texts, answered)) =
-        let same = front_unique limits bytes (whole r m) (whole q n) at front in
-        let one : r ≡ q = cc in
-        record { shown = lives; served = served; is = inl (sym (answered.1 ∙ ap (λ p. ((machine rules).step lives p).1) one)) }
+    by : (mark : Bool) → Answered (capped rules) q (k == 0) mark lives it.reply lives → ServedOrLost (capped rules) limits (suc k) lives bytes [] output after
+    by true answered = record { shown = lives; served = served; is = inr (lost (it.says ∙ ap (λ p. reply_text p ∷ []) answered.1)) }
+    by false answered = record { shown = lives; served = served; is = inl (sym answered.1) }
 
 -- all of a group were carried out, and their answers were lost
-all_lost : (rules : Rules) (limits : Limits) (old : Lives) (connections texts outputs : List (List ℕ)) (new : Lives) → AreAnswered rules limits old connections texts new → EachStays (capped rules) limits 1 connections outputs → RunOrLost (capped rules) limits 1 old connections outputs new
-all_lost rules limits old [] [] [] new is stays = is
-all_lost rules limits old (bytes ∷ connections) (text ∷ texts) (output ∷ outputs) new (q, n, front, says, is) stays =
-    (_, lost_one rules limits old bytes output q n front (stays.0 old), all_lost rules limits ((machine rules).step old q).1 connections texts outputs new is stays.1)
-all_lost rules limits old [] (text ∷ texts) outputs new is stays = absurd is
-all_lost rules limits old (bytes ∷ connections) [] outputs new is stays = absurd is
-all_lost rules limits old [] [] (output ∷ outputs) new is stays = absurd stays
-all_lost rules limits old (bytes ∷ connections) (text ∷ texts) [] new is stays = absurd stays
+all_lost : (rules : Rules) (limits : Limits) (k : ℕ) (old : Lives) (connections texts outputs : List (List ℕ)) (new : Lives) → AreAnswered rules limits (suc k) old connections texts new → EachStays (capped rules) limits (suc k) connections outputs → RunOrLost (capped rules) limits (suc k) old connections outputs new
+all_lost rules limits k old [] [] [] new is stays = is
+all_lost rules limits k old (bytes ∷ connections) (text ∷ texts) (output ∷ outputs) new (q, n, front, last, says, is) stays =
+    (_, lost_one rules limits k old bytes output q n front last (stays.0 old), all_lost rules limits k ((machine rules).step old q).1 connections texts outputs new is stays.1)
+all_lost rules limits k old [] (text ∷ texts) outputs new is stays = absurd is
+all_lost rules limits k old (bytes ∷ connections) [] outputs new is stays = absurd is
+all_lost rules limits k old [] [] (output ∷ outputs) new is stays = absurd stays
+all_lost rules limits k old (bytes ∷ connections) (text ∷ texts) [] new is stays = absurd stays
 
 -- ---- connections, and others after them
 
@@ -378,9 +445,9 @@ serves_one {m = m} {limits = limits} {k = k} output served worked leaves = recor
 
 -- ---- a group, committed or given up
 
-module _ {S : Type 0} (g : Ghosts S) (rules : Rules) (limits : Limits) (connections texts : List (List ℕ)) (changes : List LifeChange) (old mid new : Held S)
+module _ {S : Type 0} (g : Ghosts S) (rules : Rules) (limits : Limits) (k : ℕ) (connections texts : List (List ℕ)) (changes : List LifeChange) (old mid new : Held S)
     (stays : LivesStay (state g old) (state g mid)) (live_old : HasCleanDisk (state g mid) → IsTrue (state g old).is_open)
-    (group : Works (state g old) → HasCleanDisk (state g mid) → IsGroup rules limits (stored (state g old)) connections texts changes)
+    (group : Works (state g old) → HasCleanDisk (state g mid) → IsGroup rules limits k (stored (state g old)) connections texts changes)
     (formed : Works (state g old) → IsLives (stored (state g old))) (kept : Works (state g old) → KeepsLives (state g old) (stored (state g old)))
     (works_mid : Works (state g new) → Works (state g mid))
     (crash : Survives (state g mid) (state g new) (Commits (state g mid) (all_changed changes (stored (state g mid))))) where
@@ -434,21 +501,21 @@ module _ {S : Type 0} (g : Ghosts S) (rules : Rules) (limits : Limits) (connecti
               | inr commits ↦ subst (λ l. HoldsLives l db) same commits.holds
             ]
 
-    pub group_serves : ServesEach g (capped rules) limits 1 connections texts old new
+    pub group_serves : ServesEach g (capped rules) limits k connections texts old new
     group_serves = record {
       served = λ before after go. elim go [
         | inl it ↦
             let works = works_mid it.0 in
             let decided = group (stays.works works) works.clean in
             let after_all : after ≡ all_changed changes s = it.2 ∙ ok it.0.clean ∙ leads works.clean works.live in
-            subst (λ l. RunServed (capped rules) limits 1 l connections texts after) (sym it.1) (subst (RunServed (capped rules) limits 1 s connections texts) (sym after_all) (answered_run rules limits s connections texts _ decided.answered))
+            subst (λ l. RunServed (capped rules) limits k l connections texts after) (sym it.1) (subst (RunServed (capped rules) limits k s connections texts) (sym after_all) (answered_run rules limits k s connections texts _ decided.answered))
         | inr it ↦ not_shut it.0 it.1
       ];
       stays = λ clean shut. not_shut clean shut;
       worked = group_worked;
       leaves = λ works clean.
           let decided = group works (clean_mid clean) in
-          let run = shown_run (answered_run rules limits s connections texts _ decided.answered) in
+          let run = shown_run (answered_run rules limits k s connections texts _ decided.answered) in
           record {
             some = (all_changed changes s, run);
             left = λ db may. (all_changed changes s, decided.whole, group_left works clean db may, run);
@@ -456,7 +523,7 @@ module _ {S : Type 0} (g : Ghosts S) (rules : Rules) (limits : Limits) (connecti
     }
 
   -- it was given up
-  pub group_given_up : Works (state g old) → Survives (state g old) (state g new) (HasAll rules limits (state g old) connections)
+  pub group_given_up : Works (state g old) → Survives (state g old) (state g new) (HasAll rules limits k (state g old) connections)
   group_given_up works = survives_then (state g old) (state g mid) (state g new) _ _ _ (λ clean db none. absurd none)
       (λ clean db commits.
       let same = leads (clean_mid clean) commits.was_open in
@@ -468,11 +535,18 @@ module _ {S : Type 0} (g : Ghosts S) (rules : Rules) (limits : Limits) (connecti
       })
       stays.crash crash
 
+lost_of_some : (rules : Rules) (limits : Limits) (k : ℕ) → 0 < k → (old : Lives) (connections texts outputs : List (List ℕ)) (new : Lives) → AreAnswered rules limits k old connections texts new → EachStays (capped rules) limits k connections outputs → RunOrLost (capped rules) limits k old connections outputs new
+lost_of_some rules limits (suc k) some = all_lost rules limits k
+lost_of_some rules limits zero some = absurd (none some)
+  where
+    none : zero < zero → ⊥
+    none some = omega (arith, some)
+
 -- connections of which a group was given up, and that were served one after the other
-pub serves_after : {S : Type 0} (g : Ghosts S) (rules : Rules) (limits : Limits) (connections outputs : List (List ℕ)) (old mid new : Held S) → (Works (state g old) → KeepsLives (state g old) (stored (state g old))) → (Works (state g old) → IsLives (stored (state g old)))
-    → Worked (state g old) (state g mid) → (Works (state g mid) → stored (state g mid) ≡ stored (state g old)) → (Works (state g old) → Survives (state g old) (state g mid) (HasAll rules limits (state g old) connections))
-    → ServesEach g (capped rules) limits 1 connections outputs mid new → ServesEach g (capped rules) limits 1 connections outputs old new
-serves_after {S} g rules limits connections outputs old mid new kept formed worked same crash serves = record {
+pub serves_after : {S : Type 0} (g : Ghosts S) (rules : Rules) (limits : Limits) (k : ℕ) (some : 0 < k) (connections outputs : List (List ℕ)) (old mid new : Held S) → (Works (state g old) → KeepsLives (state g old) (stored (state g old))) → (Works (state g old) → IsLives (stored (state g old)))
+    → Worked (state g old) (state g mid) → (Works (state g mid) → stored (state g mid) ≡ stored (state g old)) → (Works (state g old) → Survives (state g old) (state g mid) (HasAll rules limits k (state g old) connections))
+    → ServesEach g (capped rules) limits k connections outputs mid new → ServesEach g (capped rules) limits k connections outputs old new
+serves_after {S} g rules limits k some connections outputs old mid new kept formed worked same crash serves = record {
   served = λ before after go. elim go [
     | inl it ↦ serves.served before after (inl (it.0, it.1 ∙ sym (same (serves.worked.works it.0)), it.2))
     | inr it ↦ serves.served before after (inr (it.0, shut_mid it.0 it.1, it.2))
@@ -485,10 +559,10 @@ serves_after {S} g rules limits connections outputs old mid new kept formed work
     shut_mid : HasCleanDisk (state g new) → IsShut (state g old) → IsShut (state g mid)
     shut_mid clean shut = is_shut (state g old) (state g mid) worked.works (serves.worked.clean clean) shut
 
-    by : Works (state g old) → HasCleanDisk (state g new) → (b : Bool) → (state g mid).is_open ≡ b → LeavesLives (state g new) (λ lives. RunOrLost (capped rules) limits 1 (stored (state g old)) connections outputs lives)
+    by : Works (state g old) → HasCleanDisk (state g new) → (b : Bool) → (state g mid).is_open ≡ b → LeavesLives (state g new) (λ lives. RunOrLost (capped rules) limits k (stored (state g old)) connections outputs lives)
     by works clean true live =
         let both : Works (state g mid) = record { clean = serves.worked.clean clean; live = live } in
-        leaves_weaker (λ lives run. subst (λ l. RunOrLost (capped rules) limits 1 l connections outputs lives) (same both) run) (serves.leaves both clean)
+        leaves_weaker (λ lives run. subst (λ l. RunOrLost (capped rules) limits k l connections outputs lives) (same both) run) (serves.leaves both clean)
     by works clean false shut =
         let stay = serves.stays clean shut in
         let still = shown_run (serves.served (stored (state g old)) (stored (state g old)) (inr (clean, shut, refl))) in
@@ -497,7 +571,7 @@ serves_after {S} g rules limits connections outputs old mid new kept formed work
           left = λ db may. elim (serves.worked.crash.crash clean db may) [
             | inl was ↦ elim ((crash works).crash (serves.worked.clean clean) db was) [
               | inl earlier ↦ (stored (state g old), formed works, kept works db earlier, still)
-              | inr all ↦ (all.lives, all.commits.whole, all.commits.holds, all_lost rules limits (stored (state g old)) connections all.texts outputs all.lives all.answered stay)
+              | inr all ↦ (all.lives, all.commits.whole, all.commits.holds, lost_of_some rules limits k some (stored (state g old)) connections all.texts outputs all.lives all.answered stay)
             ]
             | inr live ↦ let both : true ≡ false = sym live ∙ shut in absurd (true≢false both)
           ];

@@ -19,6 +19,7 @@ mod HandleLemmas
 mod LateLemmas
 mod GroupLemmas
 mod BegunLemmas
+mod OpenLemmas
 mod FailureLemmas
 mod RefusalLemmas
 mod RequestLemmas
@@ -34,6 +35,7 @@ mod ConversationLemmas
 mod RepliedLemmas
 mod ExchangeLemmas
 mod ExchangeGroupLemmas
+mod OpenGroupLemmas
 mod AskedLemmas
 mod AskedCountLemmas
 mod ShardLemmas

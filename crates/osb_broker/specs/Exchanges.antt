@@ -1,6 +1,6 @@
 -- What was said with clients that are connected at the same time, one request after the other, over stops and starts of
 -- the program.
-use Rattle.std.specs.Prelude.{◌≡◌, ◌⊎◌, ℕ, suc, ◌+◌, ◌<◌, Bool, true, false, List, [], ◌∷◌, ◌++◌, length, map, Result, Ok, Err}
+use Rattle.std.specs.Prelude.{◌≡◌, ◌≢◌, ◌⊎◌, ℕ, suc, ◌+◌, ◌<◌, Bool, true, false, List, [], ◌∷◌, ◌++◌, length, map, Result, Ok, Err}
 use Rattle.std.specs.List.{concat}
 use Rattle.osb_frames.specs.declared.limits.Limits.{Limits}
 use Rattle.osb_frames.specs.Calls.{all_bytes}
@@ -10,9 +10,10 @@ use Rattle.osb_replies.specs.Text.{ReplyParts, reply_text}
 use Rattle.osb_replies.specs.Parts.{refused}
 use Rattle.osb_catalog.specs.Rules.{Rules}
 use Rattle.osb_orders.specs.Lives.{Lives}
-use Rattle.osb_broker.specs.Begun.{IsWaiting, SentText}
+use Rattle.osb_broker.specs.Begun.{IsWaiting, MayStay, SentText}
+use Rattle.osb_broker.specs.Crashes.{RunOrLost}
 use Rattle.osb_broker.specs.Machine.{Machine, Handled, reply_of}
-use Rattle.osb_broker.specs.Steps.{machine}
+use Rattle.osb_broker.specs.Steps.{capped, machine}
 use Rattle.osb_broker.specs.Served.{Served}
 use Rattle.osb_broker.specs.Serving.{EachGaveBytes, EachWasNeeded, WritesText}
 use Rattle.osb_broker.specs.Conversations.{Conversation, IsConversation, AreConversations}
@@ -156,4 +157,33 @@ abbrev pub GroupsAreExchanges : Type 0
 GroupsAreExchanges = (rules : Rules) (limits : Limits) (k : ℕ) (old : Lives)
     (exchanges : List Exchange) (new : Lives) →
     WereAnsweredTogether rules limits k old exchanges new →
+    AreExchanges rules limits k old exchanges new
+
+-- A request of the client waited behind which another may come. It was sent a text, or its first
+-- bytes, and it stays unless that is the fixed 500 or a write failed.
+pub record WasSentOpen (rules : Rules) (limits : Limits) (k : ℕ) (bytes text : List ℕ)
+    (x : Exchange) : Type 0 where
+  pub left : ℕ
+  pub count : x.before + left ≡ k
+  pub needed : EachWasNeeded limits 1 (limits.head + limits.body) x.said.calls
+  pub waits : MayStay rules limits left x.said.calls bytes
+  pub sent : SentText text x.said
+  pub stays : x.stays ≡ true → (text ≢ reply_text refused) × (x.said.failed ≡ 0)
+  pub ends : x.stays ≡ false → (text ≡ reply_text refused) ⊎ (0 < x.said.failed)
+
+-- so it is of each of these
+abbrev pub WereSentOpen : Rules → Limits → ℕ → List (List ℕ) → List (List ℕ) → List Exchange →
+    Type 0
+WereSentOpen rules limits k [] [] [] = Unit {0}
+WereSentOpen rules limits k (bytes ∷ connections) (text ∷ texts) (x ∷ exchanges) =
+    WasSentOpen rules limits k bytes text x
+    × WereSentOpen rules limits k connections texts exchanges
+WereSentOpen rules limits k _ _ _ = ⊥
+
+-- where the texts are those of connections on each of which two requests may come
+abbrev pub OpenGroupsAreExchanges : Type 0
+OpenGroupsAreExchanges = (rules : Rules) (limits : Limits) (k : ℕ) (old new : Lives)
+    (connections texts : List (List ℕ)) (exchanges : List Exchange) →
+    WereSentOpen rules limits k connections texts exchanges →
+    RunOrLost (capped rules) limits 2 old connections texts new →
     AreExchanges rules limits k old exchanges new

@@ -1,5 +1,5 @@
 -- What a call does to records that are lent to it, for each kind of call. For contracts inside the crate.
-use Rattle.std.specs.Prelude.{◌≡◌, ◌≢◌, ℕ, ◌≤◌, Bool, true, false, List, [], ◌∷◌, ◌++◌, map, vec_items, Option, None, Some, Result, Ok, Err, IfOk, OnOk, OnErr, IsTrue, vec_len, vec_capacity}
+use Rattle.std.specs.Prelude.{◌≡◌, ◌≢◌, ℕ, ◌<◌, ◌≤◌, Bool, true, false, List, [], ◌∷◌, ◌++◌, map, vec_items, Option, None, Some, Result, Ok, Err, IfOk, OnOk, OnErr, IsTrue, vec_len, vec_capacity}
 use Rattle.std.specs.Global.{Vec}
 use Rattle.sqlite.specs.Tree.{Trees}
 use Rattle.sqlite.specs.Held.{Held, state}
@@ -9,6 +9,7 @@ use Rattle.osb_frames.specs.declared.limits.Limits.{Limits}
 use Rattle.osb_frames.specs.Cuts.{Message, closes}
 use Rattle.osb_replies.specs.declared.reply.Reply.{Reply}
 use Rattle.osb_replies.specs.Parts.{parts, refused}
+use Rattle.osb_replies.specs.declared.write.WriteFault.{WriteFault}
 use Rattle.osb_replies.specs.Text.{ReplyParts}
 use Rattle.osb_catalog.specs.Rules as catalog
 use Rattle.osb_asks.specs.declared.ask.Ask.{Ask}
@@ -25,6 +26,9 @@ use Rattle.osb_laws.specs.Failures.{is_500}
 use Rattle.osb_broker.specs.declared.setup.Setup.{Setup}
 use Rattle.osb_broker.specs.declared.prepared.Prepared.{Prepared}
 use Rattle.osb_broker.specs.BrokerState.{IsShut, LivesGo, Works}
+use Rattle.osb_broker.specs.declared.fault.ServeFault.{ServeFault}
+use Rattle.osb_broker.specs.declared.fault.ServeFault.TheVariants.{Write}
+use Rattle.osb_broker.specs.Answering.{Answers, AnswersOrLost}
 use Rattle.osb_broker.specs.Crashes.{LeavesLives, RunOrLost}
 use Rattle.osb_broker.specs.Machine.{Answered, Handled, Machine, MayReply, reply_of}
 use Rattle.osb_broker.specs.Served.{RunServed, Served}
@@ -177,3 +181,21 @@ pub record ServesMore {S : Type 0} (g : Ghosts S) (machine : Machine Lives) (lim
   pub more : List (Vec ℕ)
   pub follow : is ≡ was ++ more
   pub serves : ServesEach g machine limits k connections (map vec_items more) old new
+
+-- how a connection ended, by how the reply to its last request was written
+abbrev pub EndsBy : Result (Unit {0}) ServeFault → Result Bool WriteFault → Type 0
+EndsBy (Ok x) (Ok close) = close ≡ true
+EndsBy (Err Write) (Err fault) = Unit {0}
+EndsBy _ _ = ⊥
+
+-- A request was handled, and its reply was written or begun.
+pub record IsRepliedTo {S : Type 0} (g : Ghosts S) (rules : catalog.Rules) (q : Message)
+    (last : Bool) (old new : Held S) (base : List ℕ) (before : ℕ) (now : List ℕ) (after : ℕ)
+    (written : Result Bool WriteFault) : Type 0 where
+  pub answers : (s t : Lives) → LivesGo (state g old) (state g new) s t →
+      Answers (machine rules) q last s t base before now after written
+  pub leaves : Works (state g old) → HasCleanDisk (state g new) →
+      LeavesLives (state g new) (λ lives. AnswersOrLost (machine rules) q last
+      (stored (state g old)) lives base before now after written)
+  pub ok : OnOk written (after ≡ before)
+  pub err : OnErr written (before < after)

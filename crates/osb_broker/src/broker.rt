@@ -1,6 +1,6 @@
 //! The broker and its public calls, each a short call of what `Setup` does to the records.
 
-ghost use Rattle.std.specs.Prelude.{◌≡◌, ◌≢◌, ◌≤◌, ◌⊎◌, length, true, false, IfOk, IfErr};
+ghost use Rattle.std.specs.Prelude.{◌≡◌, ◌≢◌, ◌<◌, ◌≤◌, ◌⊎◌, length, true, false, IfOk, IfErr};
 ghost use Rattle.sqlite.specs.Held.{state};
 ghost use Rattle.sqlite.specs.State.{HasCleanDisk, Survives};
 ghost use Rattle.osb_frames.specs.Cuts.{closes};
@@ -102,6 +102,14 @@ impl<'s, S: Alter> Broker<'s, S> {
         ensures crash { Survives (store_of S.Store self.entry) (state S.Store result) (λ _. ⊥) }
     {
         self.records
+    }
+
+    /// How many requests of a connection are answered at most.
+    pub fn per_connection(&self) -> u32
+        ensures most { result ≡ most_of self.now }
+        ensures some { 0 < result }
+    {
+        self.setup.per_connection.number
     }
 
     /// How many requests were answered by the fixed 500 since this was last called, for each cause.

@@ -16,6 +16,7 @@ ghost use Rattle.osb_broker.specs.BrokerState.{Works};
 ghost use Rattle.osb_broker.specs.Groups.{Decides, HasAll, IsGroup, IsOfAnother, Joins};
 
 use crate::answer::reply_to;
+use crate::per_connection::PerConnection;
 use crate::prepared::Prepared;
 use crate::setup::Setup;
 use osb_asks::Id;
@@ -121,11 +122,12 @@ impl Setup<'_> {
         &self,
         records: &mut Records<S>,
         request: &Request<'_>,
+        last: bool,
         changes: &[LifeChange],
     ) -> Option<(Vec<u8>, LifeChange)>
         ensures decides { Works (state S.Store records.old) →
             HasCleanDisk (state S.Store records.new) → IfSome result (λ decided.
-            Decides (given_rules self.now) (message request.now)
+            Decides (given_rules self.now) (message request.now) last
             (stored (state S.Store records.old)) decided.0.items decided.1) }
         ensures apart { IfSome result (λ decided. IsOfAnother decided.1 changes.now) }
         ensures open { HasCleanDisk (state S.Store records.new) →
@@ -141,26 +143,27 @@ impl Setup<'_> {
         if !are_of_others(changes, &change.instance) {
             return None;
         }
-        match text_of(self.alloc, &reply_to(request, true, answer)) {
+        match text_of(self.alloc, &reply_to(request, last, answer)) {
             Ok(output) => Some((output, change)),
             Err(_) => None,
         }
     }
 
-    /// Decides the request of a connection, and takes it into a group that has room for it. Whether it
-    /// was taken.
+    /// Decides the request of a connection on which no other can be answered, and takes it into a
+    /// group that has room for it. Whether it was taken.
     fn join<S: Alter>(
         &self,
         records: &mut Records<S>,
         limits: &Limits,
+        most: PerConnection,
         bytes: &[u8],
         group: &mut Group,
     ) -> bool
         requires { vec_len group.old.outputs < vec_capacity group.old.outputs }
         ensures joins { Works (state S.Store records.old) →
             HasCleanDisk (state S.Store records.new) → result ≡ true →
-            Joins (given_rules self.now) limits.now (stored (state S.Store records.old))
-            bytes.now group.old group.new }
+            Joins (given_rules self.now) limits.now most.number
+            (stored (state S.Store records.old)) bytes.now group.old group.new }
         ensures count { result ≡ true →
             vec_len group.new.outputs ≡ vec_len group.old.outputs + 1 }
         ensures same { result ≡ false → (vec_len group.new.outputs ≡ vec_len group.old.outputs)
@@ -174,10 +177,13 @@ impl Setup<'_> {
         ensures stays { LivesStay (state S.Store records.old) (state S.Store records.new) }
     {
         let mut lines = NO_LINES;
-        let Step::Whole(request, _) = next(bytes, true, limits, &mut lines) else {
+        let Step::Whole(request, used) = next(bytes, true, limits, &mut lines) else {
             return false;
         };
-        match self.decided_apart(records, &request, &group.changes) {
+        if most.number > 1 && used < bytes.len() {
+            return false;
+        }
+        match self.decided_apart(records, &request, most.number == 1, &group.changes) {
             Some((output, change)) => group.add(output, change),
             None => false,
         }
@@ -188,13 +194,15 @@ impl Setup<'_> {
         &self,
         records: &mut Records<S>,
         limits: &Limits,
+        most: PerConnection,
         connections: &[Vec<u8>],
     ) -> Result<Group, AllocError>
         ensures inside { IfOk result (λ group.
             vec_len group.outputs ≤ length connections.now) }
         ensures decided { Works (state S.Store records.old) →
             HasCleanDisk (state S.Store records.new) → IfOk result (λ group.
-            IsGroup (given_rules self.now) limits.now (stored (state S.Store records.old))
+            IsGroup (given_rules self.now) limits.now most.number
+            (stored (state S.Store records.old))
             (map vec_items (take (vec_len group.outputs) connections.now))
             (map vec_items group.outputs.items) group.changes.items) }
         ensures open { HasCleanDisk (state S.Store records.new) → IfOk result (λ group.
@@ -209,19 +217,21 @@ impl Setup<'_> {
             changes: Vec::new(self.alloc),
         };
         for connection in connections {
-            if !self.join(records, limits, connection, &mut group) {
+            if !self.join(records, limits, most, connection, &mut group) {
                 return Ok(group);
             }
         }
         Ok(group)
     }
 
-    /// Serves the first so many of these connections, one request each, and makes all of their changes in
-    /// one transaction. Otherwise the lives stay, and so many are to be served one after the other.
+    /// Serves the first so many of these connections, on each of which one request is answered, and
+    /// makes all of their changes in one transaction. Otherwise the lives stay, and so many are to
+    /// be served one after the other.
     pub(crate) fn serve_group<S: Alter>(
         &self,
         records: &mut Records<S>,
         limits: &Limits,
+        most: PerConnection,
         connections: &[Vec<u8>],
     ) -> Result<Vec<Vec<u8>>, usize>
         requires { 0 < length connections.now }
@@ -230,18 +240,19 @@ impl Setup<'_> {
             (λ outputs. vec_len outputs ≤ length connections.now)
             (λ count. count ≤ length connections.now) }
         ensures served { IfOk result (λ outputs. ServesEach S.Store (capped (given_rules self.now))
-            limits.now 1 (map vec_items (take (vec_len outputs) connections.now))
+            limits.now most.number (map vec_items (take (vec_len outputs) connections.now))
             (map vec_items outputs.items) records.old records.new) }
         ensures undone { Works (state S.Store records.new) → OnErr result
             (stored (state S.Store records.new) ≡ stored (state S.Store records.old)) }
         ensures worked { Worked (state S.Store records.old) (state S.Store records.new) }
         ensures crash { IfErr result (λ count. Works (state S.Store records.old) →
             Survives (state S.Store records.old) (state S.Store records.new)
-            (HasAll (given_rules self.now) limits.now (state S.Store records.old)
+            (HasAll (given_rules self.now) limits.now most.number (state S.Store records.old)
             (map vec_items (take count connections.now)))) }
     {
         records.lives_are_whole();
-        let Ok(Group { outputs, changes }) = self.decide_group(records, limits, connections) else {
+        let Ok(Group { outputs, changes }) = self.decide_group(records, limits, most, connections)
+        else {
             return Err(1);
         };
         let count = outputs.len();

@@ -22,7 +22,7 @@ ghost use Rattle.osb_broker.specs.Counted.{RequestsOpenOne};
 ghost use Rattle.osb_broker.specs.Conversations.{EpisodesAreHistories, EpisodesGoOn};
 ghost use Rattle.osb_broker.specs.Begun.{GroupsAreConversations};
 ghost use Rattle.osb_broker.specs.Replied.{RepliedRequestsActOnce, SentRequestsActAtMostOnce};
-ghost use Rattle.osb_broker.specs.Exchanges.{OneRequestEach, ConnectionsByThemselves, GroupsAreExchanges, RunsGoOn};
+ghost use Rattle.osb_broker.specs.Exchanges.{OneRequestEach, ConnectionsByThemselves, GroupsAreExchanges, OpenGroupsAreExchanges, RunsGoOn};
 ghost use Rattle.osb_broker.specs.Asked.{AskedAgainActsOnce, AskedAgainActsAtMostOnce, AskedAgainOpensOne};
 ghost use Rattle.osb_broker.specs.Shards.{ShardsAreApart, ShardsKeepOut, UnnamedMayBeLeftOut, ShardsAreOne, HistoriesAreOne, ExchangesAreOne};
 ghost use Rattle.osb_broker.specs.Errors.{ErrorsStay};
@@ -230,6 +230,7 @@ pub fn exchanges()
     ensures one_each { OneRequestEach }
     ensures alone { ConnectionsByThemselves }
     ensures groups { GroupsAreExchanges }
+    ensures open_groups { OpenGroupsAreExchanges }
     ensures runs { RunsGoOn }
     ensures once { AskedAgainActsOnce }
     ensures most { AskedAgainActsAtMostOnce }

@@ -1,7 +1,7 @@
 //! The replies to framing faults.
 
-ghost use Rattle.std.specs.Prelude.{◌≡◌, ◌<◌, length, OnErr, IfErr};
-ghost use Rattle.osb_replies.specs.Parts.{parts};
+ghost use Rattle.std.specs.Prelude.{◌≡◌, ◌≢◌, ◌<◌, length, true, false, OnErr, IfErr};
+ghost use Rattle.osb_replies.specs.Parts.{parts, refused};
 ghost use Rattle.osb_replies.specs.Text.{reply_text};
 ghost use Rattle.osb_replies.specs.Written.{WroteFirst};
 ghost use Rattle.osb_broker.specs.Machine.{error_of, fault_reply};
@@ -29,6 +29,18 @@ fn fault_reply(kind: StopKind) -> Reply<'static>
     ensures { parts result ≡ fault_reply kind }
 {
     error_of(kind).reply(None, true)
+}
+
+/// The text of the reply to a request for which memory or the store was refused.
+const FIXED_500: &[u8] =
+    b"HTTP/1.1 500 Internal Server Error\r\nContent-Type: application/json\r\nContent-Length: 2\r\nConnection: close\r\n\r\n{}";
+
+/// Whether a text is that of the fixed 500.
+pub fn is_fixed_500(text: &[u8]) -> bool
+    ensures yes { result ≡ true → text.now ≡ reply_text refused }
+    ensures no { result ≡ false → text.now ≢ reply_text refused }
+{
+    text == FIXED_500
 }
 
 /// Writes the reply to a framing fault.

@@ -18,6 +18,7 @@ ghost use Rattle.osb_broker.specs.Inside.{IsBlank, ServesMore};
 
 use crate::broker::Broker;
 use crate::laws::never_fails;
+use crate::per_connection::PerConnection;
 use crate::refuse::refuse;
 use crate::setup::Setup;
 use osb_asks::laws::valid_texts;
@@ -96,26 +97,27 @@ impl Setup<'_> {
         &self,
         records: &mut Records<S>,
         limits: &Limits,
+        most: PerConnection,
         bytes: &[u8],
         output: &mut InMemory,
     )
         requires { 512 ≤ room_of output.old }
         ensures served { (before after : Lives) →
             LivesGo (state S.Store records.old) (state S.Store records.new) before after →
-            Served (capped (given_rules self.now)) limits.now (given_most self.now) before
+            Served (capped (given_rules self.now)) limits.now most.number before
             bytes.now
             (bytes_of output.old) (bytes_of output.new) after }
         ensures worked { Worked (state S.Store records.old) (state S.Store records.new) }
         ensures leaves { Works (state S.Store records.old) →
             HasCleanDisk (state S.Store records.new) →
             LeavesLives (state S.Store records.new) (λ lives.
-            ServedOrLost (capped (given_rules self.now)) limits.now (given_most self.now)
+            ServedOrLost (capped (given_rules self.now)) limits.now most.number
             (stored (state S.Store records.old)) bytes.now
             (bytes_of output.old) (bytes_of output.new) lives) }
     {
         records.lives_are_whole();
         let mut rest = bytes;
-        let mut left = self.per_connection.number;
+        let mut left = most.number;
         let mut lines = NO_LINES;
         while left > 0 {
             match next(rest, true, limits, &mut lines) {
@@ -142,24 +144,25 @@ impl Setup<'_> {
         &self,
         records: &mut Records<S>,
         limits: &Limits,
+        most: PerConnection,
         bytes: &[u8],
         blank: Vec<u8>,
     ) -> Vec<u8>
         requires { IsBlank blank }
         ensures served { (before after : Lives) →
             LivesGo (state S.Store records.old) (state S.Store records.new) before after →
-            Served (capped (given_rules self.now)) limits.now (given_most self.now) before
+            Served (capped (given_rules self.now)) limits.now most.number before
             bytes.now
             [] result.items after }
         ensures worked { Worked (state S.Store records.old) (state S.Store records.new) }
         ensures leaves { Works (state S.Store records.old) →
             HasCleanDisk (state S.Store records.new) →
             LeavesLives (state S.Store records.new) (λ lives.
-            ServedOrLost (capped (given_rules self.now)) limits.now (given_most self.now)
+            ServedOrLost (capped (given_rules self.now)) limits.now most.number
             (stored (state S.Store records.old)) bytes.now [] result.items lives) }
     {
         let mut output = InMemory::new(blank);
-        self.serve_into(records, limits, bytes, &mut output);
+        self.serve_into(records, limits, most, bytes, &mut output);
         output.into_bytes()
     }
 
@@ -169,6 +172,7 @@ impl Setup<'_> {
         &self,
         records: &mut Records<S>,
         limits: &Limits,
+        most: PerConnection,
         connection: &[u8],
         blanks: &mut Vec<Vec<u8>>,
         outputs: &mut Vec<Vec<u8>>,
@@ -181,11 +185,11 @@ impl Setup<'_> {
         ensures count { vec_len outputs.new ≡ vec_len outputs.old + 1 }
         ensures room { vec_capacity outputs.old ≤ vec_capacity outputs.new }
         ensures serves { ServesMore S.Store (capped (given_rules self.now)) limits.now
-            (given_most self.now) (connection.now ∷ []) outputs.old.items outputs.new.items
+            most.number (connection.now ∷ []) outputs.old.items outputs.new.items
             records.old records.new }
     {
         if let Some(blank) = blanks.pop() {
-            let output = self.output_of(records, limits, connection, blank);
+            let output = self.output_of(records, limits, most, connection, blank);
             let _ = outputs.push(output);
         }
     }
@@ -195,6 +199,7 @@ impl Setup<'_> {
         &self,
         records: &mut Records<S>,
         limits: &Limits,
+        most: PerConnection,
         connections: &[Vec<u8>],
         blanks: &mut Vec<Vec<u8>>,
         outputs: &mut Vec<Vec<u8>>,
@@ -208,12 +213,12 @@ impl Setup<'_> {
         ensures count { vec_len outputs.new ≡ vec_len outputs.old + length connections.now }
         ensures room { vec_capacity outputs.old ≤ vec_capacity outputs.new }
         ensures serves { ServesMore S.Store (capped (given_rules self.now)) limits.now
-            (given_most self.now) (map vec_items connections.now)
+            most.number (map vec_items connections.now)
             outputs.old.items outputs.new.items records.old records.new }
     {
         records.lives_are_whole();
         for connection in connections {
-            self.serve_alone(records, limits, connection, blanks, outputs);
+            self.serve_alone(records, limits, most, connection, blanks, outputs);
         }
     }
 
@@ -223,11 +228,11 @@ impl Setup<'_> {
         &self,
         records: &mut Records<S>,
         limits: &Limits,
+        most: PerConnection,
         connections: &[Vec<u8>],
         blanks: &mut Vec<Vec<u8>>,
         outputs: &mut Vec<Vec<u8>>,
     ) -> usize
-        requires one { given_most self.now ≡ 1 }
         requires some { 0 < length connections.now }
         requires blank { AllByRecursion IsBlank blanks.old.items }
         requires enough { length connections.now ≤ length blanks.old.items }
@@ -238,71 +243,55 @@ impl Setup<'_> {
         ensures fewer { length blanks.old.items ≤ length blanks.new.items + result }
         ensures count { vec_len outputs.new ≡ vec_len outputs.old + result }
         ensures room { vec_capacity outputs.old ≤ vec_capacity outputs.new }
-        ensures serves { ServesMore S.Store (capped (given_rules self.now)) limits.now 1
+        ensures serves { ServesMore S.Store (capped (given_rules self.now)) limits.now most.number
             (map vec_items (take result connections.now))
             outputs.old.items outputs.new.items records.old records.new }
     {
         records.lives_are_whole();
-        match self.serve_group(records, limits, connections) {
+        match self.serve_group(records, limits, most, connections) {
             Ok(mut made) => {
                 let count = made.len();
                 let _ = outputs.append(&mut made);
                 count
             }
             Err(count) => {
-                self.serve_singly(records, limits, &connections[..count], blanks, outputs);
+                self.serve_singly(
+                    records,
+                    limits,
+                    most,
+                    &connections[..count],
+                    blanks,
+                    outputs,
+                );
                 count
             }
         }
     }
 
-    /// Serves connections of one request each, those that can be as groups.
-    fn serve_groups<S: Alter>(
+    /// Serves connections, those of one request that can be as groups, into outputs that have room
+    /// for them, and for a fixed reply to each.
+    pub(crate) fn serve_groups<S: Alter>(
         &self,
         records: &mut Records<S>,
         limits: &Limits,
+        most: PerConnection,
         connections: &[Vec<u8>],
         blanks: &mut Vec<Vec<u8>>,
         outputs: &mut Vec<Vec<u8>>,
     )
-        requires one { given_most self.now ≡ 1 }
         requires blank { AllByRecursion IsBlank blanks.old.items }
         requires enough { length connections.now ≤ length blanks.old.items }
         requires room { vec_len outputs.old + length connections.now ≤ vec_capacity outputs.old }
         ensures count { vec_len outputs.new ≡ vec_len outputs.old + length connections.now }
-        ensures serves { ServesMore S.Store (capped (given_rules self.now)) limits.now 1
+        ensures serves { ServesMore S.Store (capped (given_rules self.now)) limits.now most.number
             (map vec_items connections.now)
             outputs.old.items outputs.new.items records.old records.new }
     {
         records.lives_are_whole();
         let mut rest = connections;
         while !rest.is_empty() {
-            let count = self.serve_some(records, limits, rest, blanks, outputs);
+            let count = self.serve_some(records, limits, most, rest, blanks, outputs);
             (_, rest) = rest.split_at(count);
-        }
-    }
-
-    /// Serves connections into outputs that have room for them, and for a fixed reply to each.
-    pub(crate) fn serve_into_outputs<S: Alter>(
-        &self,
-        records: &mut Records<S>,
-        limits: &Limits,
-        connections: &[Vec<u8>],
-        blanks: &mut Vec<Vec<u8>>,
-        outputs: &mut Vec<Vec<u8>>,
-    )
-        requires blank { AllByRecursion IsBlank blanks.old.items }
-        requires enough { length connections.now ≤ length blanks.old.items }
-        requires room { vec_len outputs.old + length connections.now ≤ vec_capacity outputs.old }
-        ensures count { vec_len outputs.new ≡ vec_len outputs.old + length connections.now }
-        ensures serves { ServesMore S.Store (capped (given_rules self.now)) limits.now
-            (given_most self.now) (map vec_items connections.now)
-            outputs.old.items outputs.new.items records.old records.new }
-    {
-        if self.per_connection.number == 1 {
-            self.serve_groups(records, limits, connections, blanks, outputs);
-        } else {
-            self.serve_singly(records, limits, connections, blanks, outputs);
         }
     }
 
@@ -325,7 +314,14 @@ impl Setup<'_> {
         records.lives_are_whole();
         let mut blanks = blank_outputs(self.alloc, connections.len())?;
         let mut outputs = Vec::with_capacity(self.alloc, connections.len())?;
-        self.serve_into_outputs(records, limits, connections, &mut blanks, &mut outputs);
+        self.serve_groups(
+            records,
+            limits,
+            self.per_connection,
+            connections,
+            &mut blanks,
+            &mut outputs,
+        );
         Ok(outputs)
     }
 }

@@ -8,7 +8,8 @@ use Rattle.osb_catalog.specs.SettingsData.{SettingsData}
 use Rattle.osb_orders.specs.Lives.{Lives}
 use Rattle.osb_listen.specs.declared.fault.ListenFault.{ListenFault}
 use Rattle.osb_listen.specs.declared.fault.ListenFault.TheVariants as listen
-use Rattle.osb_listen.specs.Held.{IsInUse, LeavesFile, LeavesOf, LeavesWith, Serving}
+use Rattle.osb_broker.specs.Exchanges.{Exchange}
+use Rattle.osb_listen.specs.Held.{HasServed, IsInUse, LeavesFile, LeavesOf, LeavesWith, Serving}
 use Rattle.osb_cli.specs.declared.fault.Unserved.{Unserved}
 use Rattle.osb_cli.specs.declared.fault.Unserved.TheVariants.{Fault, PlanInUse}
 use Rattle.osb_cli.specs.Files.{Contents}
@@ -17,6 +18,11 @@ use Rattle.osb_cli.specs.Words.{FoundCommand, text_in}
 use Rattle.osb_cli.specs.declared.words.Listen.{Listen}
 use Rattle.osb_cli.specs.Serve.{FindsSome, LacksPlan, Leaves, LeavesAs, NamesSome, settings_name}
 use Rattle.osb_cli.specs.Inside.{FindsInUse, IsPlan, NameOne, NamesInUse, AsksServe}
+
+pub served_by : (all k most : ℕ) (serving : Serving) (journal_old journal_new : List Exchange) (said_old said_new : List ℕ) (failed_old failed_new : ℕ) → k ≡ most
+    → HasServed all k serving journal_old journal_new said_old said_new failed_old failed_new → HasServed all most serving journal_old journal_new said_old said_new failed_old failed_new
+served_by all k most serving journal_old journal_new said_old said_new failed_old failed_new is served =
+    subst (λ n. HasServed all n serving journal_old journal_new said_old said_new failed_old failed_new) is served
 
 pub is_left : (contents : Contents) (name : List ℕ) (settings : SettingsData) → AreOfFile contents name settings → (k : ℕ) (existing : Bool) (db : Trees) (serving : Serving) (now : State)
     → LeavesFile (rules_of settings) k existing db serving now → Leaves contents name k existing db serving now

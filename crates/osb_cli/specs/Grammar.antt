@@ -61,12 +61,13 @@ replay_command = with_rule (with_rule (with_rule (new_app (codes "replay"))
 abbrev pub serve_command : App
 serve_command =
     with_rule (with_rule (with_rule (with_rule (with_rule (with_rule (with_rule (with_rule
-    (with_rule (new_app (codes "serve"))
+    (with_rule (with_rule (new_app (codes "serve"))
     (required_option (codes "settings"))) (required_option (codes "database")))
     (flag_option (codes "existing")))
     (required_option (codes "listen"))) per_connection_option)
     (number_option (codes "connections") 1000000)) (number_option (codes "time-limit") 86400))
-    (number_option (codes "together") 1024)) (flag_option (codes "explain"))
+    (number_option (codes "idle-limit") 86400)) (number_option (codes "together") 1024))
+    (flag_option (codes "explain"))
 
 abbrev pub trim_command : App
 trim_command = with_rule (new_app (codes "trim")) (required_word (codes "database"))

@@ -106,6 +106,9 @@ option_texts_of id found = unwrap_or (all_of id (rows_of (found_of found))) []
 abbrev pub HasTimeLimit : FoundCommand → ℕ → Type 0
 HasTimeLimit found = HasNumber 86400 10 (one_text_in (codes "time-limit") found)
 
+abbrev pub HasIdleLimit : FoundCommand → ℕ → Type 0
+HasIdleLimit found = HasNumber 86400 60 (one_text_in (codes "idle-limit") found)
+
 pub record AsksReplay (found : FoundCommand) (asked : Replay) : Type 0 where
   pub no_backup : ¬ Names (codes "backup") found
   pub no_check : ¬ Names (codes "check") found
@@ -128,7 +131,10 @@ pub record AsksServe (found : FoundCommand) (asked : Listen) : Type 0 where
   pub seconds : ℕ
   pub time_limit : as_nanos asked.place.time_limit ≡ seconds * 1000000000
   pub limit : HasTimeLimit found seconds
-  pub together : HasTogether found asked.per_connection.number asked.place.together
+  pub idle_seconds : ℕ
+  pub idle_limit : as_nanos asked.place.idle_limit ≡ idle_seconds * 1000000000
+  pub idle : HasIdleLimit found idle_seconds
+  pub together : HasTogether found asked.place.together
   pub explain : HasExplain found asked.explain
   pub wanted : HasNumber 1024 0 (one_text_in (codes "together") found) (unwrap_or asked.wanted 0)
 

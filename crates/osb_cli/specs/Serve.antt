@@ -5,7 +5,7 @@ use Rattle.sqlite.specs.Tree.{Trees}
 use Rattle.sqlite.specs.State.{State}
 use Rattle.osb_catalog.specs.Rules.{rules_of}
 use Rattle.osb_catalog.specs.SettingsData.{SettingsData}
-use Rattle.osb_broker.specs.Conversations.{Conversation}
+use Rattle.osb_broker.specs.Exchanges.{Exchange}
 use Rattle.osb_listen.specs.Held.{HasServed, IsInUse, LeavesFile, Serving}
 use Rattle.osb_file.specs.declared.copied.Copied.{Copied}
 use Rattle.osb_file.specs.File.{HasTrees}
@@ -37,12 +37,14 @@ pub record LeavesAs (contents : Contents) (found : FoundCommand) (db : Trees) (s
 
 -- as many clients as the words say were served, or fewer
 pub record HasServedAs (found : FoundCommand) (serving : Serving)
-    (journal_old journal_new : List Conversation) (said_old said_new : List ℕ)
+    (journal_old journal_new : List Exchange) (said_old said_new : List ℕ)
     (failed_old failed_new : ℕ) : Type 0 where
   pub connections : ℕ
   pub of_all : HasConnections found connections
-  pub served : HasServed connections serving journal_old journal_new said_old said_new failed_old
-      failed_new
+  pub per_connection : ℕ
+  pub of_each : HasPerConnection found per_connection
+  pub served : HasServed connections per_connection serving journal_old journal_new said_old
+      said_new failed_old failed_new
 
 -- the settings of a file lack this plan, which the lives in these trees have in use
 pub record LacksPlan (contents : Contents) (name : List ℕ) (db : Trees)

@@ -55,10 +55,5 @@ HasExisting found = HasFlag (one_text_in (codes "existing") found)
 abbrev pub HasExplain : FoundCommand → Bool → Type 0
 HasExplain found = HasFlag (one_text_in (codes "explain") found)
 
--- how many clients may be connected at the same time where nothing is asked for, by how many requests each may make
-abbrev pub default_together : ℕ → ℕ
-default_together per_connection = if per_connection == 1 then 1024 else 1
-
-abbrev pub HasTogether : FoundCommand → ℕ → ℕ → Type 0
-HasTogether found per_connection =
-    HasNumber 1024 (default_together per_connection) (one_text_in (codes "together") found)
+abbrev pub HasTogether : FoundCommand → ℕ → Type 0
+HasTogether found = HasNumber 1024 1024 (one_text_in (codes "together") found)

@@ -78,15 +78,17 @@ const SERVE_MORE: &str =
     "Prints `listening on ADDR`, and then serves clients. Many are connected at the
 same time, and each is served as soon as its request is whole. One that fails,
 or isn't done in time, is a line on standard error, `connection: read` or
-`connection: write`. With `--together 1` they are taken one after the other, and
-so they are where more than one request of a connection is answered. The
-broker keeps its orders in the database: a change is there before its request
-is answered, and stays there however the program ends. A file that isn't there
-is made, and only its owner may read it. A database that is begun is a line on
-standard error, `database: new`; with `--existing` none is begun, and the
-program ends with `database: 3 Missing`. What has not been copied into the file
-yet is in a second one, its name with `-wal` behind. Once one of the two is
-taken away, no connection is answered, and the program ends.";
+`connection: write`. With `--together 1` they are taken one after the other.
+With `--per-connection` above 1 a client that was answered stays connected for
+its next request. One that sends nothing is ended after the idle limit, or as
+soon as another client wants its place. The broker keeps its orders in the
+database: a change is there before its request is answered, and stays there
+however the program ends. A file that isn't there is made, and only its owner
+may read it. A database that is begun is a line on standard error, `database:
+new`; with `--existing` none is begun, and the program ends with `database: 3
+Missing`. What has not been copied into the file yet is in a second one, its
+name with `-wal` behind. Once one of the two is taken away, no connection is
+answered, and the program ends.";
 
 const TRIM: &str = "Erase what no answer rests on from a database file";
 
@@ -104,7 +106,7 @@ new file is whole its name is FILE with `-new` behind. Copies made before, as by
 `backup`, keep what they have.";
 
 const SERVE_USAGE: &str =
-    "osb-broker serve --settings FILE --database FILE [--existing] --listen ADDR [--per-connection N] [--connections N] [--time-limit SECONDS] [--together N] [--explain]";
+    "osb-broker serve --settings FILE --database FILE [--existing] --listen ADDR [--per-connection N] [--connections N] [--time-limit SECONDS] [--idle-limit SECONDS] [--together N] [--explain]";
 
 /// `--ID VALUE`, which may be left out.
 fn text_option<'a>(alloc: Global, id: &'a str, value: &'a str, help: &'a str) -> Arg<'a>
@@ -319,7 +321,8 @@ fn serve_command<'a>(alloc: Global) -> Result<Command<'a>, Error>
     let made = "The database file; it is made where there is none";
     let existing = "Begins no database: one has to be there";
     let address = "An IP address and a port, as 127.0.0.1:8080 or [::1]:8080";
-    let limit = "How long a connection may take, 1 to 86400 seconds; without it 10";
+    let limit = "How long a request may take, 1 to 86400 seconds; without it 10";
+    let idle = "How long a client may be idle, 1 to 86400 seconds; without it 60";
     let explain = "Says the cause in a second line if nothing can be served";
     Ok(
         begun(alloc, "serve", SERVE, SERVE_MORE, SERVE_USAGE)
@@ -330,6 +333,7 @@ fn serve_command<'a>(alloc: Global) -> Result<Command<'a>, Error>
             .arg(per_connection_option(alloc))?
             .arg(connections_option(alloc))?
             .arg(seconds_option(alloc, "time-limit", limit))?
+            .arg(seconds_option(alloc, "idle-limit", idle))?
             .arg(together_option(alloc))?
             .arg(flag_option(alloc, "explain", explain))?,
     )

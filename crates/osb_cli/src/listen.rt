@@ -22,12 +22,6 @@ use osb_file::{Database, Opened};
 use osb_frames::Sink;
 use osb_listen::{Entrance, serve_file};
 
-/// The fault of words that can't be used together.
-const BOTH: &str = "error: '--together' above 1 cannot be used with '--per-connection' above 1
-
-For more information, try '--help'.
-";
-
 /// How many descriptors the program has beside one for each client.
 const OWN_DESCRIPTORS: usize = 9;
 
@@ -45,17 +39,6 @@ fn check_descriptors(rt: &HostRuntime, wanted: Option<u32>) -> Result<(), Fault<
     Ok(())
 }
 
-/// Refuses to connect many clients of whom each may make more than one request, or more than descriptors are
-/// there for.
-fn check_numbers(rt: &HostRuntime, asked: &Listen<'_>) -> Result<(), Fault<'static>>
-    ensures { IfErr result IsOther }
-{
-    if asked.place.together > 1 && asked.per_connection.number() > 1 {
-        return Err(Fault::Words(format!(in rt.alloc(); "{BOTH}")?));
-    }
-    check_descriptors(rt, asked.wanted)
-}
-
 /// Serves the clients of an entrance, with the settings of one file and the database of another. The
 /// connection to that file comes back, where it was opened.
 pub(crate) fn listen<'a, D: Database, F: NamedFiles, L: Entrance, W: Sink, E: Sink>(
@@ -69,7 +52,7 @@ pub(crate) fn listen<'a, D: Database, F: NamedFiles, L: Entrance, W: Sink, E: Si
 ) -> (Result<(), Unserved<'a>>, Opened<D::Store>)
     ensures served { IfSome result.1 (λ conn. (serving : Serving)
         × OnOk result.0 (IsOk serving.ended)
-        × HasServed asked.now.place.connections serving
+        × HasServed asked.now.place.connections asked.now.per_connection.number serving
         (L.journal entrance.old) (L.journal entrance.new) (E.taken errors.old) (E.taken errors.new)
         (E.failed_or_empty errors.old) (E.failed_or_empty errors.new)
         × ((db : Trees) → HasTrees (D.held database) db →
@@ -87,7 +70,7 @@ pub(crate) fn listen<'a, D: Database, F: NamedFiles, L: Entrance, W: Sink, E: Si
         (db : Trees) → HasTrees (D.held database) db →
         NamesInUse (F.contents files.now) asked.now.settings.now db fault)) }
 {
-    if let Err(fault) = check_numbers(rt, asked) {
+    if let Err(fault) = check_descriptors(rt, asked.wanted) {
         return (Err(Unserved::from(fault)), None);
     }
     if take_stack(rt).is_err() {

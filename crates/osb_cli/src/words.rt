@@ -2,7 +2,7 @@
 
 ghost use Rattle.std.specs.Prelude.{◌≡◌, ◌≢◌, ℕ, List, map, IfOk, IfErr, string_bytes, Some, None, codes, unwrap_or};
 ghost use Rattle.clap.specs.Words.{kind_of, found_of, rows_of};
-ghost use Rattle.osb_cli.specs.Words.{AreTaken, HasNumber, default_together, found_by};
+ghost use Rattle.osb_cli.specs.Words.{AreTaken, HasNumber, found_by};
 ghost use Rattle.osb_cli.specs.Inside.{Asks, one_text_of, option_texts_of};
 
 use crate::grammar::osb_broker;
@@ -93,12 +93,14 @@ pub(crate) enum Job<'a> {
 /// The most connections that one run takes.
 const MOST_CONNECTIONS: u32 = 1_000_000;
 
-/// How many clients may be connected at the same time where nothing is asked for and each may make one
-/// request.
+/// How many clients may be connected at the same time where nothing is asked for.
 const TOGETHER: u32 = 1024;
 
-/// How many seconds a connection may take, or an answer is waited for, where nothing is asked for.
+/// How many seconds a request may take, or an answer is waited for, where nothing is asked for.
 const SECONDS: u32 = 10;
+
+/// How many seconds a client that was answered may send nothing, where nothing is asked for.
+const IDLE_SECONDS: u32 = 60;
 
 fn per_connection_of(found: &ArgMatches<'_>) -> PerConnection
     ensures { HasNumber 1000 1 (one_text_of (codes "per-connection") found.now) result.number }
@@ -131,18 +133,16 @@ fn process_of(found: &ArgMatches<'_>) -> Option<u32>
     found.get_one::<u32>("pid")
 }
 
-/// How many clients may be connected at the same time where nothing is asked for, by how many requests
-/// each may make.
-fn default_together(per_connection: u32) -> u32
-    ensures { result ≡ default_together per_connection }
+fn idle_seconds_of(found: &ArgMatches<'_>) -> u32
+    ensures { HasNumber 86400 60 (one_text_of (codes "idle-limit") found.now) result }
 {
-    if per_connection == 1 { TOGETHER } else { 1 }
+    found.get_one::<u32>("idle-limit").unwrap_or(IDLE_SECONDS)
 }
 
-fn together_of(found: &ArgMatches<'_>, otherwise: u32) -> u32
-    ensures { HasNumber 1024 otherwise (one_text_of (codes "together") found.now) result }
+fn together_of(found: &ArgMatches<'_>) -> u32
+    ensures { HasNumber 1024 1024 (one_text_of (codes "together") found.now) result }
 {
-    found.get_one::<u32>("together").unwrap_or(otherwise)
+    found.get_one::<u32>("together").unwrap_or(TOGETHER)
 }
 
 /// The same, where the words say it.
@@ -213,8 +213,6 @@ fn replay_order<'a>(alloc: Global, found: &ArgMatches<'a>) -> Result<Job<'a>, Al
 fn serve_order<'a>(found: &ArgMatches<'a>) -> Job<'a>
     ensures { Asks (Some (codes "serve", rows_of (found_of found.now))) result }
 {
-    let per_connection = per_connection_of(found);
-    let otherwise = default_together(per_connection.number());
     Job::Serve(Listen {
         settings: found.get_str("settings").unwrap_or(""),
         place: ListenOptions {
@@ -223,10 +221,11 @@ fn serve_order<'a>(found: &ArgMatches<'a>) -> Job<'a>
             address: found.get_str("listen").unwrap_or(""),
             connections: connections_of(found),
             time_limit: Duration::from_secs(u64::from(seconds_of(found, "time-limit"))),
-            together: together_of(found, otherwise),
+            idle_limit: Duration::from_secs(u64::from(idle_seconds_of(found))),
+            together: together_of(found),
         },
         wanted: wanted_of(found),
-        per_connection,
+        per_connection: per_connection_of(found),
         explain: found.get_flag("explain"),
     })
 }

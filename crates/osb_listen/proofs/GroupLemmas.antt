@@ -1,10 +1,13 @@
 -- Clients that are taken together.
-use Rattle.std.proofs.Common.{◌≡◌, ◌∙◌, ℕ, suc, ◌+◌, ◌<◌, ◌≤◌, List, [], ◌∷◌, ◌++◌, length, take, false, Result, Ok, Err, OnOk, OnErr, IsOkUnless, inl, inr, refl, sym, subst, ap, arith, append_assoc, append-nil, length-append}
+use Rattle.std.proofs.Common.{◌≡◌, ◌≢◌, ◌∙◌, ◌⊎◌, ℕ, suc, ◌+◌, ◌-◌, ◌<◌, ◌≤◌, List, [], ◌∷◌, ◌++◌, length, map, take, Bool, true, false, not, ◌&&◌, Result, Ok, Err, OnOk, OnErr, is_ok, IsOkUnless, inl, inr, refl, sym, subst, ap, arith, append_assoc, append-nil, length-append}
 use Rattle.std.proofs.lemmas.List.{map-append}
 use Rattle.std.specs.List.{AllByRecursion}
+use mir.Val.{bool_byte}
 use Rattle.sqlite.specs.State.{State}
 use Rattle.osb_frames.specs.declared.limits.Limits.{Limits}
 use Rattle.osb_frames.specs.Calls.{Call, failure_count}
+use Rattle.osb_replies.specs.Parts.{refused}
+use Rattle.osb_replies.specs.Text.{reply_text}
 use Rattle.osb_catalog.specs.Rules.{Rules}
 use Rattle.osb_orders.specs.Lives.{Lives}
 use Rattle.osb_orders.specs.IsLife.{IsLives}
@@ -12,127 +15,226 @@ use Rattle.osb_records.specs.CrashLeaves.{KeepsLives}
 use Rattle.osb_statements.specs.Steps.{stored}
 use Rattle.osb_broker.specs.declared.fault.ServeFault.{ServeFault}
 use Rattle.osb_broker.specs.declared.fault.ServeFault.TheVariants.{Read, Write}
-use Rattle.osb_broker.specs.Begun.{GroupsAreConversations, IsWaiting, SentText, WereAnswered}
+use Rattle.osb_broker.specs.Begun.{GroupsAreConversations, IsWaiting, MayStay, SentText, WereAnswered}
 use Rattle.osb_broker.specs.BrokerState.{Works}
-use Rattle.osb_broker.specs.Conversations.{AreConversations, Conversation}
+use Rattle.osb_broker.specs.Conversations.{AreConversations}
 use Rattle.osb_broker.specs.Crashes.{RunOrLost}
+use Rattle.osb_broker.specs.Exchanges.{AreExchanges, Exchange, IsSaid, OpenGroupsAreExchanges, WereSentOpen}
 use Rattle.osb_broker.specs.Inside.{Worked}
 use Rattle.osb_broker.specs.Serving.{EachWasNeeded, ReadsOf}
 use Rattle.osb_broker.specs.Steps.{capped}
-use Rattle.osb_listen.specs.Conversations.{conversation_of, ended_by, lines_of, Serves}
-use Rattle.osb_listen.specs.Groups.{AreKept, AreTaken, HasBegun, IsKept, IsUnanswered, WereSent}
+use Rattle.osb_listen.specs.declared.entrance.TakenClient.{TakenClient}
+use Rattle.osb_listen.specs.Exchanges.{conversation_of, ended_by, ended_in, exchange_of, lines_of, Serves}
+use Rattle.osb_listen.specs.Groups.{AreKept, AreTaken, count_of, HasBegun, IsLast, IsOpen, IsSent, IsTurn, IsUnanswered, Unanswered, WereSent}
 use Rattle.osb_listen.specs.Lines.{Says}
 use Rattle.osb_listen.proofs.PartLemmas.{says_more, says_none}
-use Rattle.osb_listen.proofs.ConversationLemmas.{ended_so, none_serves_by, some_more}
+use Rattle.osb_listen.proofs.ExchangeLemmas.{ended_more, ended_so, none_serves_by, some_more}
 
-all_counted : (conversations clients count later : ℕ) → conversations + clients ≡ count + later → later ≡ clients → conversations ≡ count
-all_counted conversations clients count later all same = omega (arith, all, same)
+-- the number that a Bool is turned into
+pub byte_is : (b : Bool) → bool_byte b ≡ count_of b
+byte_is true = refl
+byte_is false = refl
+
+pub byte_few : (b : Bool) → bool_byte b ≤ 1
+byte_few true = omega arith
+byte_few false = omega arith
+
+-- ---- those that wait
+
+module _ {I O : Type 0} (Is : TakenClient I O → List ℕ → Type 0) where
+  -- one more is kept
+  kept_more : (clients : List (TakenClient I O)) (requests : List (List ℕ)) (client : TakenClient I O) (bytes : List ℕ) → AreKept Is clients requests → Is client bytes → AreKept Is (clients ++ client ∷ []) (requests ++ bytes ∷ [])
+  kept_more [] [] client bytes were is = (is, tt)
+  kept_more (one ∷ clients) (first ∷ requests) client bytes were is = (were.0, kept_more clients requests client bytes were.1 is)
+  kept_more [] (first ∷ requests) client bytes were is = absurd were
+  kept_more (one ∷ clients) [] client bytes were is = absurd were
+
+  pub all_so : (P : TakenClient I O → Type 0) → ((client : TakenClient I O) (bytes : List ℕ) → Is client bytes → P client) → (clients : List (TakenClient I O)) (requests : List (List ℕ)) → AreKept Is clients requests → AllByRecursion P clients
+  all_so P each [] [] kept = tt
+  all_so P each (client ∷ clients) (bytes ∷ requests) kept = (each client bytes kept.0, all_so P each clients requests kept.1)
+  all_so P each [] (bytes ∷ requests) kept = tt
+  all_so P each (client ∷ clients) [] kept = absurd kept
+
+  pub as_many_kept : (clients : List (TakenClient I O)) (requests : List (List ℕ)) → AreKept Is clients requests → length clients ≡ length requests
+  as_many_kept [] [] kept = refl
+  as_many_kept (client ∷ clients) (bytes ∷ requests) kept = ap suc (as_many_kept clients requests kept.1)
+  as_many_kept [] (bytes ∷ requests) kept = absurd kept
+  as_many_kept (client ∷ clients) [] kept = absurd kept
+
+-- so many requests may come behind one of k
+behind : (before k : ℕ) → before < k → (more : ℕ) × (before + suc more ≡ k)
+behind before k less = (k - suc before, omega (arith, less))
 
 module _ {I O : Type 0} (calls : I → List Call) (taken : O → List ℕ) (failed : O → ℕ) (rules : Rules) (limits : Limits) (k : ℕ) where
-  -- one more is kept
-  kept_more : (clients : List (I × O)) (requests : List (List ℕ)) (input : I) (output : O) (bytes : List ℕ) → AreKept calls taken failed rules limits k clients requests
-      → IsKept rules limits k (calls input) (taken output) (failed output) bytes → AreKept calls taken failed rules limits k (clients ++ (input, output) ∷ []) (requests ++ bytes ∷ [])
-  kept_more [] [] input output bytes were is = (is, tt)
-  kept_more ((one, other) ∷ clients) (first ∷ requests) input output bytes were is = (were.0, kept_more clients requests input output bytes were.1 is)
-  kept_more [] (first ∷ requests) input output bytes were is = absurd were
-  kept_more ((one, other) ∷ clients) [] input output bytes were is = absurd were
+  abbrev Last : TakenClient I O → List ℕ → Type 0
+  Last = IsLast calls taken failed rules limits k
 
-  pub all_unanswered : (clients : List (I × O)) (requests : List (List ℕ)) → AreKept calls taken failed rules limits k clients requests
-      → AllByRecursion (λ (client : I × O). IsUnanswered (calls client.0) (taken client.1) (failed client.1)) clients
-  all_unanswered [] [] kept = tt
-  all_unanswered ((input, output) ∷ clients) (bytes ∷ requests) kept = (kept.0.unanswered, all_unanswered clients requests kept.1)
-  all_unanswered [] (bytes ∷ requests) kept = tt
-  all_unanswered ((input, output) ∷ clients) [] kept = absurd kept
+  abbrev Open : TakenClient I O → List ℕ → Type 0
+  Open = IsOpen calls taken failed rules limits k
 
-  pub as_many_kept : (clients : List (I × O)) (requests : List (List ℕ)) → AreKept calls taken failed rules limits k clients requests → length clients ≡ length requests
-  as_many_kept [] [] kept = refl
-  as_many_kept ((input, output) ∷ clients) (bytes ∷ requests) kept = ap suc (as_many_kept clients requests kept.1)
-  as_many_kept [] (bytes ∷ requests) kept = absurd kept
-  as_many_kept ((input, output) ∷ clients) [] kept = absurd kept
+  module _ (client : TakenClient I O) (made : List Call) (bytes : List ℕ) (needed : EachWasNeeded limits 1 (limits.head + limits.body) made) (same : calls client.input ≡ made) (unsent : taken client.output ≡ []) (unfailed : failed client.output ≡ 0) where
+    needed_too : EachWasNeeded limits 1 (limits.head + limits.body) (calls client.input)
+    needed_too = subst (λ (these : List Call). EachWasNeeded limits 1 (limits.head + limits.body) these) (sym same) needed
 
-  were_answered : (clients : List (I × O)) (requests replies : List (List ℕ)) (conversations : List Conversation) → AreKept calls taken failed rules limits k clients requests
-      → WereSent calls clients replies conversations → WereAnswered rules limits requests replies conversations
+    unanswered_so : ReadsOf (Ok tt) made → Unanswered calls taken failed client
+    unanswered_so reads = record { reads = subst (λ (these : List Call). ReadsOf (Ok tt) these) (sym same) reads; unsent = unsent; unfailed = unfailed }
+
+    -- its request waits, as the last one
+    pub last_so : client.before < k → IsWaiting rules limits made bytes → Last client bytes
+    last_so before waits = record {
+      before = before;
+      needed = needed_too;
+      waits = subst (λ (these : List Call). IsWaiting rules limits these bytes) (sym same) waits;
+      unanswered = unanswered_so waits.reads;
+    }
+
+    -- or as one behind which another may come
+    pub open_so : (left : ℕ) → client.before + left ≡ k → MayStay rules limits left made bytes → Open client bytes
+    open_so left count waits = record {
+      left = left;
+      count = count;
+      needed = needed_too;
+      waits = subst (λ (these : List Call). MayStay rules limits left these bytes) (sym same) waits;
+      unanswered = unanswered_so waits.waits.reads;
+    }
+
+  -- ---- those of whom no other request is answered
+
+  were_answered : (clients : List (TakenClient I O)) (requests replies : List (List ℕ)) (exchanges : List Exchange) → AreKept Last clients requests → WereSent calls false clients replies exchanges
+      → WereAnswered rules limits requests replies (map (λ (x : Exchange). x.said) exchanges)
   were_answered [] [] [] [] kept sent = tt
-  were_answered ((input, output) ∷ clients) (bytes ∷ requests) (reply ∷ replies) (one ∷ conversations) kept sent = (
-    subst (λ (made : List Call). EachWasNeeded limits 1 (limits.head + limits.body) made) (sym sent.1) kept.0.needed,
-    rw sent.1 kept.0.waits,
-    sent.0,
-    were_answered clients requests replies conversations kept.1 sent.2,
+  were_answered (client ∷ clients) (bytes ∷ requests) (reply ∷ replies) (x ∷ exchanges) kept sent = (
+    subst (λ (made : List Call). EachWasNeeded limits 1 (limits.head + limits.body) made) (sym sent.0.read) kept.0.needed,
+    rw sent.0.read kept.0.waits,
+    sent.0.text,
+    were_answered clients requests replies exchanges kept.1 sent.1,
   )
-  were_answered [] (bytes ∷ requests) replies conversations kept sent = absurd kept
-  were_answered ((input, output) ∷ clients) [] replies conversations kept sent = absurd kept
-  were_answered [] [] (reply ∷ replies) conversations kept sent = absurd sent
-  were_answered [] [] [] (one ∷ conversations) kept sent = absurd sent
-  were_answered ((input, output) ∷ clients) (bytes ∷ requests) [] conversations kept sent = absurd sent
-  were_answered ((input, output) ∷ clients) (bytes ∷ requests) (reply ∷ replies) [] kept sent = absurd sent
+  were_answered [] (bytes ∷ requests) replies exchanges kept sent = absurd kept
+  were_answered (client ∷ clients) [] replies exchanges kept sent = absurd kept
+  were_answered [] [] (reply ∷ replies) exchanges kept sent = absurd sent
+  were_answered [] [] [] (x ∷ exchanges) kept sent = absurd sent
+  were_answered (client ∷ clients) (bytes ∷ requests) [] exchanges kept sent = absurd sent
+  were_answered (client ∷ clients) (bytes ∷ requests) (reply ∷ replies) [] kept sent = absurd sent
 
-  -- what was said with those who waited
-  pub kept_answered : GroupsAreConversations → (clients : List (I × O)) (requests replies : List (List ℕ)) (conversations : List Conversation) → AreKept calls taken failed rules limits k clients requests
-      → WereSent calls clients replies conversations → (old new : Lives) → RunOrLost (capped rules) limits k old requests replies new → AreConversations rules limits k old conversations new
-  kept_answered law [] [] [] [] kept sent old new run = run
-  kept_answered law ((input, output) ∷ clients) (bytes ∷ requests) replies conversations kept sent old new run =
-      subst (λ (most : ℕ). AreConversations rules limits most old conversations new) (sym kept.0.one)
-      (law rules limits old new (bytes ∷ requests) replies conversations (were_answered ((input, output) ∷ clients) (bytes ∷ requests) replies conversations kept sent)
-      (subst (λ (most : ℕ). RunOrLost (capped rules) limits most old (bytes ∷ requests) replies new) kept.0.one run))
-  kept_answered law [] (bytes ∷ requests) replies conversations kept sent old new run = absurd kept
-  kept_answered law ((input, output) ∷ clients) [] replies conversations kept sent old new run = absurd kept
-  kept_answered law [] [] (reply ∷ replies) conversations kept sent old new run = absurd sent
-  kept_answered law [] [] [] (one ∷ conversations) kept sent old new run = absurd sent
+  last_said : (client : TakenClient I O) (reply : List ℕ) (x : Exchange) (more : ℕ) (old new : Lives) → IsSent calls false client reply x → IsSaid rules limits more false old x.said new → IsSaid rules limits more x.stays old x.said new
+  last_said client reply x more old new sent said = by x.stays refl
+    where
+      by : (stays : Bool) → x.stays ≡ stays → IsSaid rules limits more stays old x.said new
+      by true e = let never : false ≡ true = (sent.stays e).0 in cc
+      by false e = said
 
-  pub none_taken : (old : State) (journal : List Conversation) (said : List ℕ) (lost : ℕ) → (Works old → IsLives (stored old)) → (Works old → KeepsLives old (stored old))
-      → AreTaken calls taken failed rules limits k 0 [] [] old old journal journal said said lost lost
-  none_taken old journal said lost whole kept =
-      record { conversations = []; counted = refl; serves = none_serves_by rules limits k old journal journal said lost refl whole kept; kept = tt }
+  -- each conversation is the last exchange of its client
+  last_exchanges : (clients : List (TakenClient I O)) (requests replies : List (List ℕ)) (exchanges : List Exchange) → AreKept Last clients requests → WereSent calls false clients replies exchanges
+      → (old new : Lives) → AreConversations rules limits 1 old (map (λ (x : Exchange). x.said) exchanges) new → AreExchanges rules limits k old exchanges new
+  last_exchanges [] [] [] [] kept sent old new are = are
+  last_exchanges (client ∷ clients) (bytes ∷ requests) (reply ∷ replies) (x ∷ exchanges) kept sent old new (lives, one, are) =
+      let more = behind client.before k kept.0.before in
+      (lives, (more.0, ap (λ n. n + suc more.0) sent.0.before ∙ more.1, last_said client reply x more.0 old lives sent.0 (inl one)), last_exchanges clients requests replies exchanges kept.1 sent.1 lives new are)
+  last_exchanges [] (bytes ∷ requests) replies exchanges kept sent old new are = absurd kept
+  last_exchanges (client ∷ clients) [] replies exchanges kept sent old new are = absurd kept
+  last_exchanges [] [] (reply ∷ replies) exchanges kept sent old new are = absurd sent
+  last_exchanges [] [] [] (x ∷ exchanges) kept sent old new are = absurd sent
+  last_exchanges (client ∷ clients) (bytes ∷ requests) [] exchanges kept sent old new are = absurd sent
+  last_exchanges (client ∷ clients) (bytes ∷ requests) (reply ∷ replies) [] kept sent old new are = absurd sent
 
-  module _ {clients : List (I × O)} {requests : List (List ℕ)} {old mid : State} {journal_old journal_mid : List Conversation} {said_old said_mid : List ℕ} {lost_old lost_mid count : ℕ}
-      (before : AreTaken calls taken failed rules limits k count clients requests old mid journal_old journal_mid said_old said_mid lost_old lost_mid) where
-    -- some more were served
-    pub taken_on : (new : State) (journal_new : List Conversation) (said_new : List ℕ) (lost_new : ℕ) → Worked old mid → Worked mid new
-        → (later : List Conversation) → Serves rules limits k later mid new journal_mid journal_new said_mid said_new lost_mid lost_new
-        → (conversations : List Conversation) × (length conversations + length clients ≡ count + length later) × Serves rules limits k conversations old new journal_old journal_new said_old said_new lost_old lost_new
+  pub last_answered : GroupsAreConversations → (clients : List (TakenClient I O)) (requests replies : List (List ℕ)) (exchanges : List Exchange) → AreKept Last clients requests → WereSent calls false clients replies exchanges
+      → (old new : Lives) → RunOrLost (capped rules) limits 1 old requests replies new → AreExchanges rules limits k old exchanges new
+  last_answered law clients requests replies exchanges kept sent old new run =
+      last_exchanges clients requests replies exchanges kept sent old new
+      (law rules limits old new requests replies (map (λ (x : Exchange). x.said) exchanges) (were_answered clients requests replies exchanges kept sent) run)
+
+  -- ---- those that may stay
+
+  were_open : (clients : List (TakenClient I O)) (requests replies : List (List ℕ)) (exchanges : List Exchange) → AreKept Open clients requests → WereSent calls true clients replies exchanges → WereSentOpen rules limits k requests replies exchanges
+  were_open [] [] [] [] kept sent = tt
+  were_open (client ∷ clients) (bytes ∷ requests) (reply ∷ replies) (x ∷ exchanges) kept sent = (
+    record {
+      left = kept.0.left;
+      count = ap (λ n. n + kept.0.left) sent.0.before ∙ kept.0.count;
+      needed = subst (λ (made : List Call). EachWasNeeded limits 1 (limits.head + limits.body) made) (sym sent.0.read) kept.0.needed;
+      waits = rw sent.0.read kept.0.waits;
+      sent = sent.0.text;
+      stays = λ e. let kept_on = sent.0.stays e in (kept_on.1, kept_on.2);
+      ends = λ e. elim (sent.0.ends e) [
+        | inl never ↦ cc
+        | inr why ↦ why
+      ];
+    },
+    were_open clients requests replies exchanges kept.1 sent.1,
+  )
+  were_open [] (bytes ∷ requests) replies exchanges kept sent = absurd kept
+  were_open (client ∷ clients) [] replies exchanges kept sent = absurd kept
+  were_open [] [] (reply ∷ replies) exchanges kept sent = absurd sent
+  were_open [] [] [] (x ∷ exchanges) kept sent = absurd sent
+  were_open (client ∷ clients) (bytes ∷ requests) [] exchanges kept sent = absurd sent
+  were_open (client ∷ clients) (bytes ∷ requests) (reply ∷ replies) [] kept sent = absurd sent
+
+  pub open_answered : OpenGroupsAreExchanges → (clients : List (TakenClient I O)) (requests replies : List (List ℕ)) (exchanges : List Exchange) → AreKept Open clients requests → WereSent calls true clients replies exchanges
+      → (old new : Lives) → RunOrLost (capped rules) limits 2 old requests replies new → AreExchanges rules limits k old exchanges new
+  open_answered law clients requests replies exchanges kept sent old new run =
+      law rules limits k old new requests replies exchanges (were_open clients requests replies exchanges kept sent) run
+
+  -- ---- those that were taken
+
+  pub none_taken : (old : State) (journal : List Exchange) (said : List ℕ) (lost : ℕ) → (Works old → IsLives (stored old)) → (Works old → KeepsLives old (stored old))
+      → AreTaken calls taken failed rules limits k 0 0 [] [] [] [] old old journal journal said said lost lost
+  none_taken old journal said lost whole kept = record {
+    exchanges = [];
+    counted = refl;
+    ended_are = refl;
+    serves = none_serves_by rules limits k old journal journal said lost refl whole kept;
+    last_are = tt;
+    open_are = tt;
+  }
+
+  module _ {last open_clients : List (TakenClient I O)} {waiting staying : List (List ℕ)} {old mid : State} {journal_old journal_mid : List Exchange} {said_old said_mid : List ℕ} {lost_old lost_mid count ended : ℕ}
+      (before : AreTaken calls taken failed rules limits k count ended last waiting open_clients staying old mid journal_old journal_mid said_old said_mid lost_old lost_mid) where
+    -- some more exchanges
+    pub taken_on : (new : State) (journal_new : List Exchange) (said_new : List ℕ) (lost_new : ℕ) → Worked old mid → Worked mid new
+        → (later : List Exchange) → Serves rules limits k later mid new journal_mid journal_new said_mid said_new lost_mid lost_new
+        → Serves rules limits k (before.exchanges ++ later) old new journal_old journal_new said_old said_new lost_old lost_new
     taken_on new journal_new said_new lost_new was next later serves =
-        let all = some_more rules limits k old journal_old said_old lost_old mid new journal_mid journal_new said_mid said_new lost_mid lost_new (length before.conversations) (length later) was next (before.conversations, refl, before.serves) (later, refl, serves) in
-        (all.0, omega (arith, all.1, before.counted), all.2)
+        some_more rules limits k old journal_old said_old lost_old mid new journal_mid journal_new said_mid said_new lost_mid lost_new before.exchanges later was next before.serves serves
 
-    -- those who waited were answered too
-    pub taken_all : (new : State) (journal_new : List Conversation) (said_new : List ℕ) (lost_new : ℕ) → Worked old mid → Worked mid new
-        → (rules_mid : Rules) (limits_mid : Limits) (k_mid : ℕ) → rules_mid ≡ rules → limits_mid ≡ limits → k_mid ≡ k
-        → ((later : List Conversation) × (length later ≡ length clients) × Serves rules_mid limits_mid k_mid later mid new journal_mid journal_new said_mid said_new lost_mid lost_new)
-        → (conversations : List Conversation) × (length conversations ≡ count) × Serves rules limits k conversations old new journal_old journal_new said_old said_new lost_old lost_new
-    taken_all new journal_new said_new lost_new was next rules_mid limits_mid k_mid same_rules same_limits same_k (later, as_many, serves) =
-        let known = subst (λ (r : Rules). Serves r limits k later mid new journal_mid journal_new said_mid said_new lost_mid lost_new) same_rules
-        (subst (λ (l : Limits). Serves rules_mid l k later mid new journal_mid journal_new said_mid said_new lost_mid lost_new) same_limits
-        (subst (λ (n : ℕ). Serves rules_mid limits_mid n later mid new journal_mid journal_new said_mid said_new lost_mid lost_new) same_k serves)) in
-        let all = taken_on new journal_new said_new lost_new was next later known in
-        (all.0, all_counted (length all.0) (length clients) count (length later) all.1 as_many, all.2)
+    -- one more client was taken
+    pub taken_next : (new : State) (last_new open_new : List (TakenClient I O)) (waiting_new staying_new : List (List ℕ)) (journal_new : List Exchange) (said_new : List ℕ) (lost_new : ℕ) (has_ended : Bool) (count_new ended_new : ℕ) → count_new ≡ count + 1 → ended_new ≡ ended + bool_byte has_ended → Worked old mid → Worked mid new
+        → (exchanges : List Exchange) × HasBegun calls taken failed rules limits k last last_new open_clients open_new waiting waiting_new staying staying_new exchanges × (ended_in exchanges ≡ count_of has_ended)
+        × Serves rules limits k exchanges mid new journal_mid journal_new said_mid said_new lost_mid lost_new
+        → AreTaken calls taken failed rules limits k count_new ended_new last_new waiting_new open_new staying_new old new journal_old journal_new said_old said_new lost_old lost_new
+    taken_next new last_new open_new waiting_new staying_new journal_new said_new lost_new has_ended count_new ended_new counts ends_are was next (later, begun, ends, serves) =
+        let all = taken_on new journal_new said_new lost_new was next later serves in
+        let ended_all : ended_in (before.exchanges ++ later) ≡ ended_new = omega (arith, ended_more before.exchanges later, before.ended_are, ends, ends_are, byte_is has_ended) in
+        elim begun [
+          | inl (one, same_last, same_waiting, same_open, same_staying) ↦
+              rw (same_last, same_waiting, same_open, same_staying) (record {
+                exchanges = before.exchanges ++ later;
+                counted = omega (arith, before.counted, counts, one, length-append before.exchanges later);
+                ended_are = ended_all;
+                serves = all;
+                last_are = before.last_are;
+                open_are = before.open_are;
+              })
+          | inr (inl (client, bytes, is, none, more, others, same_open, same_staying)) ↦
+              rw (more, others, same_open, same_staying) (record {
+                exchanges = before.exchanges ++ later;
+                counted = omega (arith, before.counted, counts, ap length none, length-append before.exchanges later, length-append last (client ∷ []));
+                ended_are = ended_all;
+                serves = all;
+                last_are = kept_more Last last waiting client bytes before.last_are is;
+                open_are = before.open_are;
+              })
+          | inr (inr (client, bytes, is, none, same_last, same_waiting, more, others)) ↦
+              rw (same_last, same_waiting, more, others) (record {
+                exchanges = before.exchanges ++ later;
+                counted = omega (arith, before.counted, counts, ap length none, length-append before.exchanges later, length-append open_clients (client ∷ []));
+                ended_are = ended_all;
+                serves = all;
+                last_are = before.last_are;
+                open_are = kept_more Open open_clients staying client bytes before.open_are is;
+              })
+        ]
 
-    -- one more was taken
-    pub taken_next : (new : State) (clients_new : List (I × O)) (requests_new : List (List ℕ)) (journal_new : List Conversation) (said_new : List ℕ) (lost_new : ℕ) → Worked old mid → Worked mid new
-        → (conversations : List Conversation) × HasBegun calls taken failed rules limits k clients clients_new requests requests_new conversations × Serves rules limits k conversations mid new journal_mid journal_new said_mid said_new lost_mid lost_new
-        → AreTaken calls taken failed rules limits k (count + 1) clients_new requests_new old new journal_old journal_new said_old said_new lost_old lost_new
-    taken_next new clients_new requests_new journal_new said_new lost_new was next (later, begun, serves) = elim begun [
-      | inl (one, same, still) ↦
-          let all = taken_on new journal_new said_new lost_new was next later serves in
-          rw (same, still) (record { conversations = all.0; counted = omega (arith, all.1, one); serves = all.2; kept = before.kept })
-      | inr (input, output, bytes, is, none, more, others) ↦
-          let all = taken_on new journal_new said_new lost_new was next later serves in
-          rw (more, others) (record {
-            conversations = all.0;
-            counted = omega (arith, all.1, ap length none, length-append clients ((input, output) ∷ []));
-            serves = all.2;
-            kept = kept_more clients requests input output bytes before.kept is;
-          })
-    ]
-
--- a client whose request waits, the only one that may come
-pub kept_so : (rules : Rules) (limits : Limits) (k : ℕ) (calls made : List Call) (sent : List ℕ) (failed : ℕ) (bytes : List ℕ) → k ≡ 1 → EachWasNeeded limits k (limits.head + limits.body) made → IsWaiting rules limits made bytes
-    → calls ≡ made → sent ≡ [] → failed ≡ 0 → IsKept rules limits k calls sent failed bytes
-kept_so rules limits k calls made sent failed bytes one needed waits same unsent unfailed = record {
-  one = one;
-  needed = subst (λ (most : ℕ). EachWasNeeded limits most (limits.head + limits.body) calls) one (subst (λ (these : List Call). EachWasNeeded limits k (limits.head + limits.body) these) (sym same) needed);
-  waits = subst (λ (these : List Call). IsWaiting rules limits these bytes) (sym same) waits;
-  unanswered = record { reads = subst (λ (these : List Call). ReadsOf (Ok tt) these) (sym same) waits.reads; unsent = unsent; unfailed = unfailed };
-}
+-- ---- one that was sent its reply
 
 reads_either : (ended : Result (Unit {0}) ServeFault) (calls : List Call) → IsOkUnless ended Write → ReadsOf (Ok tt) calls → ReadsOf ended calls
 reads_either (Ok x) calls unless reads = reads
@@ -157,42 +259,55 @@ reply_sent (Err Write) calls reply sent_old sent failed_old failed unless un who
 )
 reply_sent (Err Read) calls reply sent_old sent failed_old failed unless un whole part = cc
 
--- as many conversations as clients
-pub as_many_sent : {I O : Type 0} (calls : I → List Call) (clients : List (I × O)) (replies : List (List ℕ)) (conversations : List Conversation) → WereSent calls clients replies conversations → length conversations ≡ length clients
-as_many_sent calls [] [] [] sent = refl
-as_many_sent calls ((input, output) ∷ clients) (reply ∷ replies) (one ∷ conversations) sent = ap suc (as_many_sent calls clients replies conversations sent.2)
-as_many_sent calls [] (reply ∷ replies) conversations sent = absurd sent
-as_many_sent calls [] [] (one ∷ conversations) sent = absurd sent
-as_many_sent calls ((input, output) ∷ clients) [] conversations sent = absurd sent
-as_many_sent calls ((input, output) ∷ clients) (reply ∷ replies) [] sent = absurd sent
+-- whether a write failed, by how that ended
+pub none_failed_if : (ended : Result (Unit {0}) ServeFault) (P : Type 0) (failed_old failed : ℕ) → failed_old ≡ 0 → OnOk ended (P × (failed ≡ failed_old)) → is_ok ended ≡ true → failed ≡ 0
+none_failed_if (Ok x) P failed_old failed none same ok = same.1 ∙ none
+none_failed_if (Err fault) P failed_old failed none same ok = cc
 
-module _ {I O : Type 0} (calls : I → List Call) (clients : List (I × O)) (replies : List (List ℕ)) (journal_old : List Conversation) (said_old : List ℕ) (failed_old : ℕ) where
-  -- some clients were sent their replies, and these are left with theirs
-  abbrev pub AnswersSome : List (I × O) → List (List ℕ) → List Conversation → List ℕ → ℕ → Type 0
-  AnswersSome left rest journal said failed = (conversations : List Conversation)
-      × ((later : List Conversation) → WereSent calls left rest later → WereSent calls clients replies (conversations ++ later))
-      × (journal ≡ journal_old ++ conversations) × Says (lines_of conversations) said_old said failed_old failed
+pub one_failed_if : (ended : Result (Unit {0}) ServeFault) (P Q : ℕ → Type 0) (failed_old failed : ℕ) → OnErr ended ((count : ℕ) × P count × Q count × (failed_old < failed)) → is_ok ended ≡ false → 0 < failed
+one_failed_if (Ok x) P Q failed_old failed more ok = cc
+one_failed_if (Err fault) P Q failed_old failed more ok = omega (arith, more.3)
 
-  pub none_answered : AnswersSome clients replies journal_old said_old failed_old
-  none_answered = ([], (λ later were. were), sym (append-nil journal_old), says_none said_old failed_old)
+-- as many exchanges as clients
+pub as_many_sent : {I O : Type 0} (calls : I → List Call) (may_stay : Bool) (clients : List (TakenClient I O)) (replies : List (List ℕ)) (exchanges : List Exchange) → WereSent calls may_stay clients replies exchanges → length exchanges ≡ length clients
+as_many_sent calls may_stay [] [] [] sent = refl
+as_many_sent calls may_stay (client ∷ clients) (reply ∷ replies) (x ∷ exchanges) sent = ap suc (as_many_sent calls may_stay clients replies exchanges sent.1)
+as_many_sent calls may_stay [] (reply ∷ replies) exchanges sent = absurd sent
+as_many_sent calls may_stay [] [] (x ∷ exchanges) sent = absurd sent
+as_many_sent calls may_stay (client ∷ clients) [] exchanges sent = absurd sent
+as_many_sent calls may_stay (client ∷ clients) (reply ∷ replies) [] sent = absurd sent
+
+module _ {I O : Type 0} (calls : I → List Call) (may_stay : Bool) (clients : List (TakenClient I O)) (replies : List (List ℕ)) (journal_old : List Exchange) (said_old : List ℕ) (failed_old : ℕ) where
+  -- some clients were sent their replies, of whom so many ended, and these are left with theirs
+  abbrev pub AnswersSome : List (TakenClient I O) → List (List ℕ) → ℕ → List Exchange → List ℕ → ℕ → Type 0
+  AnswersSome left rest ended journal said failed = (exchanges : List Exchange)
+      × ((later : List Exchange) → WereSent calls may_stay left rest later → WereSent calls may_stay clients replies (exchanges ++ later))
+      × (ended_in exchanges ≡ ended) × (journal ≡ journal_old ++ exchanges) × Says (lines_of exchanges) said_old said failed_old failed
+
+  pub none_answered : AnswersSome clients replies 0 journal_old said_old failed_old
+  none_answered = ([], (λ later were. were), refl, sym (append-nil journal_old), says_none said_old failed_old)
 
   -- one more
-  pub answered_next : (client : I × O) (left : List (I × O)) (reply : List ℕ) (rest : List (List ℕ)) (journal journal_new : List Conversation) (said said_new : List ℕ) (failed failed_new : ℕ) → AnswersSome (client ∷ left) (reply ∷ rest) journal said failed
-      → ((one : Conversation) × SentText reply one × (one.calls ≡ calls client.0) × (journal_new ≡ journal ++ one ∷ []) × Says (lines_of (one ∷ [])) said said_new failed failed_new) → AnswersSome left rest journal_new said_new failed_new
-  answered_next client left reply rest journal journal_new said said_new failed failed_new (some, before, kept, lines) (one, text, same, more, line) = (
+  pub answered_next : (client : TakenClient I O) (left : List (TakenClient I O)) (reply : List ℕ) (rest : List (List ℕ)) (ended : ℕ) (has_ended : Bool) (journal journal_new : List Exchange) (said said_new : List ℕ) (failed failed_new : ℕ)
+      → AnswersSome (client ∷ left) (reply ∷ rest) ended journal said failed
+      → ((one : Exchange) × IsSent calls may_stay client reply one × (ended_in (one ∷ []) ≡ count_of has_ended) × (journal_new ≡ journal ++ one ∷ []) × Says (lines_of (one ∷ [])) said said_new failed failed_new)
+      → AnswersSome left rest (ended + count_of has_ended) journal_new said_new failed_new
+  answered_next client left reply rest ended has_ended journal journal_new said said_new failed failed_new (some, before, counted, kept, lines) (one, sent, ends, more, line) = (
     some ++ one ∷ [],
-    (λ later were. subst (λ (all : List Conversation). WereSent calls clients replies all) (sym (append_assoc some (one ∷ []) later)) (before (one ∷ later) (text, same, were))),
-    more ∙ ap (λ (j : List Conversation). j ++ one ∷ []) kept ∙ append_assoc journal_old some (one ∷ []),
+    (λ later were. subst (λ (all : List Exchange). WereSent calls may_stay clients replies all) (sym (append_assoc some (one ∷ []) later)) (before (one ∷ later) (sent, were))),
+    omega (arith, ended_more some (one ∷ []), counted, ends),
+    more ∙ ap (λ (j : List Exchange). j ++ one ∷ []) kept ∙ append_assoc journal_old some (one ∷ []),
     subst (λ (all : List (List ℕ)). Says all said_old said_new failed_old failed_new) (sym (map-append _ some (one ∷ [])))
         (says_more (lines_of some) (lines_of (one ∷ [])) said_old said said_new failed_old failed failed_new lines line),
   )
 
   -- all were
-  pub all_answered : (left : List (I × O)) (rest : List (List ℕ)) (journal : List Conversation) (said : List ℕ) (failed : ℕ) → left ≡ [] → rest ≡ [] → AnswersSome left rest journal said failed
-      → (conversations : List Conversation) × WereSent calls clients replies conversations × (journal ≡ journal_old ++ conversations) × Says (lines_of conversations) said_old said failed_old failed
-  all_answered left rest journal said failed none empty (some, before, kept, lines) = (
+  pub all_answered : (left : List (TakenClient I O)) (rest : List (List ℕ)) (ended : ℕ) (journal : List Exchange) (said : List ℕ) (failed : ℕ) → left ≡ [] → rest ≡ [] → AnswersSome left rest ended journal said failed
+      → (exchanges : List Exchange) × WereSent calls may_stay clients replies exchanges × (ended_in exchanges ≡ ended) × (journal ≡ journal_old ++ exchanges) × Says (lines_of exchanges) said_old said failed_old failed
+  all_answered left rest ended journal said failed none empty (some, before, counted, kept, lines) = (
     some,
-    subst (λ (all : List Conversation). WereSent calls clients replies all) (append-nil some) (before [] (rw (none, empty) tt)),
+    subst (λ (all : List Exchange). WereSent calls may_stay clients replies all) (append-nil some) (before [] (rw (none, empty) tt)),
+    counted,
     kept,
     lines,
   )

@@ -15,17 +15,17 @@ use Rattle.osb_file.proofs.FileLemmas.{held_are, only_lives_of}
 use Rattle.osb_statements.specs.Steps.{stored}
 use Rattle.osb_broker.specs.BrokerState.{Works}
 use Rattle.osb_broker.specs.Served.{AreStandard}
-use Rattle.osb_broker.specs.Conversations.{Conversation, AreConversations}
+use Rattle.osb_broker.specs.Exchanges.{Exchange, AreExchanges}
 use Rattle.osb_broker.specs.Plans.{first_lacking, ReportsLacking}
 use Rattle.osb_broker.specs.declared.fault.NewFault.{NewFault}
 use Rattle.osb_broker.specs.declared.fault.NewFault.TheVariants as new
 use Rattle.osb_listen.specs.declared.fault.ListenFault.{ListenFault}
 use Rattle.osb_listen.specs.declared.fault.ListenFault.TheVariants.{Database, PlanInUse, Memory, CannotListen, CannotWrite, CannotAccept, FileTaken}
-use Rattle.osb_listen.specs.Conversations.{AreAsMany, LeadTo, MissesFile}
+use Rattle.osb_listen.specs.Exchanges.{AreAsMany, LeadTo, MissesFile}
 use Rattle.osb_listen.specs.Held.{AreBefore, HasServed, LeadInto, ServesFrom, Serving, NoBroker, LeavesOf, LeavesWith, IsOfFile, origin_line}
 use Rattle.osb_listen.specs.Listen.{NamesLackingPlan, listen_fault_of}
 use Rattle.osb_listen.specs.Inside.{IsOfAddress, IsOfDatabase}
-use Rattle.osb_listen.proofs.ConversationLemmas.{standard}
+use Rattle.osb_listen.proofs.ExchangeLemmas.{standard}
 use Rattle.osb_listen.proofs.RefusedLemmas.{says_none_of_refused}
 
 pub if_some_both : {A : Type 0} (o : Option A) (N M : Type 0) (P R Q : A → Type 0) → (N → IfSome o P) → (M → IfSome o R) → ((a : A) → (N → P a) → (M → R a) → Q a) → IfSome o Q
@@ -59,7 +59,7 @@ not_made rules db lives fault told is stand tells =
 
 -- where there is no broker, nothing was served
 abbrev pub nothing_served : ListenFault → Serving
-nothing_served fault = record { ended = Err fault; conversations = []; before = [] }
+nothing_served fault = record { ended = Err fault; exchanges = []; before = [] }
 
 pub without_broker : (rules : Rules) (k : ℕ) (existing : Bool) (db : Trees) (left : Lives) (fault : ListenFault) → NoBroker rules db fault → LeavesOf rules k existing db (nothing_served fault) left
 without_broker rules k existing db left (Database fault) why = why
@@ -79,14 +79,14 @@ none_before rules CannotWrite is = absurd is
 none_before rules CannotAccept is = absurd is
 none_before rules FileTaken is = absurd is
 
-pub none_many : (rules : Rules) (all : ℕ) (fault : ListenFault) → IsOfDatabase rules fault → AreAsMany (Err fault) all 0
-none_many rules all (Database fault) is = refl
-none_many rules all (PlanInUse service plan) is = refl
-none_many rules all Memory is = absurd is
-none_many rules all CannotListen is = absurd is
-none_many rules all CannotWrite is = absurd is
-none_many rules all CannotAccept is = absurd is
-none_many rules all FileTaken is = absurd is
+pub none_many : (rules : Rules) (all k : ℕ) (fault : ListenFault) → IsOfDatabase rules fault → AreAsMany (Err fault) all k []
+none_many rules all k (Database fault) is = refl
+none_many rules all k (PlanInUse service plan) is = refl
+none_many rules all k Memory is = absurd is
+none_many rules all k CannotListen is = absurd is
+none_many rules all k CannotWrite is = absurd is
+none_many rules all k CannotAccept is = absurd is
+none_many rules all k FileTaken is = absurd is
 
 pub none_missed : (rules : Rules) (missed : ℕ) (fault : ListenFault) → IsOfDatabase rules fault → MissesFile {T = Unit {0}} (Err fault) missed missed
 none_missed rules missed (Database fault) is = refl
@@ -97,9 +97,9 @@ none_missed rules missed CannotWrite is = absurd is
 none_missed rules missed CannotAccept is = absurd is
 none_missed rules missed FileTaken is = absurd is
 
-pub has_nothing : (rules : Rules) (all : ℕ) (fault : ListenFault) (journal : List Conversation) (said : List ℕ) (failed : ℕ) → IsOfDatabase rules fault → HasServed all (nothing_served fault) journal journal said said failed failed
-has_nothing rules all fault journal said failed is =
-    record { journal = sym (append-nil journal); many = none_many rules all fault is; first = none_before rules fault is; lines = says_none_of_refused said failed }
+pub has_nothing : (rules : Rules) (all k : ℕ) (fault : ListenFault) (journal : List Exchange) (said : List ℕ) (failed : ℕ) → IsOfDatabase rules fault → HasServed all k (nothing_served fault) journal journal said said failed failed
+has_nothing rules all k fault journal said failed is =
+    record { journal = sym (append-nil journal); many = none_many rules all k fault is; first = none_before rules fault is; lines = says_none_of_refused said failed }
 
 -- what comes before there is a file is of a database
 pub of_no_file : (rules : Rules) (existing : Bool) (fault : ListenFault) → IsOfFile existing fault → IsOfDatabase rules fault
@@ -124,7 +124,7 @@ names_none rules CannotWrite is = tt
 names_none rules CannotAccept is = tt
 names_none rules FileTaken is = tt
 
--- the lines before those of conversations, once there is a broker
+-- the lines before those of exchanges, once there is a broker
 pub before_at : (result : Result (Unit {0}) ListenFault) (origin : Origin) → IfErr result IsOfAddress → AreBefore result (origin_line origin ∷ [])
 before_at (Ok x) origin is = (origin, refl)
 before_at (Err (Database fault)) origin is = absurd is
@@ -148,12 +148,12 @@ left_at rules k existing db serving new (Err CannotAccept) is served = served
 left_at rules k existing db serving new (Err FileTaken) is served = served
 
 -- of the settings, the number of requests and the lives that a caller knows
-pub known : (given rules : Rules) (limits : Limits) (most k : ℕ) (conversations : List Conversation) (old left new : Lives) → given ≡ rules → most ≡ k → left ≡ new
-    → AreConversations given limits most old conversations left → AreConversations rules limits k old conversations new
-known given rules limits most k conversations old left new is_rules is_most is_new lead =
-    subst (λ (lives : Lives). AreConversations rules limits k old conversations lives) is_new
-    (subst (λ (number : ℕ). AreConversations rules limits number old conversations left) is_most
-    (subst (λ (found : Rules). AreConversations found limits most old conversations left) is_rules lead))
+pub known : (given rules : Rules) (limits : Limits) (most k : ℕ) (exchanges : List Exchange) (old left new : Lives) → given ≡ rules → most ≡ k → left ≡ new
+    → AreExchanges given limits most old exchanges left → AreExchanges rules limits k old exchanges new
+known given rules limits most k exchanges old left new is_rules is_most is_new lead =
+    subst (λ (lives : Lives). AreExchanges rules limits k old exchanges lives) is_new
+    (subst (λ (number : ℕ). AreExchanges rules limits number old exchanges left) is_most
+    (subst (λ (found : Rules). AreExchanges found limits most old exchanges left) is_rules lead))
 
 -- a crash leaves what it left before
 pub keeps_on : (db : Trees) (old new : State) → KeepsLivesOf db old → ((left : Trees) → new.may_leave left → old.may_leave left ⊎ ⊥) → KeepsLivesOf db new
@@ -168,21 +168,21 @@ leads_nowhere rules k db now keeps old are left may =
     record { lives = old; are_in = keeps old are left may; limits = standard.0; standard = standard.1; lead = refl }
 
 -- of the settings and the number of requests that a caller knows
-pub led : (given rules : Rules) (most k : ℕ) → given ≡ rules → most ≡ k → {old : Lives} {conversations : List Conversation} {left : Trees} → LeadInto given most old conversations left → LeadInto rules k old conversations left
-led given rules most k is_rules is_most {old} {conversations} {left} lead =
-    subst (λ (number : ℕ). LeadInto rules number old conversations left) is_most
-    (subst (λ (found : Rules). LeadInto found most old conversations left) is_rules lead)
+pub led : (given rules : Rules) (most k : ℕ) → given ≡ rules → most ≡ k → {old : Lives} {exchanges : List Exchange} {left : Trees} → LeadInto given most old exchanges left → LeadInto rules k old exchanges left
+led given rules most k is_rules is_most {old} {exchanges} {left} lead =
+    subst (λ (number : ℕ). LeadInto rules number old exchanges left) is_most
+    (subst (λ (found : Rules). LeadInto found most old exchanges left) is_rules lead)
 
-module _ (rules : Rules) (limits : Limits) (k : ℕ) (conversations : List Conversation) (db : Trees) (old new : State) where
-  -- what a crash leaves of a store with which conversations were had
-  pub leads_into : AreStandard limits → (Works old → AreLivesOf db (stored old)) → (HasCleanDisk old → KeepsLivesOf db old) → LeadTo rules limits k old new conversations → Survives old new (λ _. IsTrue old.is_open)
-      → HasCleanDisk new → (lives : Lives) → AreLivesOf db lives → (left : Trees) → new.may_leave left → LeadInto rules k lives conversations left
+module _ (rules : Rules) (limits : Limits) (k : ℕ) (exchanges : List Exchange) (db : Trees) (old new : State) where
+  -- what a crash leaves of a store with which exchanges were had
+  pub leads_into : AreStandard limits → (Works old → AreLivesOf db (stored old)) → (HasCleanDisk old → KeepsLivesOf db old) → LeadTo rules limits k old new exchanges → Survives old new (λ _. IsTrue old.is_open)
+      → HasCleanDisk new → (lives : Lives) → AreLivesOf db lives → (left : Trees) → new.may_leave left → LeadInto rules k lives exchanges left
   leads_into standard found keeps lead survives clean lives are left may = by old.is_open refl
     where
       was_clean : HasCleanDisk old
       was_clean = omega (arith, clean, survives.clean)
 
-      by : (is_open : Bool) → old.is_open ≡ is_open → LeadInto rules k lives conversations left
+      by : (is_open : Bool) → old.is_open ≡ is_open → LeadInto rules k lives exchanges left
       by true live =
           let works : Works old = record { clean = was_clean; live = live } in
           let leaves = (lead.left works clean).left left may in
@@ -192,7 +192,7 @@ module _ (rules : Rules) (limits : Limits) (k : ℕ) (conversations : List Conve
             are_in = held_are left leaves.0 leaves.1 leaves.2;
             limits = limits;
             standard = standard;
-            lead = subst (λ (l : Lives). AreConversations rules limits k l conversations leaves.0) same leaves.3;
+            lead = subst (λ (l : Lives). AreExchanges rules limits k l exchanges leaves.0) same leaves.3;
           }
       by false shut = elim (survives.crash clean left may) [
         | inl was ↦ record {

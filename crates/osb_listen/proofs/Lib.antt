@@ -1,4 +1,4 @@
-pub mod ConversationLemmas
+pub mod ExchangeLemmas
 mod FaultLemmas
 mod GroupLemmas
 mod HeldLemmas

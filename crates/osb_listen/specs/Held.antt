@@ -1,5 +1,5 @@
 -- Serving from a database file, of which is supposed what it held.
-use Rattle.std.specs.Prelude.{◌≡◌, ◌⊎◌, ◌++◌, ℕ, Bool, true, List, [], ◌∷◌, codes, length, Some, Result, Ok, Err, ⊤}
+use Rattle.std.specs.Prelude.{◌≡◌, ◌⊎◌, ◌++◌, ℕ, Bool, true, List, [], ◌∷◌, codes, Some, Result, Ok, Err, ⊤}
 use Rattle.sqlite.specs.Tree.{Trees}
 use Rattle.sqlite.specs.State.{State, HasCleanDisk}
 use Rattle.osb_frames.specs.declared.limits.Limits.{Limits}
@@ -12,12 +12,12 @@ use Rattle.osb_file.specs.declared.origin.Origin.TheVariants.{New, Kept}
 use Rattle.osb_file.specs.File.{AreLivesOf, HasNoTables, IsOriginOf}
 use Rattle.osb_statements.specs.Steps.{stored}
 use Rattle.osb_broker.specs.BrokerState.{Works}
-use Rattle.osb_broker.specs.Conversations.{Conversation, AreConversations}
+use Rattle.osb_broker.specs.Exchanges.{Exchange, AreExchanges}
 use Rattle.osb_broker.specs.Plans.{first_lacking}
 use Rattle.osb_broker.specs.Served.{AreStandard}
 use Rattle.osb_listen.specs.declared.fault.ListenFault.{ListenFault}
 use Rattle.osb_listen.specs.declared.fault.ListenFault.TheVariants.{Database, PlanInUse, Memory, CannotListen, CannotWrite, CannotAccept, FileTaken}
-use Rattle.osb_listen.specs.Conversations.{AreAsMany, lines_of}
+use Rattle.osb_listen.specs.Exchanges.{AreAsMany, lines_of}
 use Rattle.osb_listen.specs.Lines.{SaysWithRefused}
 
 -- the line that reports that a database is begun
@@ -25,13 +25,13 @@ abbrev pub origin_line : Origin → List ℕ
 origin_line New = codes "database: new\n"
 origin_line Kept = []
 
--- What serving did: how it ended, the conversations that were had, and the lines that were written before theirs.
+-- What serving did: how it ended, the exchanges, and the lines that were written before theirs.
 pub record Serving : Type 0 where
   pub ended : Result (Unit {0}) ListenFault
-  pub conversations : List Conversation
+  pub exchanges : List Exchange
   pub before : List (List ℕ)
 
--- before those of conversations comes no line where there is no broker, and else at most that the database is begun
+-- before the lines of exchanges: none without a broker, else at most that the database is begun
 abbrev pub AreBefore : Result (Unit {0}) ListenFault → List (List ℕ) → Type 0
 AreBefore (Ok x) lines = (origin : Origin) × (lines ≡ origin_line origin ∷ [])
 AreBefore (Err (Database fault)) lines = lines ≡ []
@@ -42,18 +42,18 @@ AreBefore (Err CannotWrite) lines = (origin : Origin) × (lines ≡ origin_line 
 AreBefore (Err CannotAccept) lines = (origin : Origin) × (lines ≡ origin_line origin ∷ [])
 AreBefore (Err FileTaken) lines = (origin : Origin) × (lines ≡ origin_line origin ∷ [])
 
--- The conversations are the journal's last, as many as were asked for or fewer, and the lines were written.
-pub record HasServed (all : ℕ) (serving : Serving) (journal_old journal_new : List Conversation)
+-- The exchanges are the journal's last, of as many clients as asked for or fewer, with their lines.
+pub record HasServed (all k : ℕ) (serving : Serving) (journal_old journal_new : List Exchange)
     (said_old said_new : List ℕ) (failed_old failed_new : ℕ) : Type 0 where
-  pub journal : journal_new ≡ journal_old ++ serving.conversations
-  pub many : AreAsMany serving.ended all (length serving.conversations)
+  pub journal : journal_new ≡ journal_old ++ serving.exchanges
+  pub many : AreAsMany serving.ended all k serving.exchanges
   pub first : AreBefore serving.ended serving.before
-  pub lines : SaysWithRefused (serving.before ++ lines_of serving.conversations) said_old said_new
+  pub lines : SaysWithRefused (serving.before ++ lines_of serving.exchanges) said_old said_new
       failed_old failed_new
 
--- The conversations lead, within the standard limits, from the lives in these trees, which hold no others, to new ones. A
--- database without tables is begun, any other is served on, as the line before says; where an existing one was asked for,
--- none is begun.
+-- The exchanges lead, within the standard limits, from the lives in these trees, which hold no
+-- others, to new ones. A database without tables is begun, any other is served on, as the line
+-- before says; where an existing one was asked for, none is begun.
 pub record ServesFrom (rules : Rules) (k : ℕ) (existing : Bool) (db : Trees) (serving : Serving)
     (new : Lives) : Type 0 where
   pub old : Lives
@@ -64,7 +64,7 @@ pub record ServesFrom (rules : Rules) (k : ℕ) (existing : Bool) (db : Trees) (
   pub asked : existing ≡ true → origin ≡ Kept
   pub limits : Limits
   pub standard : AreStandard limits
-  pub lead : AreConversations rules limits k old serving.conversations new
+  pub lead : AreExchanges rules limits k old serving.exchanges new
 
 -- the lives in these trees have the plan in use, and it is the first that the catalog lacks
 pub record IsInUse (rules : Rules) (db : Trees) (service plan : List ℕ) : Type 0 where
@@ -84,8 +84,8 @@ NoBroker rules db CannotWrite = ⊥
 NoBroker rules db CannotAccept = ⊥
 NoBroker rules db FileTaken = ⊥
 
--- what serving leaves of a file that held these trees, by how it ended: it isn't served from, or the conversations lead to
--- its lives
+-- what serving leaves of a file that held these trees, by how it ended: it isn't served from, or
+-- the exchanges lead to its lives
 abbrev pub LeavesWith : Rules → ℕ → Bool → Trees → Serving → Lives → Result (Unit {0}) ListenFault →
     Type 0
 LeavesWith rules k existing db serving new (Ok x) = ServesFrom rules k existing db serving new
@@ -106,14 +106,14 @@ LeavesWith rules k existing db serving new (Err FileTaken) =
 abbrev pub LeavesOf : Rules → ℕ → Bool → Trees → Serving → Lives → Type 0
 LeavesOf rules k existing db serving new = LeavesWith rules k existing db serving new serving.ended
 
--- the conversations lead, within the standard limits, from the lives old to those in these trees
-pub record LeadInto (rules : Rules) (k : ℕ) (old : Lives) (conversations : List Conversation)
+-- the exchanges lead, within the standard limits, from the lives old to those in these trees
+pub record LeadInto (rules : Rules) (k : ℕ) (old : Lives) (exchanges : List Exchange)
     (left : Trees) : Type 0 where
   pub lives : Lives
   pub are_in : AreLivesOf left lives
   pub limits : Limits
   pub standard : AreStandard limits
-  pub lead : AreConversations rules limits k old conversations lives
+  pub lead : AreExchanges rules limits k old exchanges lives
 
 -- What serving leaves of a file that held these trees: the lives that the store has, where it works, and those in whatever
 -- a crash leaves now.
@@ -121,7 +121,7 @@ pub record LeavesFile (rules : Rules) (k : ℕ) (existing : Bool) (db : Trees) (
     (now : State) : Type 0 where
   pub works : Works now → LeavesOf rules k existing db serving (stored now)
   pub crash : HasCleanDisk now → (old : Lives) → AreLivesOf db old → (left : Trees) →
-      now.may_leave left → LeadInto rules k old serving.conversations left
+      now.may_leave left → LeadInto rules k old serving.exchanges left
 
 -- why there is no file to open: it is refused, or lacks where an existing one was asked for
 abbrev pub IsOfFile : Bool → ListenFault → Type 0

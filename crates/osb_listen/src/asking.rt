@@ -18,11 +18,11 @@ pub(crate) struct Asking {
 }
 
 impl Asking {
-    /// A client of whom nothing was read yet.
-    pub(crate) fn new(alloc: Global, peer: Peer) -> Asking {
+    /// A client of whom this has come.
+    pub(crate) fn new(peer: Peer, received: Received) -> Asking {
         Asking {
             peer,
-            received: Received::nothing(alloc),
+            received,
             lacks_room: false,
         }
     }
@@ -43,6 +43,23 @@ impl Asking {
     /// Whether it has a large room.
     pub(crate) fn has_large_room(&self) -> bool {
         self.received.has_large_room()
+    }
+
+    /// Whether a request of it was answered, and nothing has come since then.
+    pub(crate) fn is_idle(&self) -> bool {
+        self.received.is_idle() && !self.lacks_room
+    }
+
+    /// Has no more come, where it is idle.
+    pub(crate) fn end_idle(&mut self) {
+        if self.is_idle() {
+            self.received.end();
+        }
+    }
+
+    /// Looks for a request in what has come. Whether the client can be served.
+    pub(crate) fn look(&mut self, lines: &mut LineRoom) -> Readiness {
+        self.received.look(lines)
     }
 
     /// Takes in what has come. Whether the client can be served then.

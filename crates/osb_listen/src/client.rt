@@ -2,6 +2,7 @@
 
 use crate::asking::Asking;
 use crate::peer::Peer;
+use crate::received::Received;
 use crate::reply::Reply;
 use mio::Interest;
 
@@ -14,17 +15,28 @@ pub(crate) enum Kind {
     HasLargeRoom,
     /// Those of them that wait for room.
     LacksRoom,
+    /// Those of them that were answered and have sent nothing since then.
+    Idle,
     /// Those that were served.
     WasServed,
+}
+
+/// What becomes of a client that has its reply.
+#[derive(Drop)]
+pub(crate) enum Then {
+    /// It is let go. One that met a framing fault may be sending still.
+    Ends { met_fault: bool },
+    /// Its next request is waited for, of which this has come.
+    GoesOn(Received),
 }
 
 /// A client that is connected, by what is waited for.
 #[derive(Drop)]
 pub(crate) enum Client {
-    /// That its request is whole.
+    /// That its next request is whole.
     Asks(Asking),
-    /// That it takes the rest of its reply, and whether it met a framing fault.
-    Takes(Reply, bool),
+    /// That it takes the rest of its reply.
+    Takes(Reply, Then),
     /// That it ends, where it may be sending still, and how many of its bytes are read until then.
     Lingers(Peer, usize),
 }
@@ -60,6 +72,7 @@ impl Client {
             (Client::Asks(_), Kind::Asks) => true,
             (Client::Asks(asking), Kind::HasLargeRoom) => asking.has_large_room(),
             (Client::Asks(asking), Kind::LacksRoom) => asking.lacks_room(),
+            (Client::Asks(asking), Kind::Idle) => asking.is_idle(),
             (Client::Asks(_), Kind::WasServed) => false,
             (_, kind) => kind == Kind::WasServed,
         }

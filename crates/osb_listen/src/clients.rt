@@ -1,9 +1,10 @@
 //! Clients that are connected at the same time.
 
 use crate::asking::Asking;
-use crate::client::{Client, Kind};
+use crate::client::{Client, Kind, Then};
 use crate::door::{Arrival, DOOR, Door};
 use crate::ending::{LINGER_BYTES, LINGER_MILLISECONDS};
+use crate::listen::ListenOptions;
 use crate::peer::Peer;
 use crate::places::{Places, earlier};
 use crate::received::{Readiness, Received};
@@ -28,6 +29,9 @@ const GRACE_MILLISECONDS: u64 = 1000;
 pub(crate) struct Clients<'a> {
     rt: &'a HostRuntime,
     time_limit: Duration,
+    idle_limit: Duration,
+    /// How many have come.
+    came: u64,
     /// Who is listened to.
     registry: Registry,
     door: Door,
@@ -44,18 +48,20 @@ pub(crate) struct Clients<'a> {
 }
 
 impl<'a> Clients<'a> {
-    /// Clients of an address: so many at the same time, each for so long.
+    /// Clients of an address, within these limits.
     pub(crate) fn at(
         rt: &'a HostRuntime,
         address: SocketAddr,
-        time_limit: Duration,
-        count: usize,
+        place: &ListenOptions<'_>,
         registry: Registry,
     ) -> io::Result<Clients<'a>> {
         let door = Door::open(rt, address, &registry)?;
+        let count = place.together as usize;
         Ok(Clients {
             rt,
-            time_limit,
+            time_limit: place.time_limit,
+            idle_limit: place.idle_limit,
+            came: 0,
             registry,
             door,
             places: Places::new(rt.alloc(), count)?,
@@ -73,6 +79,11 @@ impl<'a> Clients<'a> {
         Some(asking.into_ends(self.rt.alloc()))
     }
 
+    /// How many can be served.
+    pub(crate) fn count_ready(&self) -> usize {
+        self.ready.len()
+    }
+
     /// Whether clients can come still.
     pub(crate) fn can_come(&self) -> bool {
         !self.door.is_broken()
@@ -85,7 +96,8 @@ impl<'a> Clients<'a> {
 
     /// When something has to be done though there is no news.
     pub(crate) fn alarm(&self, now: Instant) -> Option<Instant> {
-        if self.door.may_open() && (self.places.has_free() || !self.door.has_waiting()) {
+        let may_come = self.places.has_free() || !self.door.has_waiting();
+        if !self.ready.is_empty() || (self.door.may_open() && may_come) {
             return Some(now);
         }
         earlier(self.places.alarm(), self.door.rests())
@@ -102,11 +114,17 @@ impl<'a> Clients<'a> {
             self.door.hear();
             return;
         }
-        match self.places.take(token.0) {
-            Some(Client::Asks(asking)) => self.read(asking),
-            Some(Client::Takes(reply, met_fault)) => self.send(reply, met_fault),
-            Some(Client::Lingers(peer, room)) => self.linger(peer, room),
-            None => {}
+        if let Some(client) = self.places.take(token.0) {
+            self.hear_from(client);
+        }
+    }
+
+    /// Goes on with a client of which there is news.
+    fn hear_from(&mut self, client: Client) {
+        match client {
+            Client::Asks(asking) => self.read(asking),
+            Client::Takes(reply, then) => self.send(reply, then),
+            Client::Lingers(peer, room) => self.linger(peer, room),
         }
     }
 
@@ -142,7 +160,9 @@ impl<'a> Clients<'a> {
         };
         let until = now.checked_add(self.time_limit).unwrap_or(now);
         let peer = Peer::new(stream, place, now, until);
-        self.read(Asking::new(self.rt.alloc(), peer));
+        self.came = self.came.saturating_add(1);
+        let received = Received::nothing(self.rt.alloc(), self.came);
+        self.read(Asking::new(peer, received));
         true
     }
 
@@ -161,14 +181,23 @@ impl<'a> Clients<'a> {
         true
     }
 
-    /// Ends the one who has waited longest: one whose request isn't whole, or else one who was served. Where
-    /// some are ready, these are served first.
+    /// Ends the one who has been idle longest, at once. Whether there was one.
+    fn end_idle(&mut self) -> bool {
+        let Some((place, _)) = self.places.longest(Kind::Idle) else {
+            return false;
+        };
+        self.end_at(place);
+        true
+    }
+
+    /// Ends the one who has waited longest: one who is idle, one whose request isn't whole, or else
+    /// one who was served. Where some are ready, these are served first.
     fn end_longest(&mut self, now: Instant) {
         if !self.ready.is_empty() {
             self.places.wake_by(now);
             return;
         }
-        if !self.end_longest_of(Kind::Asks, now) {
+        if !self.end_idle() && !self.end_longest_of(Kind::Asks, now) {
             self.end_longest_of(Kind::WasServed, now);
         }
     }
@@ -181,9 +210,14 @@ impl<'a> Clients<'a> {
         }
     }
 
-    /// Takes the room of one who was served back. Who has waited for one longest is read from again.
+    /// Takes the room of one who was served back.
     pub(crate) fn take_back(&mut self, received: Received) {
         self.rooms.give_back(received.into_room());
+        self.use_room();
+    }
+
+    /// Reads again from the one who has waited longest for room.
+    fn use_room(&mut self) {
         if !self.lacks_room {
             return;
         }
@@ -204,19 +238,40 @@ impl<'a> Clients<'a> {
         }
     }
 
-    /// Ends the one at a place.
+    /// Ends the one at a place. One that was idle up to now isn't ended where something has come.
     fn end_at(&mut self, place: usize) {
-        if let Some(client) = self.places.take(place) {
+        let Some(client) = self.places.take(place) else {
+            return;
+        };
+        if client.is(Kind::Idle) && client.peer().has_unread() {
+            self.hear_from(client);
+        } else {
             self.end(client);
         }
     }
 
     /// Ends one who isn't done. One whose request isn't whole is served: as one whose read failed.
+    /// One whose next request is waited for, of which nothing has come, is served as one who ended.
     fn end(&mut self, client: Client) {
         match client {
-            Client::Asks(asking) => self.make_ready(asking),
-            Client::Takes(reply, _) => self.forget(reply.into_peer()),
+            Client::Asks(mut asking) => {
+                asking.end_idle();
+                self.make_ready(asking);
+            }
+            Client::Takes(reply, then) => self.end_with(reply.into_peer(), then),
             Client::Lingers(peer, _) => self.forget(peer),
+        }
+    }
+
+    /// Ends one who doesn't take the rest of its reply, and is sent nothing more. One who might stay
+    /// is served as one who ended.
+    fn end_with(&mut self, peer: Peer, then: Then) {
+        match then {
+            Then::Ends { met_fault: _ } => self.forget(peer),
+            Then::GoesOn(mut received) => {
+                received.end();
+                self.make_ready(Asking::new(peer, received));
+            }
         }
     }
 
@@ -241,9 +296,21 @@ impl<'a> Clients<'a> {
         }
     }
 
-    /// Reads what one has sent.
+    /// Has one have so much time from now on.
+    fn give_time(&self, peer: &mut Peer, limit: Duration) {
+        let now = Instant::now(self.rt).unwrap_or(peer.since);
+        peer.since = now;
+        peer.until = now.checked_add(limit).unwrap_or(now);
+    }
+
+    /// Reads what one has sent. One that was idle has the time of a request from then on.
     fn read(&mut self, mut asking: Asking) {
-        match asking.hear(&mut self.rooms, &mut self.piece, &mut self.lines) {
+        let was_idle = asking.is_idle();
+        let readiness = asking.hear(&mut self.rooms, &mut self.piece, &mut self.lines);
+        if was_idle && !asking.is_idle() {
+            self.give_time(asking.peer_mut(), self.time_limit);
+        }
+        match readiness {
             Readiness::Ready => self.make_ready(asking),
             Readiness::NotYet => self.wait_for(Client::Asks(asking)),
             Readiness::NoRoom => {
@@ -253,21 +320,51 @@ impl<'a> Clients<'a> {
         }
     }
 
-    /// Sends one who was served the rest of the reply. Then the connection is ended so that it can be
-    /// read: where bytes of the client lie unread as it is closed, the system takes the reply back. One
-    /// who met a framing fault may be sending still, though nothing lies there yet.
-    pub(crate) fn send(&mut self, mut reply: Reply, met_fault: bool) {
+    /// Sends one who was served the rest of the reply. Then it goes on, or is let go.
+    pub(crate) fn send(&mut self, mut reply: Reply, then: Then) {
         match reply.send() {
-            Sent::NotYet => self.wait_for(Client::Takes(reply, met_fault)),
-            Sent::Never => self.forget(reply.into_peer()),
-            Sent::All => {
-                let peer = reply.into_peer();
-                if (met_fault || peer.has_unread()) && peer.shut() {
-                    self.begin_to_linger(peer);
-                } else {
-                    self.forget(peer);
-                }
-            }
+            Sent::NotYet => self.wait_for(Client::Takes(reply, then)),
+            Sent::Never => self.end_with(reply.into_peer(), then),
+            Sent::All => match then {
+                Then::Ends { met_fault } => self.let_go(reply.into_peer(), met_fault),
+                Then::GoesOn(received) => self.ask_again(reply.into_peer(), received),
+            },
+        }
+    }
+
+    /// Ends a connection so that its reply can be read: where bytes of the client lie unread as it
+    /// is closed, the system takes the reply back. One who met a framing fault may be sending
+    /// still, though nothing lies there yet.
+    fn let_go(&mut self, peer: Peer, met_fault: bool) {
+        if (met_fault || peer.has_unread()) && peer.shut() {
+            self.begin_to_linger(peer);
+        } else {
+            self.forget(peer);
+        }
+    }
+
+    /// Has one who was answered go on once it has the reply.
+    pub(crate) fn go_on(&mut self, mut received: Received, reply: Reply) {
+        received.pass(&mut self.rooms);
+        if received.answered() == 1 {
+            reply.peer().hurry();
+        }
+        self.send(reply, Then::GoesOn(received));
+        self.use_room();
+    }
+
+    /// Waits for the next request of one who was answered, where it isn't there yet.
+    fn ask_again(&mut self, mut peer: Peer, received: Received) {
+        let limit = if received.is_idle() {
+            self.idle_limit
+        } else {
+            self.time_limit
+        };
+        self.give_time(&mut peer, limit);
+        let mut asking = Asking::new(peer, received);
+        match asking.look(&mut self.lines) {
+            Readiness::Ready => self.make_ready(asking),
+            _ => self.wait_for(Client::Asks(asking)),
         }
     }
 

@@ -12,7 +12,7 @@ ghost use Rattle.osb_broker.specs.BrokerState.{Works, lives_of, most_of, rules_i
 ghost use Rattle.osb_broker.specs.PerConnection.{IsPerConnection};
 ghost use Rattle.osb_broker.specs.Plans.{OffersInUse};
 ghost use Rattle.osb_listen.specs.declared.fault.ListenFault.TheVariants.{CannotWrite, Database};
-ghost use Rattle.osb_listen.specs.Conversations.{MissesFile};
+ghost use Rattle.osb_listen.specs.Exchanges.{MissesFile};
 ghost use Rattle.osb_listen.specs.Held.{HasServed, NoBroker, LeavesFile, Serving, IsOfFile, origin_line};
 ghost use Rattle.osb_listen.specs.Lines.{Says};
 ghost use Rattle.osb_listen.specs.Listen.{listening_line, IsAddress, NamesLackingPlan, WroteLine};
@@ -128,8 +128,8 @@ pub fn serve_file<D: Database, L: Entrance, W: Sink, E: Sink>(
 ) -> (Result<(), ListenFault>, Opened<D::Store>)
     requires per_connection { IsPerConnection per_connection }
     ensures served { (serving : Serving) × (serving.ended ≡ result.0)
-        × HasServed place.now.connections serving (L.journal entrance.old) (L.journal entrance.new)
-        (E.taken errors.old) (E.taken errors.new)
+        × HasServed place.now.connections per_connection serving
+        (L.journal entrance.old) (L.journal entrance.new) (E.taken errors.old) (E.taken errors.new)
         (E.failed_or_empty errors.old) (E.failed_or_empty errors.new)
         × IfSome result.1 (λ conn. (db : Trees) → HasTrees (D.held database) db →
         LeavesFile (catalog.rules_of settings.now) per_connection place.now.existing db serving

@@ -30,7 +30,7 @@ mod serving;
 mod tcp;
 mod unbound;
 
-pub use entrance::Entrance;
+pub use entrance::{Entrance, TakenClient};
 pub use fault::ListenFault;
 pub use file::serve_file;
 pub use line::say;

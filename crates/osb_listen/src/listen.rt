@@ -1,14 +1,14 @@
 //! An address, and the clients that are served at it.
 
-ghost use Rattle.std.specs.Prelude.{◌≡◌, ◌<◌, ◌++◌, List, length, IfOk, IfErr, OnOk, OnErr, IsOkUnless, IsTrue};
+ghost use Rattle.std.specs.Prelude.{◌≡◌, ◌<◌, ◌++◌, List, IfOk, IfErr, OnOk, OnErr, IsOkUnless, IsTrue};
 ghost use Rattle.sqlite.specs.State.{HasCleanDisk, Survives};
 ghost use Rattle.osb_frames.specs.declared.limits.Limits.{Limits};
 ghost use Rattle.osb_broker.specs.BrokerState.{Works, most_of, rules_in, store_of};
-ghost use Rattle.osb_broker.specs.Conversations.{Conversation};
+ghost use Rattle.osb_broker.specs.Exchanges.{Exchange};
 ghost use Rattle.osb_broker.specs.Room.{limits_of};
 ghost use Rattle.osb_broker.specs.Served.{AreStandard};
 ghost use Rattle.osb_listen.specs.declared.fault.ListenFault.TheVariants.{CannotWrite};
-ghost use Rattle.osb_listen.specs.Conversations.{AreAsMany, MissesFile, Serves};
+ghost use Rattle.osb_listen.specs.Exchanges.{AreAsMany, MissesFile, Serves};
 ghost use Rattle.osb_listen.specs.Lines.{IsWrittenInPart};
 ghost use Rattle.osb_listen.specs.Listen.{listening_line, IsAddress, WroteLine};
 ghost use Rattle.osb_listen.specs.Inside.{IsOfAddress};
@@ -32,10 +32,13 @@ pub struct ListenOptions<'a> {
     pub existing: bool,
     /// An IP address and a port.
     pub address: &'a str,
-    /// How many connections are taken.
+    /// How many clients are taken, of whom each may make a number of requests.
     pub connections: u32,
-    /// How long a connection may take, from when it is taken to its last reply.
+    /// How long a client may take, from when it is taken, or from the first byte of a later
+    /// request, to its reply.
     pub time_limit: Duration,
+    /// How long a client that was answered may send nothing.
+    pub idle_limit: Duration,
     /// How many clients may be connected at the same time; with 1 they are taken one after the other.
     pub together: u32,
 }
@@ -87,9 +90,9 @@ pub(crate) fn serve_at<S: Alter, L: Entrance, W: Sink, E: Sink>(
     output: &mut W,
     errors: &mut E,
 ) -> Result<(), ListenFault>
-    ensures served { (limits : Limits) × AreStandard limits × (conversations : List Conversation)
-        × AreAsMany result place.now.connections (length conversations)
-        × Serves (rules_in broker.old) limits (most_of broker.old) conversations
+    ensures served { (limits : Limits) × AreStandard limits × (exchanges : List Exchange)
+        × AreAsMany result place.now.connections (most_of broker.old) exchanges
+        × Serves (rules_in broker.old) limits (most_of broker.old) exchanges
         (store_of S.Store broker.old) (store_of S.Store broker.new)
         (L.journal entrance.old) (L.journal entrance.new) (E.taken errors.old) (E.taken errors.new)
         (E.failed_or_empty errors.old) (E.failed_or_empty errors.new) }
@@ -110,7 +113,7 @@ pub(crate) fn serve_at<S: Alter, L: Entrance, W: Sink, E: Sink>(
 {
     broker.lives_are_whole();
     let mut buffer = standard_buffer(rt.alloc())?;
-    entrance.listen(place.address, place.time_limit, place.together)?;
+    entrance.listen(place, broker.per_connection())?;
     write_listening_line(place.address, output)?;
     let watched = file.watched(rt);
     serve_listener(

@@ -1,6 +1,8 @@
 //! Waits for clients that are connected at the same time.
 
+use crate::client::Then;
 use crate::clients::Clients;
+use crate::listen::ListenOptions;
 use crate::received::Received;
 use crate::reply::Reply;
 use mio::{Events, Poll};
@@ -19,15 +21,16 @@ pub(crate) struct ManyClients<'a> {
     poll: Poll,
     events: Events,
     clients: Clients<'a>,
+    /// How many are handed on before there is a look for news again.
+    round: usize,
 }
 
 impl<'a> ManyClients<'a> {
-    /// Clients of an address: so many at the same time, each for so long.
+    /// Clients of an address, within these limits.
     pub(crate) fn at(
         rt: &'a HostRuntime,
         address: SocketAddr,
-        time_limit: Duration,
-        count: usize,
+        place: &ListenOptions<'_>,
     ) -> io::Result<ManyClients<'a>> {
         let poll = Poll::new(rt)?;
         let registry = poll.registry().try_clone()?;
@@ -35,7 +38,8 @@ impl<'a> ManyClients<'a> {
             rt,
             poll,
             events: Events::with_capacity(rt.alloc(), EVENTS)?,
-            clients: Clients::at(rt, address, time_limit, count, registry)?,
+            clients: Clients::at(rt, address, place, registry)?,
+            round: 0,
         })
     }
 
@@ -71,6 +75,7 @@ impl<'a> ManyClients<'a> {
         let waited = self.wait(now, until)?;
         let later = self.attend()?;
         self.clients.let_in(later, waited);
+        self.round = self.clients.count_ready();
         Ok(())
     }
 
@@ -78,7 +83,7 @@ impl<'a> ManyClients<'a> {
     /// none can come any more.
     pub(crate) fn next(&mut self) -> Option<(Received, Reply)> {
         for _ in 0..u64::MAX {
-            if let Some(found) = self.clients.next_ready() {
+            if let Some(found) = self.next_ready() {
                 return Some(found);
             }
             if !self.clients.can_come() || self.turn().is_err() {
@@ -88,8 +93,14 @@ impl<'a> ManyClients<'a> {
         None
     }
 
-    /// Another client that can be served now.
+    /// Another client that can be served now. Those who became ready since there was a look for
+    /// news come behind the next one: so a client that sends many requests at once keeps nobody
+    /// out.
     pub(crate) fn next_ready(&mut self) -> Option<(Received, Reply)> {
+        if self.round == 0 {
+            return None;
+        }
+        self.round -= 1;
         self.clients.next_ready()
     }
 
@@ -100,7 +111,12 @@ impl<'a> ManyClients<'a> {
 
     /// Has a client that was served take its reply. Nobody waits for that.
     pub(crate) fn let_go(&mut self, reply: Reply, met_fault: bool) {
-        self.clients.send(reply, met_fault);
+        self.clients.send(reply, Then::Ends { met_fault });
+    }
+
+    /// Has a client that was answered take its reply, and waits for its next request.
+    pub(crate) fn go_on(&mut self, received: Received, reply: Reply) {
+        self.clients.go_on(received, reply);
     }
 
     /// Waits for those who were served, and lets in nobody.

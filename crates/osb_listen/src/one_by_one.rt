@@ -14,6 +14,8 @@ pub(crate) struct OneByOne<'a> {
     seat: &'a Seat,
     listener: TcpListener,
     time_limit: Duration,
+    /// How many have come.
+    came: u64,
 }
 
 impl<'a> OneByOne<'a> {
@@ -28,17 +30,19 @@ impl<'a> OneByOne<'a> {
             seat,
             listener,
             time_limit,
+            came: 0,
         }
     }
 
-    /// Waits for the next client. Nothing where none can be taken any more.
-    pub(crate) fn next(&self) -> Option<Timed<'a>> {
+    /// Waits for the next client, with its number. Nothing where none can be taken any more.
+    pub(crate) fn next(&mut self) -> Option<(u64, Timed<'a>)> {
         let stream = accept(self.rt, &self.listener)?;
         // A reply isn't held back for more to come. Where the system can't do that, it is only later.
         let _ = stream.set_nodelay(true);
         self.seat.take_in(stream);
         let deadline = Deadline::after(self.rt, self.time_limit);
-        Some(Timed::new(self.seat, deadline))
+        self.came = self.came.saturating_add(1);
+        Some((self.came, Timed::new(self.seat, deadline)))
     }
 
     /// Lets the client go that was served.

@@ -59,6 +59,11 @@ impl Peer {
         }
     }
 
+    /// Has the system hold back no bytes for more to come, from now on.
+    pub(crate) fn hurry(&self) {
+        let _ = self.stream.set_nodelay(true);
+    }
+
     /// Sends no more, and what the system held back for more to come. Whether the client was there for that.
     pub(crate) fn shut(&self) -> bool {
         self.stream.shutdown(Shutdown::Write).is_ok()

@@ -18,24 +18,47 @@ pub(crate) enum Readiness {
     NoRoom,
 }
 
-/// What has come of a client. It is read as if it came now: behind it is the end, or a failure where the
-/// client hasn't ended.
+/// What has come of a client. Its next request is read as if it came now: behind it is the end
+/// where the client has ended and nothing else came, and otherwise a failure.
 #[derive(Drop)]
 pub struct Received {
+    /// Which client it is.
+    number: u64,
+    /// How many of its requests were answered.
+    answered: u32,
+    /// What has come since then.
     bytes: Vec<u8>,
-    /// How many of them were read.
+    /// How many of these are the next request; all of them where there is no whole one.
+    next: usize,
+    /// How many were read.
     read: usize,
     /// Whether no more come.
     ended: bool,
 }
 
 impl Received {
-    pub(crate) fn nothing(alloc: Global) -> Received {
+    pub(crate) fn nothing(alloc: Global, number: u64) -> Received {
         Received {
+            number,
+            answered: 0,
             bytes: Vec::new(alloc),
+            next: 0,
             read: 0,
             ended: false,
         }
+    }
+
+    pub(crate) fn number(&self) -> u64 {
+        self.number
+    }
+
+    pub(crate) fn answered(&self) -> u32 {
+        self.answered
+    }
+
+    /// Whether a request was answered, and nothing has come since then.
+    pub(crate) fn is_idle(&self) -> bool {
+        self.answered > 0 && self.bytes.is_empty()
     }
 
     /// Whether it has a large room.
@@ -51,6 +74,43 @@ impl Received {
     /// Gives up its room.
     pub(crate) fn into_room(self) -> Vec<u8> {
         self.bytes
+    }
+
+    /// Has no more come, and forgets what did.
+    pub(crate) fn end(&mut self) {
+        self.bytes.truncate(0);
+        self.next = 0;
+        self.ended = true;
+    }
+
+    /// Has the next request answered, so that what came behind it is first. Where nothing did, its
+    /// room is given back.
+    pub(crate) fn pass(&mut self, rooms: &mut Rooms) {
+        let length = self.bytes.len();
+        let next = self.next.min(length);
+        self.bytes.as_mut_slice().copy_within(next..length, 0);
+        self.bytes.truncate(length - next);
+        self.next = 0;
+        self.read = 0;
+        self.answered = self.answered.saturating_add(1);
+        if self.bytes.is_empty() {
+            self.give_back(rooms);
+        }
+    }
+
+    fn give_back(&mut self, rooms: &mut Rooms) {
+        let nothing = rooms.nothing();
+        rooms.give_back(mem::replace(&mut self.bytes, nothing));
+    }
+
+    /// Looks for the next request. Whether the client can be served.
+    pub(crate) fn look(&mut self, lines: &mut LineRoom) -> Readiness {
+        self.next = match next_at_once(&self.bytes, self.ended, &Limits::STANDARD, lines) {
+            Step::More => return Readiness::NotYet,
+            Step::Whole(_, used) => used,
+            Step::Stop(_) | Step::Ended => self.bytes.len(),
+        };
+        Readiness::Ready
     }
 
     /// Has room for more bytes from now on. Whether there is some.
@@ -84,7 +144,7 @@ impl Received {
     }
 
     /// Takes in what lies there. Whether the client can be served then. One whose connection is broken can: it is
-    /// served as one whose read failed. One who sent nothing has no room.
+    /// served as one whose read failed, or if it was idle as one who ended. One who sent nothing has no room.
     pub(crate) fn take_in(
         &mut self,
         peer: &Peer,
@@ -97,29 +157,26 @@ impl Received {
         }
         let taken = self.take_piece(peer, piece);
         if self.bytes.is_empty() {
-            let nothing = rooms.nothing();
-            rooms.give_back(mem::replace(&mut self.bytes, nothing));
+            self.give_back(rooms);
         }
-        let Ok(came) = taken else {
-            return Readiness::Ready;
-        };
-        if !came
-            || matches!(
-                next_at_once(&self.bytes, self.ended, &Limits::STANDARD, lines),
-                Step::More
-            )
-        {
-            return Readiness::NotYet;
+        match taken {
+            Ok(true) => self.look(lines),
+            Ok(false) => Readiness::NotYet,
+            Err(_) => {
+                self.ended = self.is_idle();
+                self.next = self.bytes.len();
+                Readiness::Ready
+            }
         }
-        Readiness::Ready
     }
 }
 
 impl Read for Received {
     fn read(&mut self, buf: &mut [u8]) -> io::Result<usize> {
-        let rest = self.bytes.get(self.read..).unwrap_or(&[]);
+        let rest = self.bytes.get(self.read..self.next).unwrap_or(&[]);
         let count = rest.len().min(buf.len());
-        if count == 0 && !self.ended && !buf.is_empty() {
+        let is_over = self.ended && self.next == self.bytes.len();
+        if count == 0 && !is_over && !buf.is_empty() {
             return Err(ErrorKind::TimedOut.into());
         }
         buf[..count].copy_from_slice(&rest[..count]);

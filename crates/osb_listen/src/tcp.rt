@@ -1,14 +1,21 @@
 //! Clients that come over TCP.
 
-ghost use Rattle.std.specs.Prelude.{◌≡◌, [], map, length, OnOk, IsOkUnless};
+ghost use Rattle.std.specs.Prelude.{◌≡◌, ◌<◌, ◌++◌, [], ◌∷◌, true, false, map, length, OnOk, IsOkUnless};
+ghost use Rattle.osb_frames.specs.Calls.{all_bytes, failed_or_empty_count};
+ghost use Rattle.osb_frames.specs.Counted.{calls_of};
 ghost use Rattle.osb_listen.specs.declared.fault.ListenFault.TheVariants.{CannotListen};
+ghost use Rattle.osb_listen.specs.Exchanges.{exchange_of};
 ghost use Rattle.osb_listen.specs.Listen.{IsAddress};
+ghost use Rattle.osb_listen.specs.Tcp.{exchange_with};
 
 use crate::ends::{Incoming, Outgoing};
-use crate::entrance::Entrance;
+use crate::entrance::{Entrance, TakenClient};
 use crate::fault::ListenFault;
+use crate::listen::ListenOptions;
 use crate::many::ManyClients;
 use crate::one_by_one::OneByOne;
+use crate::received::Received;
+use crate::reply::Reply;
 use crate::seat::Seat;
 use http_server::Log;
 use osb_file::WatchedFile;
@@ -16,6 +23,16 @@ use osb_frames::Counted;
 use std::io;
 use std::net::{SocketAddr, TcpListener};
 use std::time::Duration;
+
+/// A client of whom this has come, and to whom the reply goes.
+fn received_from<'a>(received: Received, reply: Reply) -> TakenClient<Incoming<'a>, Outgoing<'a>> {
+    TakenClient {
+        number: received.number(),
+        before: received.answered(),
+        input: Incoming::Received(received),
+        output: Outgoing::Reply(reply),
+    }
+}
 
 /// How clients are taken.
 #[derive(Drop)]
@@ -29,44 +46,59 @@ enum Way<'a> {
 }
 
 impl<'a> Way<'a> {
-    /// The way to so many clients at an address, each for so long.
+    /// The way to clients at an address, each of whom may make so many requests.
     fn to(
         rt: &'a HostRuntime,
         seat: &'a Seat,
         address: SocketAddr,
-        time_limit: Duration,
-        together: u32,
+        place: &ListenOptions<'_>,
+        per_connection: u32,
     ) -> io::Result<Way<'a>> {
-        if together > 1 {
-            let many = ManyClients::at(rt, address, time_limit, together as usize)?;
-            return Ok(Way::Together(many));
+        if place.together > 1 || per_connection > 1 {
+            return Ok(Way::Together(ManyClients::at(rt, address, place)?));
         }
         let listener = TcpListener::bind(rt, address)?;
-        Ok(Way::OneByOne(OneByOne::at(rt, seat, listener, time_limit)))
+        let one = OneByOne::at(rt, seat, listener, place.time_limit);
+        Ok(Way::OneByOne(one))
     }
 
-    /// The next client, by what is read from it and what is written to it.
-    fn next(&mut self) -> Option<(Incoming<'a>, Outgoing<'a>)> {
+    /// The next client.
+    fn next(&mut self) -> Option<TakenClient<Incoming<'a>, Outgoing<'a>>> {
         match self {
             Way::Closed => None,
             Way::OneByOne(one) => {
-                let client = one.next()?;
-                Some((Incoming::Timed(client), Outgoing::Timed(client)))
+                let (number, client) = one.next()?;
+                Some(TakenClient {
+                    number,
+                    before: 0,
+                    input: Incoming::Timed(client),
+                    output: Outgoing::Timed(client),
+                })
             }
             Way::Together(many) => {
                 let (received, reply) = many.next()?;
-                Some((Incoming::Received(received), Outgoing::Reply(reply)))
+                Some(received_from(received, reply))
             }
         }
     }
 
     /// Another client that is ready now. Of those who are taken one after the other none is.
-    fn next_ready(&mut self) -> Option<(Incoming<'a>, Outgoing<'a>)> {
+    fn next_ready(&mut self) -> Option<TakenClient<Incoming<'a>, Outgoing<'a>>> {
         let Way::Together(many) = self else {
             return None;
         };
         let (received, reply) = many.next_ready()?;
-        Some((Incoming::Received(received), Outgoing::Reply(reply)))
+        Some(received_from(received, reply))
+    }
+
+    /// Waits for the next request of a client that was answered. Those who are taken one after the
+    /// other have one.
+    fn go_on(&mut self, input: Incoming<'a>, output: Outgoing<'a>) {
+        if let (Way::Together(many), Incoming::Received(received), Outgoing::Reply(reply)) = (
+            self, input, output,
+        ) {
+            many.go_on(received, reply);
+        }
     }
 
     /// Takes back the room of what came of the client that was served.
@@ -93,25 +125,25 @@ pub struct TcpEntrance<'a> {
     rt: &'a HostRuntime,
     seat: &'a Seat,
     way: Way<'a>,
-    /// Those who were let go, for contracts.
-    served: Log<Counted<Incoming<'a>>, (Counted<Outgoing<'a>>, bool)>,
+    /// The exchanges that were had, for contracts.
+    had: Log<Counted<Incoming<'a>>, Said<'a>>,
     /// Each time that the database file was missed, for contracts.
     misses: Log<(), ()>,
 }
 
 impl<'a> TcpEntrance<'a> {
-    ghost use Rattle.osb_listen.specs.Tcp.{misses_of, served_by};
+    ghost use Rattle.osb_listen.specs.Tcp.{misses_of, had_by};
 
     /// An entrance that doesn't listen yet.
     pub fn new(rt: &'a HostRuntime, seat: &'a Seat) -> TcpEntrance<'a>
-        ensures journal { served_by result ≡ [] }
+        ensures journal { had_by result ≡ [] }
         ensures missed { misses_of result ≡ [] }
     {
         TcpEntrance {
             rt,
             seat,
             way: Way::Closed,
-            served: Log::new(),
+            had: Log::new(),
             misses: Log::new(),
         }
     }
@@ -123,14 +155,14 @@ impl<'a> TcpEntrance<'a> {
         listener: TcpListener,
         time_limit: Duration,
     ) -> TcpEntrance<'a>
-        ensures journal { served_by result ≡ [] }
+        ensures journal { had_by result ≡ [] }
         ensures missed { misses_of result ≡ [] }
     {
         TcpEntrance {
             rt,
             seat,
             way: Way::OneByOne(OneByOne::at(rt, seat, listener, time_limit)),
-            served: Log::new(),
+            had: Log::new(),
             misses: Log::new(),
         }
     }
@@ -143,24 +175,78 @@ impl<'a> TcpEntrance<'a> {
     }
 }
 
-/// The way to so many clients at an address.
+/// The way to clients at an address, each of whom may make so many requests.
 fn way_at<'a>(
     rt: &'a HostRuntime,
     seat: &'a Seat,
-    address: &str,
-    time_limit: Duration,
-    together: u32,
+    place: &ListenOptions<'_>,
+    per_connection: u32,
 ) -> Result<Way<'a>, ListenFault>
-    ensures address { OnOk result (IsAddress address.now) }
+    ensures address { OnOk result (IsAddress place.now.address.now) }
     ensures fault { IsOkUnless result CannotListen }
 {
-    let Ok(parsed) = address.parse::<SocketAddr>() else {
+    let Ok(parsed) = place.address.parse::<SocketAddr>() else {
         return Err(ListenFault::CannotListen);
     };
-    match Way::to(rt, seat, parsed, time_limit, together) {
+    match Way::to(rt, seat, parsed, place, per_connection) {
         Ok(way) => Ok(way),
         Err(_) => Err(ListenFault::CannotListen),
     }
+}
+
+/// What was written to a client, and what else is noted of an exchange with it.
+#[derive(Drop)]
+pub struct Said<'a> {
+    number: u64,
+    before: u32,
+    stays: bool,
+    output: Counted<Outgoing<'a>>,
+    met_fault: bool,
+}
+
+/// A client whose reads and writes are counted. Fewer of its requests than so many were answered
+/// before.
+fn counted<'a>(
+    client: TakenClient<Incoming<'a>, Outgoing<'a>>,
+    per_connection: u32,
+) -> TakenClient<Counted<Incoming<'a>>, Counted<Outgoing<'a>>>
+    requires { 0 < per_connection }
+    ensures before { result.before < per_connection }
+    ensures calls { calls_of result.input ≡ [] }
+    ensures sent { calls_of result.output ≡ [] }
+{
+    TakenClient {
+        number: client.number,
+        before: client.before.min(per_connection - 1),
+        input: Counted::new(client.input),
+        output: Counted::new(client.output),
+    }
+}
+
+/// What is noted of an exchange with a client.
+fn said_with<'a>(
+    client: TakenClient<Counted<Incoming<'a>>, Counted<Outgoing<'a>>>,
+    stays: bool,
+    met_fault: bool,
+) -> (Counted<Incoming<'a>>, Said<'a>)
+    ensures { exchange_with result ≡ exchange_of client.entry.number client.entry.before stays
+        (calls_of client.entry.input) (all_bytes (calls_of client.entry.output))
+        (failed_or_empty_count (calls_of client.entry.output)) met_fault }
+{
+    let TakenClient {
+        number,
+        before,
+        input,
+        output,
+    } = client;
+    let said = Said {
+        number,
+        before,
+        stays,
+        output,
+        met_fault,
+    };
+    (input, said)
 }
 
 impl<'a> Entrance for TcpEntrance<'a> {
@@ -168,42 +254,65 @@ impl<'a> Entrance for TcpEntrance<'a> {
 
     type Out = Counted<Outgoing<'a>>;
 
-    ghost use Rattle.osb_listen.specs.Tcp.{conversation_with, misses_of, served_by};
+    ghost use Rattle.osb_listen.specs.Tcp.{exchange_with, had_by, misses_of};
 
-    ghost journal = { λ e. map conversation_with (served_by e) };
+    ghost journal = { λ e. map exchange_with (had_by e) };
 
     ghost missed = { λ e. length (misses_of e) };
 
     fn listen(
         &mut self,
-        address: &str,
-        time_limit: Duration,
-        together: u32,
+        place: &ListenOptions<'_>,
+        per_connection: u32,
     ) -> Result<(), ListenFault> {
-        self.way = way_at(self.rt, self.seat, address, time_limit, together)?;
+        self.way = way_at(self.rt, self.seat, place, per_connection)?;
         Ok(())
     }
 
-    fn take(&mut self, file: &WatchedFile<'_>) -> Result<(Self::In, Self::Out), ListenFault> {
-        let Some((input, output)) = self.way.next() else {
+    fn take(
+        &mut self,
+        file: &WatchedFile<'_>,
+        per_connection: u32,
+    ) -> Result<TakenClient<Self::In, Self::Out>, ListenFault> {
+        let Some(client) = self.way.next() else {
             return Err(ListenFault::CannotAccept);
         };
         if !file.is_there(self.rt) {
             self.misses = self.misses.and(&(), &());
             return Err(ListenFault::FileTaken);
         }
-        Ok((Counted::new(input), Counted::new(output)))
+        Ok(counted(client, per_connection))
     }
 
-    fn take_ready(&mut self) -> Option<(Self::In, Self::Out)> {
-        let (input, output) = self.way.next_ready()?;
-        Some((Counted::new(input), Counted::new(output)))
+    fn take_ready(&mut self, per_connection: u32) -> Option<TakenClient<Self::In, Self::Out>> {
+        let client = self.way.next_ready()?;
+        Some(counted(client, per_connection))
     }
 
-    fn leave(&mut self, input: Self::In, output: Self::Out, met_fault: bool) {
-        let written = (output, met_fault);
-        self.served = self.served.and(&input, &written);
+    fn stay(&mut self, client: TakenClient<Self::In, Self::Out>)
+        ensures missed { length (misses_of self.new) ≡ length (misses_of self.old) }
+        ensures journal { map exchange_with (had_by self.new)
+            ≡ map exchange_with (had_by self.old) ++ exchange_of
+            client.entry.number client.entry.before true
+            (calls_of client.entry.input) (all_bytes (calls_of client.entry.output))
+            (failed_or_empty_count (calls_of client.entry.output)) false ∷ [] }
+    {
+        let (input, said) = said_with(client, true, false);
+        self.had = self.had.and(&input, &said);
+        self.way.go_on(input.into_inner(), said.output.into_inner());
+    }
+
+    fn leave(&mut self, client: TakenClient<Self::In, Self::Out>, met_fault: bool)
+        ensures missed { length (misses_of self.new) ≡ length (misses_of self.old) }
+        ensures journal { map exchange_with (had_by self.new)
+            ≡ map exchange_with (had_by self.old) ++ exchange_of
+            client.entry.number client.entry.before false
+            (calls_of client.entry.input) (all_bytes (calls_of client.entry.output))
+            (failed_or_empty_count (calls_of client.entry.output)) met_fault ∷ [] }
+    {
+        let (input, said) = said_with(client, false, met_fault);
+        self.had = self.had.and(&input, &said);
         self.way.take_back(input.into_inner());
-        self.way.let_go(written.0.into_inner(), met_fault);
+        self.way.let_go(said.output.into_inner(), met_fault);
     }
 }

@@ -18,10 +18,10 @@ use Rattle.osb_frames.specs.declared.limits.TheConstants.{MOST_HEAD, MOST_FIELDS
 use Rattle.osb_catalog.specs.Rules.{Rules}
 use Rattle.osb_orders.specs.Lives.{Lives}
 use Rattle.osb_file.specs.File.{AreLivesOf, HasTrees}
-use Rattle.osb_broker.specs.Conversations.{Conversation, AreConversations, AreEpisodes, all_conversations}
+use Rattle.osb_broker.specs.Exchanges.{Exchange, AreExchanges, AreRuns, all_exchanges}
 use Rattle.osb_broker.specs.Served.{AreStandard}
 use Rattle.osb_listen.specs.Held.{LeavesFile, Serving}
-use Rattle.osb_listen.proofs.ConversationLemmas.{standard}
+use Rattle.osb_listen.proofs.ExchangeLemmas.{standard}
 use Rattle.osb_restart.specs.Runs.{HoldsSome, Leads}
 use Rattle.osb_restart.proofs.StopLemmas.{images_hold}
 
@@ -50,37 +50,37 @@ standard_once limits are =
 -- ---- one episode more
 
 module _ (rules : Rules) (limits : Limits) (k : ℕ) where
-  episodes_more : (old : Lives) (episodes : List (List Conversation)) (mid : Lives) (conversations : List Conversation) (new : Lives) → AreEpisodes rules limits k old episodes mid → AreConversations rules limits k mid conversations new
-      → AreEpisodes rules limits k old (episodes ++ conversations ∷ []) new
-  episodes_more old [] mid conversations new same then =
-      (new, subst (λ (s : Lives). AreConversations rules limits k s conversations new) same then, refl)
-  episodes_more old (first ∷ episodes) mid conversations new (between, one, before) then =
-      (between, one, episodes_more between episodes mid conversations new before then)
+  runs_more : (old : Lives) (runs : List (List Exchange)) (mid : Lives) (exchanges : List Exchange) (new : Lives) → AreRuns rules limits k old runs mid → AreExchanges rules limits k mid exchanges new
+      → AreRuns rules limits k old (runs ++ exchanges ∷ []) new
+  runs_more old [] mid exchanges new same then =
+      (new, subst (λ (s : Lives). AreExchanges rules limits k s exchanges new) same then, refl)
+  runs_more old (first ∷ runs) mid exchanges new (between, one, before) then =
+      (between, one, runs_more between runs mid exchanges new before then)
 
-pub all_more : (episodes : List (List Conversation)) (conversations : List Conversation) → all_conversations (episodes ++ conversations ∷ []) ≡ all_conversations episodes ++ conversations
-all_more [] conversations = append-nil conversations
-all_more (first ∷ episodes) conversations =
-    ap (λ later. first ++ later) (all_more episodes conversations) ∙ sym (append_assoc first (all_conversations episodes) conversations)
+pub all_more : (runs : List (List Exchange)) (exchanges : List Exchange) → all_exchanges (runs ++ exchanges ∷ []) ≡ all_exchanges runs ++ exchanges
+all_more [] exchanges = append-nil exchanges
+all_more (first ∷ runs) exchanges =
+    ap (λ later. first ++ later) (all_more runs exchanges) ∙ sym (append_assoc first (all_exchanges runs) exchanges)
 
 -- ---- a run, and runs
 
-pub holds_old : (rules : Rules) (k : ℕ) (image : Image) (db : Trees) (old : Lives) → HasTrees image db → AreLivesOf db old → HoldsSome image (λ new. AreEpisodes rules standard.0 k old [] new)
+pub holds_old : (rules : Rules) (k : ℕ) (image : Image) (db : Trees) (old : Lives) → HasTrees image db → AreLivesOf db old → HoldsSome image (λ new. AreRuns rules standard.0 k old [] new)
 holds_old rules k image db old has are = ∣ (db, has, old, are, refl) ∣₁
 
-pub lived_more : (rules : Rules) (k : ℕ) (old : Lives) (episodes : List (List Conversation)) (conversations : List Conversation) (mid new : Image)
-    → HoldsSome mid (λ lives. AreEpisodes rules standard.0 k old episodes lives) → Leads rules k mid conversations new
-    → HoldsSome new (λ lives. AreEpisodes rules standard.0 k old (episodes ++ conversations ∷ []) lives)
-lived_more rules k old episodes conversations mid new so_far lead =
+pub lived_more : (rules : Rules) (k : ℕ) (old : Lives) (runs : List (List Exchange)) (exchanges : List Exchange) (mid new : Image)
+    → HoldsSome mid (λ lives. AreRuns rules standard.0 k old runs lives) → Leads rules k mid exchanges new
+    → HoldsSome new (λ lives. AreRuns rules standard.0 k old (runs ++ exchanges ∷ []) lives)
+lived_more rules k old runs exchanges mid new so_far lead =
     ∥∥₁_elim so_far ∥∥₁_prop (λ at.
     ∥∥₁_map (lead at.0 at.1 at.2 at.3) (λ it.
-    let said = subst (λ (l : Limits). AreConversations rules l k at.2 conversations it.2) (standard_once it.4.0 it.4.1) it.4.2 in
-    (it.0, it.1, it.2, it.3, episodes_more rules standard.0 k old episodes at.2 conversations it.2 at.4 said)))
+    let said = subst (λ (l : Limits). AreExchanges rules l k at.2 exchanges it.2) (standard_once it.4.0 it.4.1) it.4.2 in
+    (it.0, it.1, it.2, it.3, runs_more rules standard.0 k old runs at.2 exchanges it.2 at.4 said)))
 
 -- a run that ended, and what a stop leaves of its files
 pub leads : {D : Type 0} {g : Ghosts D} (rules : Rules) (k : ℕ) (existing : Bool) (serving : Serving) (was : Image) (now : State) (last : FileStore D g) (log db : D) (image : Image)
     → (log, db) ≡ files last → AreClean g log db → outcomes g log db image → (IsClean (view last) → IsTrue (view last).is_numbered) → (IsClean (view last) → AreDatabases (recovers last))
     → ((trees : Trees) → recovers last trees → now.may_leave trees) → HasCleanDisk now → ((trees : Trees) → HasTrees was trees → LeavesFile rules k existing trees serving now)
-    → Leads rules k was serving.conversations image
+    → Leads rules k was serving.exchanges image
 leads rules k existing serving was now last log db image same clean left numbered sound outcome now_clean leaves trees has old are =
     ∥∥₁_map (images_hold last log db same clean image left numbered sound) (λ found.
     let lead = (leaves trees has).crash now_clean old are found.0 (outcome found.0 found.1) in

@@ -9,7 +9,7 @@ ghost use Rattle.osb_frames.specs.declared.limits.Limits.{Limits};
 ghost use Rattle.osb_catalog.specs.Rules.{rules_of};
 ghost use Rattle.osb_orders.specs.Lives.{Lives};
 ghost use Rattle.osb_file.specs.File.{AreLivesOf, HasTrees};
-ghost use Rattle.osb_broker.specs.Conversations.{Conversation, AreEpisodes, all_conversations};
+ghost use Rattle.osb_broker.specs.Exchanges.{Exchange, AreRuns, all_exchanges};
 ghost use Rattle.osb_broker.specs.PerConnection.{IsPerConnection};
 ghost use Rattle.osb_broker.specs.Served.{AreStandard};
 ghost use Rattle.osb_restart.specs.Runs.{HoldsSome, Leads};
@@ -94,10 +94,10 @@ fn serve_run<D: Crash + Drop, L: Entrance, W: Sink, E: Sink>(
     requires per_connection { IsPerConnection per_connection }
     ensures clean { IfSome result (λ left. AreClean D.Disk left.files.log left.files.db →
         AreClean D.Disk files.files.log files.files.db) }
-    ensures served { IfSome result (λ left. (conversations : List Conversation)
-        × (L.journal entrance.new ≡ L.journal entrance.old ++ conversations)
+    ensures served { IfSome result (λ left. (exchanges : List Exchange)
+        × (L.journal entrance.new ≡ L.journal entrance.old ++ exchanges)
         × (AreClean D.Disk left.files.log left.files.db → Leads (rules_of settings.now)
-        per_connection (image_of D.Disk files.files) conversations (image_of D.Disk left.files))) }
+        per_connection (image_of D.Disk files.files) exchanges (image_of D.Disk left.files))) }
 {
     let options = files.options;
     let (_, conn) = serve_file(
@@ -120,9 +120,8 @@ fn serve_run<D: Crash + Drop, L: Entrance, W: Sink, E: Sink>(
 /// one fails.
 ///
 /// What was said with clients is in the journal of the entrance, run by run. The files hold lives in the
-/// end to which these conversations lead from those at the beginning: all that is supposed is that no
-/// byte came back as another. With one request a client the conversations are a history
-/// ([`osb_broker::histories`]), in which a request acts once ([`osb_broker::replied`]).
+/// end to which these exchanges lead from those at the beginning: all that is supposed is that no
+/// byte came back as another. What is asked again acts once in them ([`osb_broker::exchanges`]).
 pub fn serve_runs<D: Crash + Drop, L: Entrance, W: Sink, E: Sink>(
     rt: &HostRuntime,
     settings: &Settings,
@@ -135,14 +134,14 @@ pub fn serve_runs<D: Crash + Drop, L: Entrance, W: Sink, E: Sink>(
     errors: &mut E,
 ) -> Option<AtRest<D>>
     requires per_connection { IsPerConnection per_connection }
-    ensures lived { IfSome result (λ left. (episodes : List (List Conversation))
-        × (length episodes ≡ runs)
-        × (L.journal entrance.new ≡ L.journal entrance.old ++ all_conversations episodes)
+    ensures lived { IfSome result (λ left. (each : List (List Exchange))
+        × (length each ≡ runs)
+        × (L.journal entrance.new ≡ L.journal entrance.old ++ all_exchanges each)
         × (AreClean D.Disk left.files.log left.files.db →
         (db : Trees) → HasTrees (image_of D.Disk files.files) db →
         (old : Lives) → AreLivesOf db old → (limits : Limits) × AreStandard limits
         × HoldsSome (image_of D.Disk left.files) (λ new.
-        AreEpisodes (rules_of settings.now) limits per_connection old episodes new))) }
+        AreRuns (rules_of settings.now) limits per_connection old each new))) }
 {
     let mut left = files;
     for _ in 0..runs {

@@ -24,6 +24,7 @@ pub(crate) fn place(connections: u32) -> ListenOptions<'static> {
         address: "127.0.0.1:0",
         connections,
         time_limit: Duration::from_secs(1),
+        idle_limit: Duration::from_secs(1),
         together: 1,
     }
 }

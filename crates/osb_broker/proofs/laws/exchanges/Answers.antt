@@ -2,6 +2,7 @@ use Rattle.osb_broker.proofs.ExchangeLemmas.{one_request_each, by_themselves, ru
 use Rattle.osb_broker.proofs.ExchangeGroupLemmas.{groups_are_exchanges}
 use Rattle.osb_broker.proofs.AskedLemmas.{acts_once, acts_at_most_once}
 use Rattle.osb_broker.proofs.AskedCountLemmas.{opens_one}
+use Rattle.osb_broker.proofs.OpenGroupLemmas.{open_groups_are}
 use Rattle.osb_broker.proofs.laws.exchanges.Goals as goal
 
 pub returns-clause-one_each : goal.returns-clause-one_each
@@ -24,3 +25,6 @@ returns-clause-most c = acts_at_most_once
 
 pub returns-clause-opens : goal.returns-clause-opens
 returns-clause-opens c = opens_one
+
+pub returns-clause-open_groups : goal.returns-clause-open_groups
+returns-clause-open_groups c = open_groups_are

@@ -53,7 +53,7 @@ returns-in-Serve-clause-served g c =
     IfSome_then c.listen.result.1 c.listen.ensures.served (λ conn served. (
       served.0,
       served.1,
-      record { connections = c.in-Serve.asked.place.connections; of_all = asks.connections; served = served.2 },
+      record { connections = c.in-Serve.asked.place.connections; of_all = asks.connections; per_connection = c.in-Serve.asked.per_connection.number; of_each = asks.per_connection; served = served.2 },
       λ db has. left_as _ _ c.in-Serve.asked db served.0 _ asks (served.3 db has),
     ))
 

@@ -11,5 +11,6 @@ returns-clause-app c =
     let most = c.in_ok-arg-5.ensures.shape c.per_connection_option.ensures.local ∙ ap₂ with_rule listen c.per_connection_option.ensures.rule in
     let count = c.in_ok-arg-6.ensures.shape c.connections_option.ensures.local ∙ ap₂ with_rule most c.connections_option.ensures.rule in
     let limit = c.in_ok-arg-7.ensures.shape c.seconds_option.ensures.local ∙ ap₂ with_rule count c.seconds_option.ensures.rule in
-    let together = c.in_ok-arg-8.ensures.shape c.together_option.ensures.local ∙ ap₂ with_rule limit c.together_option.ensures.rule in
-    c.in_ok-arg-9.ensures.shape c.flag_option-2.ensures.local ∙ ap₂ with_rule together c.flag_option-2.ensures.rule
+    let idle = c.in_ok-arg-8.ensures.shape c.seconds_option-2.ensures.local ∙ ap₂ with_rule limit c.seconds_option-2.ensures.rule in
+    let together = c.in_ok-arg-9.ensures.shape c.together_option.ensures.local ∙ ap₂ with_rule idle c.together_option.ensures.rule in
+    c.in_ok-arg-10.ensures.shape c.flag_option-2.ensures.local ∙ ap₂ with_rule together c.flag_option-2.ensures.rule

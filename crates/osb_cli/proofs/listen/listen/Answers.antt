@@ -4,7 +4,7 @@ use Rattle.sqlite.specs.Held.{state}
 use Rattle.osb_cli.specs.Files.{AreBytesOf}
 use Rattle.osb_cli.specs.Serve.{Leaves}
 use Rattle.osb_cli.proofs.ReportedLemmas.{other_unserved}
-use Rattle.osb_cli.proofs.ServeLemmas.{ended_well, is_left, is_opened, names_in_use}
+use Rattle.osb_cli.proofs.ServeLemmas.{ended_well, is_left, is_opened, names_in_use, served_by}
 use Rattle.osb_cli.proofs.listen.listen.Goals as goal
 
 pub returns-in-Ok-done-clause-served : goal.returns-in-Ok-done-clause-served
@@ -16,7 +16,7 @@ returns-in-Ok-done-clause-served g c =
     IfSome_then done.result.1 served.3 (λ conn leaves. (
       served.0,
       ended_well _ _ _ served.1 c.in-Ok-done.is,
-      served.2,
+      served_by _ _ _ _ _ _ _ _ _ _ c.number-per_connection.ensures.is served.2,
       λ db has. subst (λ k. Leaves contents asked.settings.now k asked.place.existing db served.0 (state g.D.Store.Store conn)) c.number-per_connection.ensures.is
           (is_left contents asked.settings.now c.in-Ok.settings c.in-Ok.ensures.are _ _ db served.0 _ (leaves db has)),
     ))
@@ -30,7 +30,7 @@ returns-clause-served g c =
     IfSome_then done.result.1 served.3 (λ conn leaves. (
       served.0,
       tt,
-      served.2,
+      served_by _ _ _ _ _ _ _ _ _ _ c.number-per_connection.ensures.is served.2,
       λ db has. subst (λ k. Leaves contents asked.settings.now k asked.place.existing db served.0 (state g.D.Store.Store conn)) c.number-per_connection.ensures.is
           (is_left contents asked.settings.now c.in-Ok.settings c.in-Ok.ensures.are _ _ db served.0 _ (leaves db has)),
     ))

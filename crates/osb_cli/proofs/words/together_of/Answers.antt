@@ -9,7 +9,7 @@ pub returns : goal.returns
 returns c =
     let rows = one_text-rows (found_of c.args.found.now) (codes "together") in
     number_read (λ text r. ParsesUnsigned 32 10 text r × ExplainsUnsignedError 10 text r × HasUnsignedDigitsIfOk text r) (λ text r reads. reads.0)
-    1024 (omega arith) _ c.get_one.result c.args.otherwise c.unwrap_or.result
+    1024 (omega arith) _ c.get_one.result 1024 c.unwrap_or.result
     (λ none. c.get_one.ensures.none (rows ∙ none))
     (λ text some. c.get_one.ensures.value text (rows ∙ some))
     (λ none. search (rules, none)) (λ k some ge le. search (rules, some))

@@ -1,4 +1,4 @@
-use Rattle.std.proofs.Common.{◌≡◌, ◌∙◌, ◌∷◌, [], sym, ap, subst, inl, refl}
+use Rattle.std.proofs.Common.{◌≡◌, ◌∙◌, ℕ, ◌∷◌, [], sym, ap, subst, inl, refl}
 use Rattle.std.proofs.lemmas.Result.{IfErr-weaker}
 use Rattle.sqlite.specs.Tree.{Trees}
 use Rattle.sqlite.specs.State.{State, HasCleanDisk}
@@ -8,6 +8,7 @@ use Rattle.osb_orders.specs.Lives.{Lives}
 use Rattle.osb_statements.specs.Steps.{stored}
 use Rattle.osb_file.specs.File.{AreLivesOf}
 use Rattle.osb_broker.specs.BrokerState.{Works, lives_of, most_of, rules_in, store_of}
+use Rattle.osb_listen.specs.Exchanges.{AreAsMany}
 use Rattle.osb_listen.specs.Held.{LeadInto, Serving, origin_line}
 use Rattle.osb_listen.proofs.HeldLemmas.{address_not_missing, before_at, has_nothing, if_some_and, known, leads_into, leads_nowhere, led, left_at, names_none, none_missed, nothing_served, of_no_file, without_broker}
 use Rattle.osb_listen.proofs.RefusedLemmas.{says_more_with, says_only}
@@ -17,7 +18,7 @@ pub returns-in-Err-clause-served : goal.returns-in-Err-clause-served
 returns-in-Err-clause-served g c =
     let rules = catalog.rules_of c.args.settings.now in
     let fault = c.in-Err.fault in
-    (nothing_served fault, refl, has_nothing rules _ fault _ _ _ (of_no_file rules _ fault c.in-Err.ensures.fault), tt)
+    (nothing_served fault, refl, has_nothing rules _ c.args.per_connection fault _ _ _ (of_no_file rules _ fault c.in-Err.ensures.fault), tt)
 
 pub returns-in-Err-clause-missed : goal.returns-in-Err-clause-missed
 returns-in-Err-clause-missed g c =
@@ -31,7 +32,7 @@ returns-in-Err-broker_over-clause-served g c =
     let place = c.args.place.now in (
       nothing_served made.fault,
       refl,
-      has_nothing rules _ made.fault _ _ _ made.ensures.fault,
+      has_nothing rules _ c.args.per_connection made.fault _ _ _ made.ensures.fault,
       if_some_and made.conn made.ensures.why made.ensures.fault_kept (λ conn why kept db has. record {
         works = λ works. without_broker rules c.args.per_connection place.existing db (stored (state g.D.Store.Store conn)) made.fault (why works db has);
         crash = λ clean. leads_nowhere rules c.args.per_connection db (state g.D.Store.Store conn) (kept clean db has);
@@ -52,7 +53,7 @@ returns-clause-served g c =
     let result = c.serve_at-result in
     let served = result.ensures.served in
     let serves = served.4 in
-    let serving : Serving = record { ended = result.result; conversations = served.2; before = origin_line made.made.1 ∷ [] } in
+    let serving : Serving = record { ended = result.result; exchanges = served.2; before = origin_line made.made.1 ∷ [] } in
     let lives_are : lives_of g.D.Store.Store result.new.broker ≡ stored (state g.D.Store.Store c.into_connection.result) =
     sym c.into_records.ensures.lives ∙ ap (λ conn. stored (state g.D.Store.Store conn)) (sym same) in
     let is : state g.D.Store.Store c.into_connection.result ≡ store_of g.D.Store.Store result.new.broker =
@@ -63,7 +64,7 @@ returns-clause-served g c =
       refl,
       record {
         journal = serves.journal;
-        many = served.3;
+        many = subst (λ (k : ℕ). AreAsMany result.result place.connections k served.2) made.ensures.most served.3;
         first = before_at result.result made.made.1 result.ensures.fault;
         lines = says_more_with _ _ _ _ _ _ _ _ (says_only _ _ _ _ _ c.say_origin.ensures) serves.lines;
       },

@@ -1,7 +1,7 @@
-use Rattle.std.proofs.Common.{◌≡◌, map, vec_items}
+use Rattle.std.proofs.Common.{◌≡◌, ◌+◌, ◌<◌, ◌^◌, map, vec_items}
 use Rattle.std.specs.List.{AllByRecursion}
 use Rattle.std.specs.Vec.Iter.{into_iter_items, into_iter_len}
-use Rattle.osb_listen.specs.Groups.{IsUnanswered}
+use Rattle.osb_listen.specs.Groups.{Unanswered}
 use Rattle.osb_listen.proofs.GroupLemmas.{AnswersSome}
 use Rattle.osb_listen.proofs.group.answer_each.Given as goal
 
@@ -13,8 +13,9 @@ invariant-loop-reply g l =
     let calls = g.L.In.Source.calls in
     record {
       count : into_iter_len l.left ≡ into_iter_len l.rest;
+      few : l.ended + into_iter_len l.rest < 2 ^ 32;
       missed : g.L.Entrance.missed l.entrance ≡ g.L.Entrance.missed l.fn.entrance;
-      unanswered : AllByRecursion (λ client. IsUnanswered (calls client.0) (g.L.Out.Sink.taken client.1) (g.L.Out.Sink.failed_or_empty client.1)) (into_iter_items l.left);
-      sent : AnswersSome calls l.fn.clients.items (map vec_items l.fn.replies.items) (g.L.Entrance.journal l.fn.entrance) (g.E.Sink.taken l.fn.errors) (g.E.Sink.failed_or_empty l.fn.errors)
-          (into_iter_items l.left) (map vec_items (into_iter_items l.rest)) (g.L.Entrance.journal l.entrance) (g.E.Sink.taken l.errors) (g.E.Sink.failed_or_empty l.errors);
+      unanswered : AllByRecursion (Unanswered calls g.L.Out.Sink.taken g.L.Out.Sink.failed_or_empty) (into_iter_items l.left);
+      sent : AnswersSome calls l.may_stay l.fn.clients.items (map vec_items l.fn.replies.items) (g.L.Entrance.journal l.fn.entrance) (g.E.Sink.taken l.fn.errors) (g.E.Sink.failed_or_empty l.fn.errors)
+          (into_iter_items l.left) (map vec_items (into_iter_items l.rest)) l.ended (g.L.Entrance.journal l.entrance) (g.E.Sink.taken l.errors) (g.E.Sink.failed_or_empty l.errors);
     }

@@ -17,7 +17,7 @@ pub returns-clause-served : goal.returns-clause-served
 returns-clause-served g c =
     let served = c.serve_file-conn.ensures.served in
     let leaves = rw c.in_ok-conn.was at served.3 in (
-      served.0.conversations,
+      served.0.exchanges,
       served.2.journal,
       λ clean.
           let before = c.stopped.ensures.clean clean in

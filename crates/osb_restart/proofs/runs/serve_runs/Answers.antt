@@ -1,7 +1,7 @@
 use Rattle.std.proofs.Common.{◌∙◌, ◌++◌, [], ◌∷◌, ap, refl, sym, arith}
 use Rattle.std.proofs.lemmas.List.{append-nil, append_assoc, length-append}
 use Rattle.osb_catalog.specs.Rules.{rules_of}
-use Rattle.osb_listen.proofs.ConversationLemmas.{standard}
+use Rattle.osb_listen.proofs.ExchangeLemmas.{standard}
 use Rattle.osb_restart.proofs.RunLemmas.{all_more, holds_old, lived_more}
 use Rattle.osb_restart.proofs.runs.serve_runs.Goals as goal
 

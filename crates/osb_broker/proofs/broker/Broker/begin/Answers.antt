@@ -1,17 +1,21 @@
-use Rattle.std.proofs.Common.{◌≡◌, length, subst, ap, ◌∙◌}
-use Rattle.osb_broker.specs.BrokerState.{lives_of, most_of}
+use Rattle.std.proofs.Common.{length, subst, ap, ◌∙◌}
+use Rattle.osb_broker.specs.BrokerState.{lives_of}
 use Rattle.osb_broker.specs.Room.{limits_of}
 use Rattle.osb_broker.specs.Serving.{EachWasNeeded}
-use Rattle.osb_broker.proofs.BegunLemmas.{begun_weaker}
+use Rattle.osb_broker.proofs.OpenLemmas.{begun_weaker}
 use Rattle.osb_broker.proofs.broker.Broker.begin.Goals as goal
 
 pub returns-clause-begun : goal.returns-clause-begun
 unfolding lives_of
 returns-clause-begun g c =
-    let it = c.begin_in-begun.ensures.begun in
-    let one : most_of c.args.self.now ≡ 1 = c.if-self-ne1.false in (
+    let it = c.begin_in-begun.ensures.begun in (
       it.0,
       it.1,
-      rw one (subst (λ room. EachWasNeeded (limits_of c.args.buffer.now) 1 room it.0) (ap length c.as_mut_slice.ensures.value ∙ c.args.buffer.now.fits) it.2),
-      begun_weaker c.begin_in-begun.result _ _ _ _ (λ ended is. rw one is) (λ is. (is.0, is.1, one, is.2, is.3, ap (λ records. record (c.args.self.now) { records = records }) is.4, is.5)) it.3,
+      subst (λ room. EachWasNeeded (limits_of c.args.buffer.now) 1 room it.0) (ap length c.as_mut_slice.ensures.value ∙ c.args.buffer.now.fits) it.2,
+      begun_weaker c.begin_in-begun.result _ _ _ _ _ _ _ _
+          (λ ended is. is)
+          (λ is. is)
+          (λ is. (is.0, is.2, is.3, is.4, is.5, ap (λ records. record (c.args.self.now) { records = records }) is.6, is.7))
+          (λ is. (is.0, is.2, is.3, is.4, is.5, ap (λ records. record (c.args.self.now) { records = records }) is.6, is.7))
+          it.3,
     )

@@ -15,6 +15,7 @@ invariant-loop-request g l =
       sink : l.sink ≡ l.fn.sink;
       met : l.met_fault ≡ false;
       waiting : l.waiting ≡ l.fn.waiting;
+      staying : l.staying ≡ l.fn.staying;
       inside : l.filled ≤ length l.room;
       received : (calls : List Call) × ReadsMade (source.calls l.fn.source) (source.calls l.source) (source.rest l.fn.source) (source.rest l.source) calls
           × (take l.filled l.room ≡ all_bytes calls)

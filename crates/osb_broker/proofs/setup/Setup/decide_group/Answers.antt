@@ -21,7 +21,7 @@ loop-connection-preserved g c =
       some = join.changes before.some;
       stays = stays_on before.stays join.stays;
       open_before = λ clean some. (before.stays.works (works_mid clean)).live;
-      decided = λ works clean. group_on (given_rules c.args.self.now) c.args.limits.now (stored (state g.S.Store c.args.records.now)) c.args.connections.now c.loop-connection.connection-index c.connection-item.result c.loop-connection.group c.join.new.group c.loop-connection-test.true c.connection-item.is
+      decided = λ works clean. group_on (given_rules c.args.self.now) c.args.limits.now c.args.most.number (stored (state g.S.Store c.args.records.now)) c.args.connections.now c.loop-connection.connection-index c.connection-item.result c.loop-connection.group c.join.new.group c.loop-connection-test.true c.connection-item.is
           (before.decided works (clean_mid clean))
-          (rw c.deref.ensures.value at (subst (λ l. Joins (given_rules c.args.self.now) c.args.limits.now l c.deref.result.now c.loop-connection.group c.join.new.group) (before.stays.same (works_mid clean)) (join.joins (works_mid clean) clean joined)));
+          (rw c.deref.ensures.value at (subst (λ l. Joins (given_rules c.args.self.now) c.args.limits.now c.args.most.number l c.deref.result.now c.loop-connection.group c.join.new.group) (before.stays.same (works_mid clean)) (join.joins (works_mid clean) clean joined)));
     }

@@ -16,5 +16,5 @@ invariant-loop-connection g l = record {
   some : AllByRecursion ChangesSomething l.group.changes.items;
   stays : LivesStay (state g.S.Store l.fn.records) (state g.S.Store l.records);
   open_before : HasCleanDisk (state g.S.Store l.records) → 0 < l.connection-index → IsTrue (state g.S.Store l.fn.records).is_open;
-  decided : Works (state g.S.Store l.fn.records) → HasCleanDisk (state g.S.Store l.records) → IsGroup (given_rules l.self) l.limits (stored (state g.S.Store l.fn.records)) (map vec_items (take l.connection-index l.connections)) (map vec_items l.group.outputs.items) l.group.changes.items;
+  decided : Works (state g.S.Store l.fn.records) → HasCleanDisk (state g.S.Store l.records) → IsGroup (given_rules l.self) l.limits l.most.number (stored (state g.S.Store l.fn.records)) (map vec_items (take l.connection-index l.connections)) (map vec_items l.group.outputs.items) l.group.changes.items;
 }

@@ -4,10 +4,10 @@ use Rattle.osb_broker.proofs.GroupLemmas.{from_empty}
 use Rattle.osb_broker.proofs.setup.Setup.serve_each.Goals as goal
 
 pub returns-clause-ok : goal.returns-clause-ok
-returns-clause-ok g c = from_empty c.in_ok-outputs.ensures.items c.serve_into_outputs.ensures.serves
+returns-clause-ok g c = from_empty c.in_ok-outputs.ensures.items c.serve_groups.ensures.serves
 
 pub returns-clause-worked : goal.returns-clause-worked
-returns-clause-worked g c = c.serve_into_outputs.ensures.serves.serves.worked
+returns-clause-worked g c = c.serve_groups.ensures.serves.serves.worked
 
 pub returns-in_err-blanks-clause-kept : goal.returns-in_err-blanks-clause-kept
 returns-in_err-blanks-clause-kept g c works = leaves_stored (c.lives_are_whole.ensures.whole works.clean works.live) (c.lives_are_whole.ensures.kept works.clean works.live) refl

@@ -13,9 +13,9 @@ returns-in-Ok-make_all-clause-served g c =
     let connections = map vec_items (take (vec_len c.in-Ok.field-0.outputs) c.args.connections.now) in
     let texts = map vec_items c.in-Ok.field-0.outputs.items in
     let some : 0 < vec_len c.in-Ok.field-0.outputs = omega (arith, c.if-count-eq0.false, c.len-count.ensures) in
-    group_serves g.S.Store rules limits connections texts c.deref.result.now c.args.records.now c.decide_group.new.records c.make_all.new.records
+    group_serves g.S.Store rules limits c.args.most.number connections texts c.deref.result.now c.args.records.now c.decide_group.new.records c.make_all.new.records
     c.decide_group.ensures.stays (λ clean. c.in-Ok.ensures.open clean some)
-    (λ works clean. subst (IsGroup rules limits (stored (state g.S.Store c.args.records.now)) connections texts) (sym c.deref.ensures.value) (c.in-Ok.ensures.decided works clean))
+    (λ works clean. subst (IsGroup rules limits c.args.most.number (stored (state g.S.Store c.args.records.now)) connections texts) (sym c.deref.ensures.value) (c.in-Ok.ensures.decided works clean))
     (λ works. c.lives_are_whole.ensures.whole works.clean works.live) (λ works. c.lives_are_whole.ensures.kept works.clean works.live)
     c.make_all.ensures.works c.make_all.ensures.crash
     c.in-Ok-make_all.ensures.ok c.make_all.ensures.none c.in-Ok-make_all.ensures.open c.in-Ok-make_all.ensures.durable
@@ -27,9 +27,9 @@ returns-in-Err-clause-crash g c works =
     let connections = map vec_items (take (vec_len c.in-Ok.field-0.outputs) c.args.connections.now) in
     let texts = map vec_items c.in-Ok.field-0.outputs.items in
     let some : 0 < vec_len c.in-Ok.field-0.outputs = omega (arith, c.if-count-eq0.false, c.len-count.ensures) in
-    rw c.len-count.ensures (group_given_up g.S.Store rules limits connections texts c.deref.result.now c.args.records.now c.decide_group.new.records c.make_all.new.records
+    rw c.len-count.ensures (group_given_up g.S.Store rules limits c.args.most.number connections texts c.deref.result.now c.args.records.now c.decide_group.new.records c.make_all.new.records
     c.decide_group.ensures.stays (λ clean. c.in-Ok.ensures.open clean some)
-    (λ works clean. subst (IsGroup rules limits (stored (state g.S.Store c.args.records.now)) connections texts) (sym c.deref.ensures.value) (c.in-Ok.ensures.decided works clean))
+    (λ works clean. subst (IsGroup rules limits c.args.most.number (stored (state g.S.Store c.args.records.now)) connections texts) (sym c.deref.ensures.value) (c.in-Ok.ensures.decided works clean))
     (λ works. c.lives_are_whole.ensures.whole works.clean works.live) (λ works. c.lives_are_whole.ensures.kept works.clean works.live)
     c.make_all.ensures.works c.make_all.ensures.crash works)
 
@@ -40,9 +40,9 @@ returns-in-Ok-make_all-clause-worked g c =
     let connections = map vec_items (take (vec_len c.in-Ok.field-0.outputs) c.args.connections.now) in
     let texts = map vec_items c.in-Ok.field-0.outputs.items in
     let some : 0 < vec_len c.in-Ok.field-0.outputs = omega (arith, c.if-count-eq0.false, c.len-count.ensures) in
-    group_worked g.S.Store rules limits connections texts c.deref.result.now c.args.records.now c.decide_group.new.records c.make_all.new.records
+    group_worked g.S.Store rules limits c.args.most.number connections texts c.deref.result.now c.args.records.now c.decide_group.new.records c.make_all.new.records
     c.decide_group.ensures.stays (λ clean. c.in-Ok.ensures.open clean some)
-    (λ works clean. subst (IsGroup rules limits (stored (state g.S.Store c.args.records.now)) connections texts) (sym c.deref.ensures.value) (c.in-Ok.ensures.decided works clean))
+    (λ works clean. subst (IsGroup rules limits c.args.most.number (stored (state g.S.Store c.args.records.now)) connections texts) (sym c.deref.ensures.value) (c.in-Ok.ensures.decided works clean))
     (λ works. c.lives_are_whole.ensures.whole works.clean works.live) (λ works. c.lives_are_whole.ensures.kept works.clean works.live)
     c.make_all.ensures.works c.make_all.ensures.crash
 
@@ -53,8 +53,8 @@ returns-in-Err-clause-worked g c =
     let connections = map vec_items (take (vec_len c.in-Ok.field-0.outputs) c.args.connections.now) in
     let texts = map vec_items c.in-Ok.field-0.outputs.items in
     let some : 0 < vec_len c.in-Ok.field-0.outputs = omega (arith, c.if-count-eq0.false, c.len-count.ensures) in
-    group_worked g.S.Store rules limits connections texts c.deref.result.now c.args.records.now c.decide_group.new.records c.make_all.new.records
+    group_worked g.S.Store rules limits c.args.most.number connections texts c.deref.result.now c.args.records.now c.decide_group.new.records c.make_all.new.records
     c.decide_group.ensures.stays (λ clean. c.in-Ok.ensures.open clean some)
-    (λ works clean. subst (IsGroup rules limits (stored (state g.S.Store c.args.records.now)) connections texts) (sym c.deref.ensures.value) (c.in-Ok.ensures.decided works clean))
+    (λ works clean. subst (IsGroup rules limits c.args.most.number (stored (state g.S.Store c.args.records.now)) connections texts) (sym c.deref.ensures.value) (c.in-Ok.ensures.decided works clean))
     (λ works. c.lives_are_whole.ensures.whole works.clean works.live) (λ works. c.lives_are_whole.ensures.kept works.clean works.live)
     c.make_all.ensures.works c.make_all.ensures.crash

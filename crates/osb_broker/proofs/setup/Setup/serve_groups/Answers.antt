@@ -29,7 +29,7 @@ loop-rest-preserved g c =
       serves = (
         done + count,
         c.split_at.ensures.back ∙ rest_next connections done count c.loop-rest.rest.now before.serves.1,
-        subst (λ asked. ServesMore g.S.Store (capped (given_rules c.args.self.now)) c.args.limits.now 1 asked c.args.outputs.now.items c.serve_some-count.new.outputs.items c.args.records.now c.serve_some-count.new.records)
+        subst (λ asked. ServesMore g.S.Store (capped (given_rules c.args.self.now)) c.args.limits.now c.args.most.number asked c.args.outputs.now.items c.serve_some-count.new.outputs.items c.args.records.now c.serve_some-count.new.records)
             (sym (asked_so_far connections done count c.loop-rest.rest.now before.serves.1))
             (more_then before.serves.2 next.serves),
       );
@@ -40,4 +40,4 @@ returns-clause-serves g c =
     let last = c.loop-rest.invariant.serves in
     let connections = c.args.connections.now in
     let none : drop last.0 connections ≡ [] = sym last.1 ∙ nil_from_length c.loop-rest.rest.now (search rules) in
-    subst (λ asked. ServesMore g.S.Store (capped (given_rules c.args.self.now)) c.args.limits.now 1 (map vec_items asked) c.args.outputs.now.items c.loop-rest.outputs.items c.args.records.now c.loop-rest.records) (all_done connections last.0 none) last.2
+    subst (λ asked. ServesMore g.S.Store (capped (given_rules c.args.self.now)) c.args.limits.now c.args.most.number (map vec_items asked) c.args.outputs.now.items c.loop-rest.outputs.items c.args.records.now c.loop-rest.records) (all_done connections last.0 none) last.2

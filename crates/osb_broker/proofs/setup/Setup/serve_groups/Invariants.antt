@@ -13,5 +13,5 @@ invariant-loop-rest g l = record {
   enough : length l.rest ≤ length l.blanks.items;
   room : vec_len l.outputs + length l.rest ≤ vec_capacity l.outputs;
   count : vec_len l.outputs + length l.rest ≡ vec_len l.fn.outputs + length l.connections;
-  serves : (done : ℕ) × (l.rest ≡ drop done l.connections) × ServesMore g.S.Store (capped (given_rules l.self)) l.limits 1 (map vec_items (take done l.connections)) l.fn.outputs.items l.outputs.items l.fn.records l.records;
+  serves : (done : ℕ) × (l.rest ≡ drop done l.connections) × ServesMore g.S.Store (capped (given_rules l.self)) l.limits l.most.number (map vec_items (take done l.connections)) l.fn.outputs.items l.outputs.items l.fn.records l.records;
 }

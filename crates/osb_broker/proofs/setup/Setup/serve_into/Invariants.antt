@@ -7,7 +7,7 @@ use Rattle.osb_statements.specs.Steps.{stored}
 use Rattle.osb_broker.specs.Steps.{capped}
 use Rattle.osb_broker.specs.BrokerState.{LivesGo, Works}
 use Rattle.osb_broker.specs.Crashes.{LeavesLives}
-use Rattle.osb_broker.specs.Inside.{given_most, given_rules, Worked}
+use Rattle.osb_broker.specs.Inside.{given_rules, Worked}
 use Rattle.osb_broker.proofs.OneByOne.{WrittenSoFar}
 use Rattle.osb_broker.proofs.setup.Setup.serve_into.Given as goal
 
@@ -18,6 +18,6 @@ abbrev pub invariant-loop-left : goal.invariant-loop-left
 invariant-loop-left g l = record {
   room : 512 ≤ room_of l.output;
   worked : Worked (state g.S.Store l.fn.records) (state g.S.Store l.records);
-  leaves : Works (state g.S.Store l.fn.records) → HasCleanDisk (state g.S.Store l.records) → LeavesLives (state g.S.Store l.records) (λ lives. WrittenSoFar (capped (given_rules l.self)) l.limits (given_most l.self) (stored (state g.S.Store l.fn.records)) l.bytes (bytes_of l.fn.output) l.left (bytes_of l.output) lives l.rest);
-  reached : (before after : Lives) → LivesGo (state g.S.Store l.fn.records) (state g.S.Store l.records) before after → WrittenSoFar (capped (given_rules l.self)) l.limits (given_most l.self) before l.bytes (bytes_of l.fn.output) l.left (bytes_of l.output) after l.rest;
+  leaves : Works (state g.S.Store l.fn.records) → HasCleanDisk (state g.S.Store l.records) → LeavesLives (state g.S.Store l.records) (λ lives. WrittenSoFar (capped (given_rules l.self)) l.limits l.fn.most.number (stored (state g.S.Store l.fn.records)) l.bytes (bytes_of l.fn.output) l.left (bytes_of l.output) lives l.rest);
+  reached : (before after : Lives) → LivesGo (state g.S.Store l.fn.records) (state g.S.Store l.records) before after → WrittenSoFar (capped (given_rules l.self)) l.limits l.fn.most.number before l.bytes (bytes_of l.fn.output) l.left (bytes_of l.output) after l.rest;
 }

@@ -16,8 +16,8 @@ returns-in-Err-clause-serves g c =
     record {
       more = singly.more;
       follow = singly.follow;
-      serves = serves_after g.S.Store (given_rules c.args.self.now) c.args.limits.now (map vec_items (take c.in-Err.count c.args.connections.now)) (map vec_items singly.more)
+      serves = serves_after g.S.Store (given_rules c.args.self.now) c.args.limits.now c.args.most.number c.args.most.allowed.0 (map vec_items (take c.in-Err.count c.args.connections.now)) (map vec_items singly.more)
           c.args.records.now c.serve_group.new.records c.serve_singly.new.records
           (λ works. c.lives_are_whole.ensures.kept works.clean works.live) (λ works. c.lives_are_whole.ensures.whole works.clean works.live)
-          c.serve_group.ensures.worked c.in-Err.ensures.undone c.in-Err.ensures.crash (rw c.requires.one at singly.serves);
+          c.serve_group.ensures.worked c.in-Err.ensures.undone c.in-Err.ensures.crash singly.serves;
     }
