@@ -90,7 +90,7 @@ class Serving:
 
     def __init__(self, program, database, *more, settings=SETTINGS, **process):
         self.words = [program, "serve", "--settings", settings, "--database", database, *more]
-        if TOGETHER and not {"--together", "--per-connection"} & set(more):
+        if TOGETHER and "--together" not in more:
             self.words += ["--together", TOGETHER]
         self.more = process
         self.start()

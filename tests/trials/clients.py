@@ -27,8 +27,9 @@ from typing import Callable, Optional
 sys.path.append(os.path.join(os.path.dirname(os.path.abspath(__file__)), "..", "lib"))
 
 from calm import Watch
-from conversations import CATALOG_REPLY, CLOSE, GET_CATALOG, I, LARGE_SYNC, NO_HEAD_REPLY, TOO_LARGE_REPLY
-from conversations import head_of, reply, request
+from conversations import ASYNC, CATALOG_REPLY, CLOSE, GET_CATALOG, I, LARGE_SYNC, LATER, NO_HEAD_REPLY, TOO_LARGE_REPLY
+from conversations import LARGE as LARGE_PARAMETERS
+from conversations import at, head_of, operation, reply, request, with_parameters
 from serving import BEGUN_LINE, Late, Serving, in_time, new_database, side_by_side, tell
 
 TRIES = 40
@@ -41,6 +42,8 @@ TIME_LIMIT = 1
 PAUSE = 0.05
 # More than there are descriptors for, where that is tried.
 FEW = 10
+# So many orders make a listing that the system doesn't hold.
+LISTED = 60
 # For how long the line of a client is waited for.
 PATIENCE = 20
 # How much longer somebody waits beside others, where many are taken at the same time.
@@ -253,17 +256,34 @@ def some_tries(serving, name, trial, watch):
 
 
 def unread_replies(serving):
-    """One that asks for more than the system holds and reads nothing is let go when its time is over."""
+    """One that asks for more than the system holds and reads nothing is let go when its time is over: it can read the first
+    of its replies, and nothing behind a cut one."""
     makes = request("PUT", I, LARGE_SYNC, CLOSE)
     asks = request("GET", "/v2/catalog", lines=CLOSE)
     yield "made", heard_next(serving, partial(asks_once, sent=makes)), (reply(201, "{}"), "closed")
     with serving.connection() as client:
-        begun = time.monotonic()
         client.sendall(request("GET", I, "") * 1000)
-        next_answer = heard_next(serving, partial(asks_once, sent=asks))
-        waited = time.monotonic() - begun
-    yield "behind one that doesn't read", next_answer, SERVED
-    yield "the wait behind it", *in_time(waited, TIME_LIMIT + SOON)
+        begun = time.monotonic()
+        yield "beside one that doesn't read", heard_next(serving, partial(asks_once, sent=asks)), SERVED
+        yield "the wait beside it", *in_time(time.monotonic() - begun, SOON)
+        time.sleep(2 * TIME_LIMIT + SOON)
+        read, _ = heard(client)
+    fetched = f'{{"parameters":{LARGE_PARAMETERS},"plan_id":"p-sync","service_id":"svc"}}'
+    all_of_it = reply(200, fetched, closes=False) * 1000
+    yield "what it can read", (all_of_it.startswith(read), 0 < len(read) < len(all_of_it)), (True, True)
+    yield "its lines", new_lines(serving), b""
+
+
+def unread_listing(serving):
+    """The same of one reply that the system doesn't hold, where the next client waits for it: it has a line."""
+    for number in range(LISTED):
+        makes = request("PUT", at(f"i{number}") + LATER, with_parameters(ASYNC, LARGE_PARAMETERS), CLOSE)
+        yield "opened", heard_next(serving, partial(asks_once, sent=makes)), (reply(202, operation("create-1")), "closed")
+    with serving.connection() as client:
+        client.sendall(request("GET", "/backend/v1/orders"))
+        begun = time.monotonic()
+        yield "behind one that doesn't read", heard_next(serving), SERVED
+        yield "the wait behind it", *in_time(time.monotonic() - begun, TIME_LIMIT + SOON)
     yield "its line", new_lines(serving), WRITE_LINE
 
 
@@ -315,20 +335,6 @@ def few_descriptors(serving, descriptors, number):
     yield "the wait behind them", *in_time(waited, number // descriptors + SOON)
 
 
-def shared_time(serving):
-    """The requests of a connection share its time."""
-    begun = time.monotonic()
-    with serving.connection() as client:
-        # None comes just as the time ends, where its reply could be what fails.
-        goes_on(client, GET_CATALOG, 0.3 * TIME_LIMIT)
-        read = heard(client)[0]
-    yield "the time of many requests", *in_time(time.monotonic() - begun, TIME_LIMIT + SOON, TIME_LIMIT)
-    replies = read.count(b"HTTP/1.1 200 OK")
-    # (a client that waits for a processor sends fewer)
-    yield "replies in that time", Late(f"{replies} replies") if replies < 2 else replies <= 6, True
-    yield "their line", new_lines(serving), READ_LINE
-
-
 LIMITED = ["--time-limit", str(TIME_LIMIT)]
 WAYS = [(ONE, one_try), (MANY, one_try_beside)]
 MANY_REQUESTS = ["--per-connection", "1000"]
@@ -339,7 +345,7 @@ OTHERS = [
     (partial(few_descriptors, descriptors=2, number=FEW), MANY),
     (partial(few_descriptors, descriptors=119, number=300), []),
     (unread_replies, LIMITED + MANY_REQUESTS),
-    (shared_time, LIMITED + MANY_REQUESTS),
+    (unread_listing, LIMITED + ONE),
 ]
 
 

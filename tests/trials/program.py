@@ -347,7 +347,8 @@ def try_words(tries):
         ["serve", *SERVED, "--per-connection", "0"],
         ["serve", *SERVED, "--together", "0"],
         ["serve", *SERVED, "--together", "1025"],
-        ["serve", *SERVED, "--together", "2", "--per-connection", "2"],
+        ["serve", *SERVED, "--idle-limit", "0"],
+        ["serve", *SERVED, "--idle-limit", "86401"],
     ]:
         ended = tries.run(words)
         told = ended.returncode == 2 and ended.stderr and not ended.stdout

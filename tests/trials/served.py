@@ -231,11 +231,9 @@ def try_words(program, folder):
         yield f"a time limit of {seconds}", limited, (1, b"", b"osb-broker: cannot listen on nowhere\n")
     for number in ["0", "1025", "-1", "x", ""]:
         yield f"{number} together", ended(*files, *listen, "--together", number)[0], 2
-    for words in [["--together", "64"], ["--together", "1", "--per-connection", "2"]]:
+    for words in [["--together", "64"], ["--together", "1024", "--per-connection", "1000", "--idle-limit", "86400"]]:
         found = ended(*files, "--listen", "nowhere", *words)
         yield f"{words}", found, (1, b"", b"osb-broker: cannot listen on nowhere\n")
-    both = ended(*files, *listen, "--together", "2", "--per-connection", "2")
-    yield "many requests of many", (both[0], both[1], b"--per-connection" in both[2]), (2, b"", True)
     yield "no database", ended("--settings", SETTINGS, *listen)[0], 2
     yield "no settings", ended("--database", new_database(folder), *listen)[0], 2
     missing = ended("--settings", "no/such/file", *files[2:], *listen)
