@@ -31,6 +31,7 @@ use Rattle.osb_broker.specs.Asked.{Asks, IsAskedIn, OfEachAsk, SomeWasAnswered, 
 use Rattle.osb_broker.proofs.RequestLemmas.{Kind, silent, broken, asks, agree, after_one}
 use Rattle.osb_broker.proofs.ActsOnceLemmas.{shown}
 use Rattle.osb_broker.proofs.ConversationLemmas.{attempted}
+use Rattle.osb_broker.proofs.LastLemmas.{conversation_of}
 use Rattle.osb_broker.proofs.RepliedLemmas.{knows}
 use Rattle.osb_broker.proofs.ReportedLemmas.{reading_stays}
 use Rattle.osb_broker.proofs.ExchangeLemmas.{runs_go_on}
@@ -63,7 +64,7 @@ module _ (rules : Rules) (limits : Limits) where
 
   said_moves : (more : ℕ) (stays : Bool) (old new : Lives) (said : Conversation) → IsSaid rules limits more stays old said new → Moves old (all_bytes said.calls) new
   said_moves more true old new said (some, it) = answered_moves old new said (Ok tt) it
-  said_moves more false old new said (inl it) = let one = attempted rules limits old said new it in outcome_moves old new (all_bytes said.calls) one.0 one.1
+  said_moves more false old new said (inl it) = let one = attempted rules limits old said new (conversation_of rules limits old said new it) in outcome_moves old new (all_bytes said.calls) one.0 one.1
   said_moves more false old new said (inr (some, fault, it)) = answered_moves old new said (Err fault) it
 
   -- nothing, or the step of what it asks
@@ -102,7 +103,7 @@ module _ (rules : Rules) (limits : Limits) where
   said_acts : (more : ℕ) (stays : Bool) (old new : Lives) (said : Conversation) (q : Message) (n : ℕ) → IsFront limits (all_bytes said.calls) (whole q n) → GotAnswer said → IsSaid rules limits more stays old said new → new ≡ lives_after rules old q
   said_acts more true old new said q n front got (some, it) = answered_acts old new said (Ok tt) q n front it
   said_acts more false old new said q n front got (inl it) =
-      let one = attempted rules limits old said new it in
+      let one = attempted rules limits old said new (conversation_of rules limits old said new it) in
       outcome_acts old new (all_bytes said.calls) one.0 q n front (knows one.0 said.sent (one.2 got.0) got.1) one.1
   said_acts more false old new said q n front got (inr (some, fault, it)) = answered_acts old new said (Err fault) q n front it
 

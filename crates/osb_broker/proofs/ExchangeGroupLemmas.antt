@@ -16,6 +16,7 @@ use Rattle.osb_broker.specs.Conversations.{IsConversation}
 use Rattle.osb_broker.specs.Exchanges.{Exchange, IsAnswered, IsSaid, IsExchange, HandledOrLost, WasAnswered, GroupsAreExchanges}
 use Rattle.osb_broker.specs.declared.fault.ServeFault.TheVariants.{Write}
 use Rattle.osb_broker.proofs.HoldLemmas.{HoldsRequest}
+use Rattle.osb_broker.proofs.LastLemmas.{last_of}
 use Rattle.osb_broker.proofs.LostLemmas.{breaking_or_lost, closing_or_lost, replied_or_lost}
 
 or_true : (b : Bool) → (b || true) ≡ true
@@ -80,7 +81,7 @@ module _ (rules : Rules) (limits : Limits) (k : ℕ) (old new : Lives) (x : Exch
     where
       by : (stays : Bool) → x.stays ≡ stays → IsSaid rules limits it.more stays old x.said new
       by true e = let open_still = (it.stays e).0 in let bad : true ≡ false = sym shut ∙ open_still in cc
-      by false e = inl (is_last handled shut)
+      by false e = inl (last_of rules limits old x.said new (is_last handled shut))
 
   -- ---- one behind which another may come
 

@@ -12,6 +12,7 @@ use Rattle.osb_broker.specs.Connection.{ConnectionText}
 use Rattle.osb_broker.specs.Served.{Served}
 use Rattle.osb_broker.specs.Conversations.{Conversation, IsConversation, AreConversations}
 use Rattle.osb_broker.specs.Exchanges.{Exchange, IsAnswered, IsSaid, IsExchange, AreExchanges, all_exchanges, RunsGoOn, one_each, OneRequestEach, AreAnswered, bytes_in, sent_in, ConnectionsByThemselves}
+use Rattle.osb_broker.proofs.LastLemmas.{conversation_of, last_of}
 use Rattle.osb_broker.proofs.OneByOneLemmas.{in_front}
 
 -- ---- with one request a client
@@ -25,7 +26,7 @@ module _ (rules : Rules) (limits : Limits) where
     where
       by : (stays : Bool) → IsSaid rules limits more stays old x.said new → IsConversation rules limits 1 old x.said new
       by true (some, it) = absurd (none_behind x.before more count some)
-      by false (inl it) = it
+      by false (inl it) = conversation_of rules limits old x.said new it
       by false (inr (some, fault, it)) = absurd (none_behind x.before more count some)
 
   to_conversations : (old : Lives) (exchanges : List Exchange) (new : Lives) → AreExchanges rules limits 1 old exchanges new → AreConversations rules limits 1 old (map (λ x. x.said) exchanges) new
@@ -34,7 +35,7 @@ module _ (rules : Rules) (limits : Limits) where
 
   to_exchanges : (n : ℕ) (old : Lives) (conversations : List Conversation) (new : Lives) → AreConversations rules limits 1 old conversations new → AreExchanges rules limits 1 old (one_each n conversations) new
   to_exchanges n old [] new none = none
-  to_exchanges n old (said ∷ later) new (lives, one, rest) = (lives, (0, refl, inl one), to_exchanges (suc n) lives later new rest)
+  to_exchanges n old (said ∷ later) new (lives, one, rest) = (lives, (0, refl, inl (last_of rules limits old said lives one)), to_exchanges (suc n) lives later new rest)
 
 pub one_request_each : OneRequestEach
 one_request_each rules limits old new = (

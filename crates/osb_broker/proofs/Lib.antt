@@ -32,6 +32,7 @@ mod ActsOnceLemmas
 pub mod ReportedLemmas
 mod CountLemmas
 mod ConversationLemmas
+pub mod LastLemmas
 mod RepliedLemmas
 mod ExchangeLemmas
 mod ExchangeGroupLemmas

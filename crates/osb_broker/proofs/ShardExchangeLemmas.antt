@@ -30,6 +30,7 @@ use Rattle.osb_broker.specs.Apart.{picked}
 use Rattle.osb_broker.specs.Conversations.{Conversation, IsConversation}
 use Rattle.osb_broker.specs.Exchanges.{Exchange, IsAnswered, IsSaid, IsExchange, AreExchanges}
 use Rattle.osb_broker.specs.Shards.{is_answerable, HaveSame, is_at, went_to, AreOfShards, asks_such, RequestIs, RoutesExchanges}
+use Rattle.osb_broker.proofs.LastLemmas.{conversation_of, last_of}
 use Rattle.osb_broker.proofs.OneByOneLemmas.{goes_none}
 use Rattle.osb_broker.proofs.ShardLemmas.{answerable_by, answered_alike, stepped, stayed}
 
@@ -405,7 +406,7 @@ module _ (rules : Rules) (limits : Limits) (shard : List ℕ → ℕ) (m : ℕ) 
 
   said_here : (more : ℕ) (stays : Bool) (said : Conversation) (u : Lives) → RequestIs rules limits (is_answerable Here) said.calls → IsSaid rules limits more stays (before m) said u → Joined (IsSaid rules limits more stays s said) u
   said_here more true said u is (some, it) = let here = answered_here said (Ok tt) u is it in (here.0, (some, here.1), here.2)
-  said_here more false said u is (inl it) = let here = conversation_here said u is it in (here.0, inl here.1, here.2)
+  said_here more false said u is (inl it) = let here = conversation_here said u is (conversation_of rules limits (before m) said u it) in (here.0, inl (last_of rules limits s said here.0 here.1), here.2)
   said_here more false said u is (inr (some, cause, it)) = let here = answered_here said (Err cause) u is it in (here.0, inr (some, cause, here.1), here.2)
 
   exchange_here : (k : ℕ) (x : Exchange) (u : Lives) → RequestIs rules limits (is_answerable Here) x.said.calls → IsExchange rules limits k (before m) x u → Joined (IsExchange rules limits k s x) u

@@ -13,6 +13,7 @@ use Rattle.osb_broker.specs.Conversations.{Conversation}
 use Rattle.osb_broker.specs.Exchanges.{Exchange, IsAnswered, IsSaid, AreExchanges, AreRuns}
 use Rattle.osb_trim.specs.Trimmed.{trimmed_lives}
 use Rattle.osb_trim.proofs.MatchLemmas.{Fronts, Matches, alike}
+use Rattle.osb_broker.proofs.LastLemmas.{conversation_of, last_of}
 use Rattle.osb_broker.proofs.TrimmedRunLemmas.{same_answer, left_match}
 use Rattle.osb_broker.proofs.TrimmedEpisodeLemmas.{Left, conversation_from}
 
@@ -38,8 +39,8 @@ module _ (fronts : Fronts) (rules : Rules) (limits : Limits) where
       let it = answered_from lives others said (Ok tt) after h is in
       (it.0, (some, it.1), it.2)
   said_from more false lives others said after h (inl is) =
-      let it = conversation_from fronts rules limits 1 lives others said after h is in
-      (it.0, inl it.1, it.2)
+      let it = conversation_from fronts rules limits 1 lives others said after h (conversation_of rules limits lives said after is) in
+      (it.0, inl (last_of rules limits others said it.0 it.1), it.2)
   said_from more false lives others said after h (inr (some, fault, is)) =
       let it = answered_from lives others said (Err fault) after h is in
       (it.0, inr (some, fault, it.1), it.2)

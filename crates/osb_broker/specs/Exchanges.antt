@@ -16,7 +16,8 @@ use Rattle.osb_broker.specs.Machine.{Machine, Handled, reply_of}
 use Rattle.osb_broker.specs.Steps.{capped, machine}
 use Rattle.osb_broker.specs.Served.{Served}
 use Rattle.osb_broker.specs.Serving.{EachGaveBytes, EachWasNeeded, WritesText}
-use Rattle.osb_broker.specs.Conversations.{Conversation, IsConversation, AreConversations}
+use Rattle.osb_broker.specs.Conversations.{Conversation, AreConversations}
+use Rattle.osb_broker.specs.Last.{IsLast}
 
 -- An exchange is one request of a client with its answer, or the client's end: which client it is, how many of its requests
 -- were answered before, whether another may come, and what was said since then.
@@ -41,13 +42,13 @@ pub record IsAnswered (rules : Rules) (limits : Limits) (old : Lives) (said : Co
       (reply_text (reply_of q false ((machine rules).step old q).0))
   pub leaves : new ≡ ((machine rules).step old q).1
 
--- So many requests may come behind this one. The last exchange of a client is a conversation of one request, or its
--- answer wasn't taken whole.
+-- So many requests may come behind this one. A client's last exchange is its last request or its end, or its answer
+-- wasn't taken whole.
 abbrev pub IsSaid : Rules → Limits → ℕ → Bool → Lives → Conversation → Lives → Type 0
 IsSaid rules limits more true old said new =
     (0 < more) × IsAnswered rules limits old said (Ok tt) new
 IsSaid rules limits more false old said new =
-    IsConversation rules limits 1 old said new
+    IsLast rules limits old said new
     ⊎ ((0 < more) × (fault : WriteFault) × IsAnswered rules limits old said (Err fault) new)
 
 -- of k requests that may come on a connection

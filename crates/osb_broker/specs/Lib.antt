@@ -35,6 +35,7 @@ pub mod Replied
 pub mod Begun
 pub mod Waiting
 -- What was said with clients whose requests come between one another, and what is asked again acts once.
+pub mod Last
 pub mod Exchanges
 pub mod Asked
 -- Several brokers are one.

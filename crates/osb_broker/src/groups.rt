@@ -183,7 +183,7 @@ impl Setup<'_> {
         if most.number > 1 && used < bytes.len() {
             return false;
         }
-        match self.decided_apart(records, &request, most.number == 1, &group.changes) {
+        match self.decided_apart(records, &request, most.is_one(), &group.changes) {
             Some((output, change)) => group.add(output, change),
             None => false,
         }

@@ -85,23 +85,23 @@ abbrev pub descriptors_line : ℕ → ℕ → List ℕ
 descriptors_line needed allowed = concat (codes "osb-broker: too few descriptors: " ∷ decimal needed
     ∷ codes " needed, " ∷ decimal allowed ∷ codes " allowed\n" ∷ [])
 
+-- the line of these words, and of a name behind them
+abbrev pub line_with : List ℕ → List ℕ → List (List ℕ)
+line_with words name = concat (words ∷ name ∷ codes "\n" ∷ []) ∷ []
+
 -- those of a fault; the text for words that aren't those of a command is clap's
 abbrev pub fault_lines : Fault → List (List ℕ)
-fault_lines (the.CannotRead name) =
-    concat (codes "osb-broker: cannot read " ∷ name.now ∷ codes "\n" ∷ []) ∷ []
-fault_lines (the.TooLarge name) =
-    concat (codes "osb-broker: too large " ∷ name.now ∷ codes "\n" ∷ []) ∷ []
+fault_lines (the.CannotRead name) = line_with (codes "osb-broker: cannot read ") name.now
+fault_lines (the.TooLarge name) = line_with (codes "osb-broker: too large ") name.now
 fault_lines the.OutOfMemory = concat (codes "osb-broker: out of memory\n" ∷ []) ∷ []
 fault_lines (the.Database fault) = database_fault_line fault ∷ []
 fault_lines the.CannotWrite = concat (codes "osb-broker: cannot write\n" ∷ []) ∷ []
 fault_lines (the.CannotListen address) =
-    concat (codes "osb-broker: cannot listen on " ∷ address.now ∷ codes "\n" ∷ []) ∷ []
+    line_with (codes "osb-broker: cannot listen on ") address.now
 fault_lines (the.Unbound address cause) = unbound_lines address.now cause
 fault_lines the.CannotAccept = concat (codes "osb-broker: cannot accept\n" ∷ []) ∷ []
-fault_lines (the.NoAddress text) =
-    concat (codes "osb-broker: no address " ∷ text.now ∷ codes "\n" ∷ []) ∷ []
-fault_lines (the.NotReady address) =
-    concat (codes "osb-broker: not ready " ∷ address.now ∷ codes "\n" ∷ []) ∷ []
+fault_lines (the.NoAddress text) = line_with (codes "osb-broker: no address ") text.now
+fault_lines (the.NotReady address) = line_with (codes "osb-broker: not ready ") address.now
 fault_lines (the.TooFewDescriptors needed allowed) = descriptors_line needed allowed ∷ []
 fault_lines (the.Words text) = concat (string_bytes text ∷ []) ∷ []
 fault_lines (the.Settings fault) = settings_line fault (field_in fault) ∷ []
@@ -112,12 +112,10 @@ fault_lines (the.Unreadable reason) =
 fault_lines (the.Unseen cause) = unseen_lines cause
 fault_lines (the.Differs difference) =
     database_fault_line file.NotOurs ∷ difference_line difference ∷ []
-fault_lines (the.IsThere name) =
-    concat (codes "osb-broker: already there " ∷ name.now ∷ codes "\n" ∷ []) ∷ []
+fault_lines (the.IsThere name) = line_with (codes "osb-broker: already there ") name.now
 fault_lines (the.DraftIsThere name) =
     concat (codes "osb-broker: already there " ∷ name.now ∷ codes "-new\n" ∷ []) ∷ []
-fault_lines (the.CannotMake name) =
-    concat (codes "osb-broker: cannot make " ∷ name.now ∷ codes "\n" ∷ []) ∷ []
+fault_lines (the.CannotMake name) = line_with (codes "osb-broker: cannot make ") name.now
 
 abbrev pub unserved_lines : Unserved → List (List ℕ)
 unserved_lines (served.Fault fault) = fault_lines fault

@@ -22,6 +22,7 @@ use Rattle.osb_broker.specs.Inside.{Worked}
 use Rattle.osb_broker.specs.Serving.{EachGaveBytes, ReadsOf, EachWasNeeded, WritesOf}
 use Rattle.osb_broker.specs.Served.{AreStandard}
 use Rattle.osb_broker.proofs.CrashLemmas.{leaves_next, leaves_stored, leaves_weaker}
+use Rattle.osb_broker.proofs.LastLemmas.{last_of}
 use Rattle.osb_broker.proofs.LostLemmas.{shown}
 use Rattle.osb_broker.proofs.ShutLemmas.{go_through, lives_stay}
 use Rattle.osb_listen.specs.declared.fault.ListenFault.{ListenFault}
@@ -120,7 +121,7 @@ module _ (rules : Rules) (limits : Limits) (k : ℕ) where
       → WritesOf ended 0 failed → EndsOrBreaksOrLost ended rules limits left old made met [] 0 sent failed new → IsExchange rules limits k old (exchange_of number before false made sent failed met) new
   ends_as old new number before zero made sent failed met ended count some reads needed wrote ends = absurd (omega (arith, some))
   ends_as old new number before (suc more) made sent failed met ended count some reads needed wrote (inl outcome) =
-      (more, count, inl (record { ended = ended; reads = reads; needed = needed; wrote = wrote; outcome = outcome }))
+      (more, count, inl (last_of rules limits old _ new (record { ended = ended; reads = reads; needed = needed; wrote = wrote; outcome = outcome })))
   ends_as old new number before (suc more) made sent failed met ended count some reads needed wrote (inr (is, no_fault, fault, it)) = (
     more,
     count,

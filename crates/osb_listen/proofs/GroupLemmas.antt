@@ -23,6 +23,7 @@ use Rattle.osb_broker.specs.Exchanges.{AreExchanges, Exchange, IsSaid, OpenGroup
 use Rattle.osb_broker.specs.Inside.{Worked}
 use Rattle.osb_broker.specs.Serving.{EachWasNeeded, ReadsOf}
 use Rattle.osb_broker.specs.Steps.{capped}
+use Rattle.osb_broker.proofs.LastLemmas.{last_of}
 use Rattle.osb_listen.specs.declared.entrance.TakenClient.{TakenClient}
 use Rattle.osb_listen.specs.Exchanges.{conversation_of, ended_by, ended_in, exchange_of, lines_of, Serves}
 use Rattle.osb_listen.specs.Groups.{AreKept, AreTaken, count_of, HasBegun, IsLast, IsOpen, IsSent, IsTurn, IsUnanswered, Unanswered, WereSent}
@@ -129,7 +130,7 @@ module _ {I O : Type 0} (calls : I → List Call) (taken : O → List ℕ) (fail
   last_exchanges [] [] [] [] kept sent old new are = are
   last_exchanges (client ∷ clients) (bytes ∷ requests) (reply ∷ replies) (x ∷ exchanges) kept sent old new (lives, one, are) =
       let more = behind client.before k kept.0.before in
-      (lives, (more.0, ap (λ n. n + suc more.0) sent.0.before ∙ more.1, last_said client reply x more.0 old lives sent.0 (inl one)), last_exchanges clients requests replies exchanges kept.1 sent.1 lives new are)
+      (lives, (more.0, ap (λ n. n + suc more.0) sent.0.before ∙ more.1, last_said client reply x more.0 old lives sent.0 (inl (last_of rules limits old x.said lives one))), last_exchanges clients requests replies exchanges kept.1 sent.1 lives new are)
   last_exchanges [] (bytes ∷ requests) replies exchanges kept sent old new are = absurd kept
   last_exchanges (client ∷ clients) [] replies exchanges kept sent old new are = absurd kept
   last_exchanges [] [] (reply ∷ replies) exchanges kept sent old new are = absurd sent

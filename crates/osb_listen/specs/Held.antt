@@ -1,5 +1,5 @@
 -- Serving from a database file, of which is supposed what it held.
-use Rattle.std.specs.Prelude.{◌≡◌, ◌⊎◌, ◌++◌, ℕ, Bool, true, List, [], ◌∷◌, codes, Some, Result, Ok, Err, ⊤}
+use Rattle.std.specs.Prelude.{◌≡◌, ◌⊎◌, ◌++◌, ℕ, Bool, true, List, [], ◌∷◌, codes, Some, Result, Err, ⊤}
 use Rattle.sqlite.specs.Tree.{Trees}
 use Rattle.sqlite.specs.State.{State, HasCleanDisk}
 use Rattle.osb_frames.specs.declared.limits.Limits.{Limits}
@@ -16,7 +16,7 @@ use Rattle.osb_broker.specs.Exchanges.{Exchange, AreExchanges}
 use Rattle.osb_broker.specs.Plans.{first_lacking}
 use Rattle.osb_broker.specs.Served.{AreStandard}
 use Rattle.osb_listen.specs.declared.fault.ListenFault.{ListenFault}
-use Rattle.osb_listen.specs.declared.fault.ListenFault.TheVariants.{Database, PlanInUse, Memory, CannotListen, CannotWrite, CannotAccept, FileTaken}
+use Rattle.osb_listen.specs.declared.fault.ListenFault.TheVariants.{Database, PlanInUse}
 use Rattle.osb_listen.specs.Exchanges.{AreAsMany, lines_of}
 use Rattle.osb_listen.specs.Lines.{SaysWithRefused}
 
@@ -33,14 +33,9 @@ pub record Serving : Type 0 where
 
 -- before the lines of exchanges: none without a broker, else at most that the database is begun
 abbrev pub AreBefore : Result (Unit {0}) ListenFault → List (List ℕ) → Type 0
-AreBefore (Ok x) lines = (origin : Origin) × (lines ≡ origin_line origin ∷ [])
 AreBefore (Err (Database fault)) lines = lines ≡ []
 AreBefore (Err (PlanInUse service plan)) lines = lines ≡ []
-AreBefore (Err Memory) lines = (origin : Origin) × (lines ≡ origin_line origin ∷ [])
-AreBefore (Err CannotListen) lines = (origin : Origin) × (lines ≡ origin_line origin ∷ [])
-AreBefore (Err CannotWrite) lines = (origin : Origin) × (lines ≡ origin_line origin ∷ [])
-AreBefore (Err CannotAccept) lines = (origin : Origin) × (lines ≡ origin_line origin ∷ [])
-AreBefore (Err FileTaken) lines = (origin : Origin) × (lines ≡ origin_line origin ∷ [])
+AreBefore _ lines = (origin : Origin) × (lines ≡ origin_line origin ∷ [])
 
 -- The exchanges are the journal's last, of as many clients as asked for or fewer, with their lines.
 pub record HasServed (all k : ℕ) (serving : Serving) (journal_old journal_new : List Exchange)
@@ -78,30 +73,17 @@ NoBroker rules db (Database Refused) = ⊤
 NoBroker rules db (Database NotOurs) = (lives : Lives) → ¬ AreLivesOf db lives
 NoBroker rules db (Database Missing) = HasNoTables db
 NoBroker rules db (PlanInUse service plan) = IsInUse rules db service plan
-NoBroker rules db Memory = ⊥
-NoBroker rules db CannotListen = ⊥
-NoBroker rules db CannotWrite = ⊥
-NoBroker rules db CannotAccept = ⊥
-NoBroker rules db FileTaken = ⊥
+NoBroker rules db _ = ⊥
 
 -- what serving leaves of a file that held these trees, by how it ended: it isn't served from, or
 -- the exchanges lead to its lives
 abbrev pub LeavesWith : Rules → ℕ → Bool → Trees → Serving → Lives → Result (Unit {0}) ListenFault →
     Type 0
-LeavesWith rules k existing db serving new (Ok x) = ServesFrom rules k existing db serving new
 LeavesWith rules k existing db serving new (Err (Database fault)) =
     NoBroker rules db (Database fault)
 LeavesWith rules k existing db serving new (Err (PlanInUse service plan)) =
     IsInUse rules db service plan
-LeavesWith rules k existing db serving new (Err Memory) = ServesFrom rules k existing db serving new
-LeavesWith rules k existing db serving new (Err CannotListen) =
-    ServesFrom rules k existing db serving new
-LeavesWith rules k existing db serving new (Err CannotWrite) =
-    ServesFrom rules k existing db serving new
-LeavesWith rules k existing db serving new (Err CannotAccept) =
-    ServesFrom rules k existing db serving new
-LeavesWith rules k existing db serving new (Err FileTaken) =
-    ServesFrom rules k existing db serving new
+LeavesWith rules k existing db serving new _ = ServesFrom rules k existing db serving new
 
 abbrev pub LeavesOf : Rules → ℕ → Bool → Trees → Serving → Lives → Type 0
 LeavesOf rules k existing db serving new = LeavesWith rules k existing db serving new serving.ended

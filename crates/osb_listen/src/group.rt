@@ -15,7 +15,7 @@ ghost use Rattle.osb_listen.specs.Lines.{Says};
 
 use crate::client_end::report_end;
 use crate::entrance::{Entrance, TakenClient};
-use crate::serving::{Turn, serve_client};
+use crate::serving::{Turn, left_of, serve_client};
 use osb_broker::refuse::is_fixed_500;
 use osb_broker::{Begun, Broker, Buffer, ServeFault, Waiting, exchanges, together};
 use osb_frames::{Sink, send_all};
@@ -28,7 +28,7 @@ struct Kept<I, O> {
     last: Vec<TakenClient<I, O>>,
     waiting: Waiting,
     /// Those that may stay.
-    open: Vec<TakenClient<I, O>>,
+    others: Vec<TakenClient<I, O>>,
     staying: Waiting,
 }
 
@@ -43,7 +43,7 @@ fn begin_client<S: Alter, L: Entrance, E: Sink>(
     errors: &mut E,
 ) -> bool
     requires room { (length kept.old.last.items < vec_capacity kept.old.last)
-        × (length kept.old.open.items < vec_capacity kept.old.open) }
+        × (length kept.old.others.items < vec_capacity kept.old.others) }
     requires unread { L.In.calls client.input ≡ [] }
     requires unsent { L.Out.taken client.output ≡ [] }
     requires unfailed { L.Out.failed_or_empty client.output ≡ 0 }
@@ -51,7 +51,7 @@ fn begin_client<S: Alter, L: Entrance, E: Sink>(
     ensures begun { (exchanges : List Exchange)
         × HasBegun L.In.calls L.Out.taken L.Out.failed_or_empty (rules_in broker.old)
         (limits_of buffer.old) (most_of broker.old) kept.old.last.items kept.new.last.items
-        kept.old.open.items kept.new.open.items kept.old.waiting kept.new.waiting
+        kept.old.others.items kept.new.others.items kept.old.waiting kept.new.waiting
         kept.old.staying kept.new.staying exchanges
         × (ended_in exchanges ≡ count_of result)
         × Serves (rules_in broker.old) (limits_of buffer.old) (most_of broker.old) exchanges
@@ -59,7 +59,7 @@ fn begin_client<S: Alter, L: Entrance, E: Sink>(
         (L.journal entrance.old) (L.journal entrance.new) (E.taken errors.old) (E.taken errors.new)
         (E.failed_or_empty errors.old) (E.failed_or_empty errors.new) }
     ensures capacity { (vec_capacity kept.new.last ≡ vec_capacity kept.old.last)
-        × (vec_capacity kept.new.open ≡ vec_capacity kept.old.open) }
+        × (vec_capacity kept.new.others ≡ vec_capacity kept.old.others) }
     ensures missed { L.missed entrance.new ≡ L.missed entrance.old }
     ensures worked { Worked (store_of S.Store broker.old) (store_of S.Store broker.new) }
     ensures most { most_of broker.new ≡ most_of broker.old }
@@ -68,7 +68,7 @@ fn begin_client<S: Alter, L: Entrance, E: Sink>(
 {
     broker.lives_are_whole();
     let mut client = client;
-    let left = broker.per_connection() - client.before;
+    let left = left_of(broker.per_connection(), client.before);
     match broker.begin(
         buffer,
         left,
@@ -84,7 +84,7 @@ fn begin_client<S: Alter, L: Entrance, E: Sink>(
         }
         Begun::Stays => entrance.stay(client),
         Begun::Waits => kept.last.push_reserved(client),
-        Begun::MayStay => kept.open.push_reserved(client),
+        Begun::MayStay => kept.others.push_reserved(client),
     }
     false
 }
@@ -245,8 +245,8 @@ fn take_group<S: Alter, L: Entrance, E: Sink>(
     errors: &mut E,
 ) -> Turn
     requires two { 2 ≤ most }
-    requires room { (most ≤ vec_capacity kept.old.last) × (most ≤ vec_capacity kept.old.open) }
-    requires nobody { (kept.old.last.items ≡ []) × (kept.old.open.items ≡ []) }
+    requires room { (most ≤ vec_capacity kept.old.last) × (most ≤ vec_capacity kept.old.others) }
+    requires nobody { (kept.old.last.items ≡ []) × (kept.old.others.items ≡ []) }
     requires none { (kept.old.waiting ≡ []) × (kept.old.staying ≡ []) }
     requires unread { (L.In.calls first.input ≡ []) × (L.In.calls second.input ≡ []) }
     requires unsent { (L.Out.taken first.output ≡ []) × (L.Out.taken second.output ≡ []) }
@@ -256,7 +256,7 @@ fn take_group<S: Alter, L: Entrance, E: Sink>(
     ensures some { (0 < result.taken) × (result.taken ≤ most) }
     ensures taken { AreTaken L.In.calls L.Out.taken L.Out.failed_or_empty (rules_in broker.old)
         (limits_of buffer.old) (most_of broker.old) result.taken result.ended
-        kept.new.last.items kept.new.waiting kept.new.open.items kept.new.staying
+        kept.new.last.items kept.new.waiting kept.new.others.items kept.new.staying
         (store_of S.Store broker.old) (store_of S.Store broker.new)
         (L.journal entrance.old) (L.journal entrance.new) (E.taken errors.old) (E.taken errors.new)
         (E.failed_or_empty errors.old) (E.failed_or_empty errors.new) }
@@ -352,14 +352,14 @@ pub(crate) fn serve_group<S: Alter, L: Entrance, E: Sink>(
     let Ok(last) = Vec::with_capacity(alloc, most as usize) else {
         return serve_both(broker, buffer, entrance, first, second, errors);
     };
-    let Ok(open) = Vec::with_capacity(alloc, most as usize) else {
+    let Ok(others) = Vec::with_capacity(alloc, most as usize) else {
         last.destroy_empty();
         return serve_both(broker, buffer, entrance, first, second, errors);
     };
     let mut kept = Kept {
         last,
         waiting: Waiting::nobody(alloc),
-        open,
+        others,
         staying: Waiting::nobody(alloc),
     };
     let turn = take_group(
@@ -368,11 +368,11 @@ pub(crate) fn serve_group<S: Alter, L: Entrance, E: Sink>(
     let Kept {
         last,
         waiting,
-        open,
+        others,
         staying,
     } = kept;
     let ended = answer_last(broker, buffer, entrance, last, waiting, errors);
-    let more = answer_open(broker, buffer, entrance, open, staying, errors);
+    let more = answer_open(broker, buffer, entrance, others, staying, errors);
     Turn {
         taken: turn.taken,
         ended: turn.ended + ended + more,

@@ -1,6 +1,6 @@
 //! Clients of an entrance that are served, one or several at a time.
 
-ghost use Rattle.std.specs.Prelude.{◌≡◌, ◌<◌, ◌≤◌, List, [], ◌∷◌, length, IfOk, IfErr, OnOk, OnErr, IsTrue};
+ghost use Rattle.std.specs.Prelude.{◌≡◌, ◌<◌, ◌≤◌, ◌+◌, List, [], ◌∷◌, length, IfOk, IfErr, OnOk, OnErr, IsTrue};
 ghost use Rattle.sqlite.specs.State.{HasCleanDisk, Survives};
 ghost use Rattle.osb_broker.specs.BrokerState.{Works, most_of, rules_in, store_of};
 ghost use Rattle.osb_broker.specs.Exchanges.{Exchange};
@@ -31,6 +31,14 @@ pub(crate) struct Turn {
     pub(crate) ended: u32,
 }
 
+/// How many of so many requests of a client may come still, behind those that were answered before.
+pub(crate) fn left_of(per_connection: u32, before: u32) -> u32
+    requires { before < per_connection }
+    ensures { before + result ≡ per_connection }
+{
+    per_connection - before
+}
+
 /// Answers the next request of a client at once. The client is let go unless another may come.
 /// Whether it was.
 pub(crate) fn serve_client<S: Alter, L: Entrance, E: Sink>(
@@ -56,7 +64,7 @@ pub(crate) fn serve_client<S: Alter, L: Entrance, E: Sink>(
     ensures limits { limits_of buffer.new ≡ limits_of buffer.old }
 {
     let mut client = client;
-    let left = broker.per_connection() - client.before;
+    let left = left_of(broker.per_connection(), client.before);
     match broker.answer_next(buffer, left, &mut client.input, &mut client.output) {
         Begun::Ended(ended) => {
             report_end(ended, errors);

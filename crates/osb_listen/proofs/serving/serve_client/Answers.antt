@@ -12,8 +12,8 @@ returns-in-Ended-clause-served g c =
     let made = begun.1.made ∙ ap (λ (calls : List Call). calls ++ begun.0) c.requires.unread in (
       _,
       refl,
-      ends_served _ _ _ _ _ c.args.client.number c.args.client.before _ _ begun.0 _ _ _ _ (omega (arith, c.per_connection.ensures.most, c.requires.before)) begun.2 made c.requires.unsent c.requires.unfailed _ _ _ _ _ _
-          _ c.met_fault.result c.in-Ended.ended (omega (arith, c.per_connection.ensures.most, c.requires.before)) is.0 is.1 c.met_fault.ensures is.2 is.3 c.leave.ensures.journal c.report_end.ensures,
+      ends_served _ _ _ _ _ c.args.client.number c.args.client.before _ _ begun.0 _ _ _ _ (omega (arith, c.left_of-left.ensures, c.per_connection.ensures.most)) begun.2 made c.requires.unsent c.requires.unfailed _ _ _ _ _ _
+          _ c.met_fault.result c.in-Ended.ended (omega (arith, c.left_of-left.ensures, c.per_connection.ensures.most, c.requires.before)) is.0 is.1 c.met_fault.ensures is.2 is.3 c.leave.ensures.journal c.report_end.ensures,
     )
 
 pub returns-in-Stays-clause-served : goal.returns-in-Stays-clause-served
@@ -24,6 +24,6 @@ returns-in-Stays-clause-served g c =
     let made = begun.1.made ∙ ap (λ (calls : List Call). calls ++ begun.0) c.requires.unread in (
       _,
       refl,
-      stays_served _ _ _ _ _ c.args.client.number c.args.client.before _ _ begun.0 _ _ _ _ (omega (arith, c.per_connection.ensures.most, c.requires.before)) begun.2 made c.requires.unsent c.requires.unfailed _ _ _ _ _ _
+      stays_served _ _ _ _ _ c.args.client.number c.args.client.before _ _ begun.0 _ _ _ _ (omega (arith, c.left_of-left.ensures, c.per_connection.ensures.most)) begun.2 made c.requires.unsent c.requires.unfailed _ _ _ _ _ _
           is.0 is.1 is.3 is.4 c.stay.ensures.journal refl refl,
     )

@@ -14,7 +14,7 @@ returns-in-Some-clause-joins g c works clean e = record {
   ];
   output = c.in-Some.output;
   one = c.in-Some.change;
-  decides = c.in-Some.ensures.decides works clean;
+  decides = rw c.is_one.ensures at c.in-Some.ensures.decides works clean;
   apart = rw c.deref.ensures.value at c.in-Some.ensures.apart;
   outputs = c.add.ensures.outputs e;
   none = c.add.ensures.none e;
