@@ -36,8 +36,8 @@ install -D -m 755 -s "$program" "$root/usr/bin/osb-broker"
 install -D -m 644 -t "$root/lib/systemd/system" "$here/osb-broker.service" "$here/osb-broker@.service"
 mkdir -p "$doc/examples" "$root/usr/share/man/man1" "$root/DEBIAN"
 fill "$here/osb-broker.1" | gzip -9n > "$root/usr/share/man/man1/osb-broker.1.gz"
-for each in settings.json queues.json postgresql.json resent.http nginx.conf haproxy.cfg haproxy-shards.cfg osb-backend.service \
-    drbd-osb.res standby.conf kubernetes.yaml; do
+for each in settings.json queues.json postgresql.json resent.http nginx.conf nginx-kept.conf haproxy.cfg haproxy-kept.cfg haproxy-shards.cfg \
+    osb-backend.service drbd-osb.res standby.conf kubernetes.yaml; do
     install -m 644 "$checkout/examples/$each" "$doc/examples"
 done
 install -m 755 "$checkout/examples/"*.py "$checkout/examples/osb-fence-peer" "$checkout/examples/osb-take-over" "$doc/examples"

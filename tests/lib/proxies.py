@@ -29,8 +29,8 @@ class Proxy:
     program = example = listens = around = ""
     # The file in its folder that has a line of each request.
     said = ""
-    # How often its example names the broker's address.
-    calls = 2
+    # How often its example names the broker's address, and whether it keeps connections to it.
+    calls, keeps = 2, False
     # The words that it is started with, those that have it look at its configuration alone, and what it says to these.
     words, checks, valid = [], [], ""
 
@@ -142,6 +142,12 @@ http {
         return replaced(replaced(placed, "127.0.0.1:8442", free_address(), 11), "/var/log/nginx/", "")
 
 
+class NginxKept(Nginx):
+    """The same with connections to the broker that are kept."""
+
+    example, keeps = "nginx-kept.conf", True
+
+
 class HAProxy(Proxy):
     program, example, listens, said = "haproxy", "haproxy.cfg", "127.0.0.1:8445", "said"
     around = "global\n    log stdout format raw local0\n"
@@ -153,3 +159,12 @@ class HAProxy(Proxy):
     no_body = 408, '{"description":"The request took too long."}'
     chunks = CODINGS
     away = 503, AWAY
+
+
+class HAProxyKept(HAProxy):
+    """The same with connections to the broker that are kept."""
+
+    example, calls, keeps = "haproxy-kept.cfg", 3, True
+
+    def placed(self, configuration, broker):
+        return replaced(super().placed(configuration, broker), "127.0.0.1:8081", free_address(), 2)

@@ -24,17 +24,17 @@ sys.path.append(os.path.join(os.path.dirname(os.path.abspath(__file__)), "..", "
 from calm import Watch
 from conversations import ASYNC, CATALOG, CLOSE, I, LATER, NO_HEAD_REPLY, SYNC
 from conversations import at, operation, replies, request
-from proxies import CODINGS, HAProxy, Nginx, first_of
+from proxies import CODINGS, HAProxy, HAProxyKept, Nginx, NginxKept, first_of
 from serving import Serving, in_time, new_database, passed_over, read_to_end, tell
 
-PROXIES = [Nginx, HAProxy]
+PROXIES = [Nginx, HAProxy, NginxKept, HAProxyKept]
 SLOW, FAST = 64, 8
 # A slow client sends a piece so often, and is done after some three seconds.
 PAUSE, PIECES = 0.1, 30
 # No fast client waits longer for a reply; and for how long somebody may hold the program who gets through to it.
 SOON, HELD = 1, 10
 # How often the program is killed, for how long it is away each time, and how long it is there in between.
-KILLS, AWAY_FOR, BETWEEN = 3, 1, 0.5
+KILLS, AWAY_FOR, BETWEEN = 10, 1, 0.5
 LARGEST_BODY = SYNC.ljust(262_144)
 LARGE = '{"description":"The body is too large."}'
 LENGTH = 400, '{"description":"The Content-Length is not usable."}'
@@ -148,7 +148,7 @@ def disagreements(proxy, serving, numbers):
     """Whether such a request is one, bare and through the proxy, and another client is answered behind it, all at
     once."""
     for name, sent, bare, *through in two_ways(proxy.refused, f"equal-{next(numbers)}"):
-        for where, doors, expected in [("bare", serving, bare), ("through", proxy, through[PROXIES.index(type(proxy))])]:
+        for where, doors, expected in [("bare", serving, bare), ("through", proxy, through[isinstance(proxy, HAProxy)])]:
             begun = time.monotonic()
             yield f"{name}, {where}", replies(doors.sends(sent)), [expected]
             yield f"{name}, {where}: at once", *in_time(time.monotonic() - begun, SOON)
@@ -174,7 +174,8 @@ def held_back(proxy, serving):
         serving.process.send_signal(signal.SIGCONT)
         found = [it.result() for it in asked]
     yield "while it is stopped for a copy", found, [GET] * FAST
-    yield "connections to it meanwhile", connected, FAST
+    # Of those that are kept some may be idle.
+    yield "connections to it meanwhile", min(connected, FAST) if proxy.keeps else connected, FAST
 
 
 def restarts(serving):
@@ -240,10 +241,10 @@ def tries(program, proxies):
             # That no connection is kept is up to the proxy.
             with Serving(program, new_database(folder), "--per-connection", "1000") as serving:
                 proxy = kind(folder, serving.address)
-                yield f"{kind.program}: its configuration", proxy.is_valid(), (0, kind.valid)
+                yield f"{kind.example}: its configuration", proxy.is_valid(), (0, kind.valid)
                 with proxy:
                     for name, found, expected in behind(proxy, serving, watch):
-                        yield f"{kind.program}: {name}", found, expected
+                        yield f"{kind.example}: {name}", found, expected
 
 
 def main():
