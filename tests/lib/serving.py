@@ -30,8 +30,10 @@ LAST_PORT = os.path.join(tempfile.gettempdir(), f"osb-broker-{os.getuid()}-port"
 
 
 def is_free(port):
+    """Whether nobody listens at a port of loopback. Connections that have ended there keep it from nobody."""
     try:
         with socket.socket() as free:
+            free.setsockopt(socket.SOL_SOCKET, socket.SO_REUSEADDR, 1)
             free.bind(("127.0.0.1", port))
     except OSError:
         return False
