@@ -258,12 +258,22 @@ def try_crate(crate, edits, reports):
     return found or Found()
 
 
+def try_side_by_side(crate, names, made, folders):
+    """The verdict on each edit of these batches, which are tried at the same time as far as there are places. Each keeps
+    what it checked in a folder of its own."""
+    with concurrent.futures.ThreadPoolExecutor(len(made)) as pool:
+        found = pool.map(lambda batch, folder: try_batch(crate, names, batch, folder), made, folders)
+        return {edit: it for verdicts in found for edit, it in verdicts.items()}
+
+
 def try_proved(crate, edits, reports):
     """What is found of a crate's edits over proved libraries."""
-    names, verdicts = {edit.refused for edit in edits}, {}
-    with tempfile.TemporaryDirectory() as kept:
-        for batch in batches(edits):
-            verdicts |= try_batch(crate, names, batch, kept)
+    names, made = {edit.refused for edit in edits}, batches(edits)
+    with tempfile.TemporaryDirectory() as room:
+        folders = [tempfile.mkdtemp(dir=room) for _ in made]
+        verdicts = try_side_by_side(crate, names, made, folders)
+        # (the most functions were checked with the largest batch)
+        kept = max(zip(made, folders), key=lambda it: len(it[0]))[1]
         written = of_kind(verdicts, Kind.WRITTEN)
         if reports.is_strict or len(written) > counted().get(crate, 0):
             verdicts |= say_the_same(crate, names, written, kept)
