@@ -3,10 +3,12 @@
 second, the processor time and the bytes written for one, starts over many instances, and the first
 start over another program's file. Prints the tables of docs/MEASUREMENTS.md.
 
-usage: measure/measure.py [--rounds N] [--seconds S] [--folder F] [--kinds K,..] [--instances N,..] NAME=PROGRAM..
+usage: measure/measure.py [--rounds N] [--seconds S] [--folder F] [--kinds K,..] [--cells EACH:CLIENTS,..]
+       [--instances N,..] NAME=PROGRAM..
 
 In each round all servers are measured one after the other, each over a new database in the folder,
-and starts over a database that the same program made.
+and starts over a database that the same program made. A cell is how many requests a connection has, and how many
+clients there are. Without instances starts aren't measured (`--instances ''`).
 A ratio is that of the last program to another server in the same round; of all rounds the median
 stands in the tables, with the least and the most. The server in C needs libsqlite3 and its header.
 """
@@ -178,7 +180,7 @@ def requests(bench):
     row(*titles)
     row(*["---"] * len(titles))
     for kind in bench.options.kinds:
-        for each, clients in CELLS:
+        for each, clients in bench.options.cells:
             found = bench.rounds([*bench.programs, BARE], lambda name: bench.cell(name, kind, each, clients))
             ratios = [ratio(found, bench.last, name, part) for name in others for part in (0, 1)]
             rate = middle([it[0] for it in found[bench.last]], 0)
@@ -243,7 +245,9 @@ def words():
     parser.add_argument("--seconds", type=float, default=1)
     parser.add_argument("--folder", default=".")
     parser.add_argument("--kinds", type=lambda text: text.split(","), default=list(KINDS))
-    numbers = lambda text: [int(number) for number in text.split(",")]
+    numbers = lambda text: [int(number) for number in text.split(",") if number]
+    pairs = lambda text: [tuple(map(int, cell.split(":"))) for cell in text.split(",")]
+    parser.add_argument("--cells", type=pairs, default=CELLS)
     parser.add_argument("--instances", type=numbers, default=[1_000, 10_000, 100_000])
     parser.add_argument("programs", nargs="+", metavar="NAME=PROGRAM")
     return parser.parse_args()
@@ -254,8 +258,9 @@ def main():
     with tempfile.TemporaryDirectory(dir=options.folder) as folder:
         bench = Bench(options, folder)
         requests(bench)
-        print()
-        starts(bench)
+        if options.instances:
+            print()
+            starts(bench)
 
 
 if __name__ == "__main__":

@@ -47,18 +47,26 @@ NUMBERS = itertools.count(1)
 ENDING = threading.Event()
 
 
+# How a trial is tried once more, by a word of its line: what its title says then, and its environment.
+WAYS = {"one": ("together 1", {"TOGETHER": "1"}), "kept": ("kept", {"PER_CONNECTION": "1000"})}
+
+
 @dataclass
 class Trial:
-    """A line of the table: a script, and its limit in seconds."""
+    """A line of the table: a script, and its limit in seconds. Its way may be one of WAYS."""
 
     name: str
     seconds: float
     is_alone: bool = False
-    together: str = ""
+    way: str = ""
 
     @property
     def title(self):
-        return f"{self.name} together {self.together}" if self.together else self.name
+        return f"{self.name} {WAYS[self.way][0]}" if self.way else self.name
+
+    @property
+    def environment(self):
+        return WAYS[self.way][1] if self.way else {}
 
 
 def listed():
@@ -68,8 +76,9 @@ def listed():
     for name, _, words in (line.partition(": ") for line in lines):
         seconds, *more = words.split(", ")
         yield Trial(name, float(seconds), "by itself" in more)
-        if "one" in more:
-            yield Trial(name, float(seconds), "by itself" in more, "1")
+        for way in WAYS:
+            if way in more:
+                yield Trial(name, float(seconds), "by itself" in more, way)
 
 
 def end_ours(number, _):
@@ -106,8 +115,8 @@ class Tried:
 
     def command(self):
         """How it is tried by itself."""
-        together = f"TOGETHER={self.trial.together} " if self.trial.together else ""
-        return f"{together}python3 tests/trials/{self.trial.name}.py {shlex.quote(self.program)}"
+        way = "".join(f"{name}={text} " for name, text in self.trial.environment.items())
+        return f"{way}python3 tests/trials/{self.trial.name}.py {shlex.quote(self.program)}"
 
     def run(self):
         if ENDING.is_set():
@@ -115,7 +124,7 @@ class Tried:
         trial, begun = self.trial, time.monotonic()
         words = [sys.executable, os.path.join(ROOT, "tests", "trials", f"{trial.name}.py"), self.program]
         self.runs += 1
-        self.status, said = run(words, trial.seconds, {"TOGETHER": trial.together} if trial.together else {})
+        self.status, said = run(words, trial.seconds, trial.environment)
         said += "\n" if said and not said.endswith("\n") else ""
         if self.status is None:
             is_wrong = re.search(rf"^{trial.name}: wrong: ", said, re.MULTILINE)

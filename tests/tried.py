@@ -124,7 +124,7 @@ class Outside:
 
     def begun(self, *names, **environment):
         """The process of tests/outside.py."""
-        kept = {name: it for name, it in os.environ.items() if name not in ("CI", "OSB_PASS_OVER", "TOGETHER")}
+        kept = {name: it for name, it in os.environ.items() if name not in ("CI", "OSB_PASS_OVER", "TOGETHER", "PER_CONNECTION")}
         words = [sys.executable, str(self.root / "tests" / "outside.py"), "program", *names]
         how = {"stdout": subprocess.PIPE, "stderr": subprocess.STDOUT, "text": True}
         return subprocess.Popen(words, env={**kept, **environment}, **how)

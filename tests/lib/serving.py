@@ -77,8 +77,9 @@ def settings_with_contexts(folder):
     return path
 
 
-# How many clients are connected at the same time, where a trial doesn't say it; as the program has it without that.
-TOGETHER = os.environ.get("TOGETHER")
+# How many clients are connected at the same time, and how many requests each may make, where a trial doesn't say it; as
+# the program has it without that.
+TOGETHER, PER_CONNECTION = os.environ.get("TOGETHER"), os.environ.get("PER_CONNECTION")
 
 # What a start says on standard error that begins a database.
 BEGUN_LINE = b"database: new\n"
@@ -94,6 +95,8 @@ class Serving:
         self.words = [program, "serve", "--settings", settings, "--database", database, *more]
         if TOGETHER and "--together" not in more:
             self.words += ["--together", TOGETHER]
+        if PER_CONNECTION and "--per-connection" not in more:
+            self.words += ["--per-connection", PER_CONNECTION]
         self.more = process
         self.start()
 

@@ -53,7 +53,6 @@ ONE = ["--together", "1"]
 MANY = ["--together", "64"]
 
 READ_LINE = b"connection: read\n"
-WRITE_LINE = b"connection: write\n"
 
 LARGE = b"PUT / HTTP/1.1\r\nHost: b\r\nContent-Length: 900000\r\n\r\n"
 
@@ -262,7 +261,7 @@ def unread_replies(serving):
     asks = request("GET", "/v2/catalog", lines=CLOSE)
     yield "made", heard_next(serving, partial(asks_once, sent=makes)), (reply(201, "{}"), "closed")
     with serving.connection() as client:
-        client.sendall(request("GET", I, "") * 1000)
+        client.sendall(request("GET", I, lines="") * 1000)
         begun = time.monotonic()
         yield "beside one that doesn't read", heard_next(serving, partial(asks_once, sent=asks)), SERVED
         yield "the wait beside it", *in_time(time.monotonic() - begun, SOON)
@@ -275,7 +274,7 @@ def unread_replies(serving):
 
 
 def unread_listing(serving):
-    """The same of one reply that the system doesn't hold, where the next client waits for it: it has a line."""
+    """The same of one reply that the system doesn't hold, where the next client waits for its place: it has no line."""
     for number in range(LISTED):
         makes = request("PUT", at(f"i{number}") + LATER, with_parameters(ASYNC, LARGE_PARAMETERS), CLOSE)
         yield "opened", heard_next(serving, partial(asks_once, sent=makes)), (reply(202, operation("create-1")), "closed")
@@ -284,16 +283,16 @@ def unread_listing(serving):
         begun = time.monotonic()
         yield "behind one that doesn't read", heard_next(serving), SERVED
         yield "the wait behind it", *in_time(time.monotonic() - begun, TIME_LIMIT + SOON)
-    yield "its line", new_lines(serving), WRITE_LINE
+    yield "its lines", new_lines(serving), b""
 
 
 def default_limit(serving):
     """Without `--time-limit` a connection has ten seconds."""
     begun = time.monotonic()
-    with serving.connection():
-        next_answer = heard_next(serving)
-    yield "the next after the default time", next_answer, SERVED
+    with serving.connection() as client:
+        yield "one that says nothing", heard(client), (b"", "closed")
     yield "the default time", *in_time(time.monotonic() - begun, 10 + SOON, 9.5)
+    yield "its line", lines_behind(serving, begun)[0], READ_LINE
 
 
 def limit_descriptors(serving, most):
@@ -339,9 +338,8 @@ LIMITED = ["--time-limit", str(TIME_LIMIT)]
 WAYS = [(ONE, one_try), (MANY, one_try_beside)]
 MANY_REQUESTS = ["--per-connection", "1000"]
 OTHERS = [
-    (default_limit, ONE),
-    (lacking_descriptors, ONE),
-    (lacking_descriptors, MANY),
+    (default_limit, []),
+    (lacking_descriptors, []),
     (partial(few_descriptors, descriptors=2, number=FEW), MANY),
     (partial(few_descriptors, descriptors=119, number=300), []),
     (unread_replies, LIMITED + MANY_REQUESTS),

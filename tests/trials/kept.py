@@ -5,8 +5,9 @@ usage: tests/trials/kept.py PROGRAM
 
 Each reply is the one to its request, however the requests of a connection come: one by one, several at once, in pieces,
 with the end or a fault behind them. The last one closes. Many clients at the same time have the replies of their own
-instances. An idle client is ended after its time, or as soon as its place is needed. Over kills, a creation that is sent
-again on other connections acts once. What hangs on time is tried again if the machine stood still (`calm.py`).
+instances, and several at one instance those of some order. An idle client is ended after its time, or as soon as its
+place is needed. Over kills, a creation that is sent again on other connections acts once. What hangs on time is tried
+again if the machine stood still (`calm.py`).
 """
 
 import contextlib
@@ -47,6 +48,9 @@ CLIENTS, REQUESTS, AT_ONCE = 24, 120, 6
 EACH = (1, 2, 3, 1000)
 PLACES = 16
 MAKERS, INSTANCES = 12, 60
+# How often clients ask about one instance at the same time, and how many requests each of them makes.
+ROUNDS, ASKED = 60, (3, 3, 2)
+FETCHED = '{"parameters":{},"plan_id":"p-sync","service_id":"svc"}'
 # In seconds: between two kills, and between two tries.
 BETWEEN_KILLS, PAUSE = 0.05, 0.02
 
@@ -83,7 +87,7 @@ def one_by_one(serving):
 def large_replies(serving):
     """A reply of more than one write is there at once: the system holds back none of it until the client has the rest."""
     yield "made", heard_of(serving, request("PUT", I, LONG_SYNC, CLOSE)), (reply(201, "{}"), "closed")
-    fetched = reply(200, f'{{"parameters":{LONG},"plan_id":"p-sync","service_id":"svc"}}', closes=False)
+    fetched = reply(200, FETCHED.replace("{}", LONG), closes=False)
     with serving.connection() as client:
         begun = time.monotonic()
         for _ in range(MOST - 1):
@@ -158,6 +162,24 @@ def places(serving):
         yield "the wait behind idle ones", *in_time(time.monotonic() - begun, SOON)
 
 
+def asks(kind, instance, lines=""):
+    """A request of a kind about an instance."""
+    if kind == "make":
+        return request("PUT", at(instance), SYNC, lines)
+    if kind == "delete":
+        return request("DELETE", at(instance) + SYNC_LEAVE, lines=lines)
+    return request("GET", at(instance), lines=lines)
+
+
+def answer_to(kind, was_there):
+    """What such a request is answered, and whether the instance is there then."""
+    if kind == "make":
+        return (200 if was_there else 201, "{}"), True
+    if kind == "delete":
+        return (200 if was_there else 410, "{}"), False
+    return ((200, FETCHED) if was_there else (404, "{}")), was_there
+
+
 class Model:
     """What a client's own instances are answered."""
 
@@ -167,18 +189,12 @@ class Model:
     def asked(self, chance, lines):
         """A request, and the status and body that it is answered by."""
         instance = f"{self.name}-{chance.randrange(4)}"
-        kind = chance.choice(["catalog", "make", "make", "delete", "poll"])
+        kind = chance.choice(["catalog", "make", "make", "delete", "fetch"])
         if kind == "catalog":
             return request("GET", "/v2/catalog", lines=lines), (200, CATALOG)
-        was_there = instance in self.there
-        if kind == "make":
-            self.there.add(instance)
-            return request("PUT", at(instance), SYNC, lines), (200 if was_there else 201, "{}")
-        if kind == "delete":
-            self.there.discard(instance)
-            return request("DELETE", at(instance) + SYNC_LEAVE, lines=lines), (200 if was_there else 410, "{}")
-        fetched = '{"parameters":{},"plan_id":"p-sync","service_id":"svc"}'
-        return request("GET", at(instance), lines=lines), (200, fetched) if was_there else (404, "{}")
+        answer, is_there = answer_to(kind, instance in self.there)
+        (self.there.add if is_there else self.there.discard)(instance)
+        return asks(kind, instance, lines), answer
 
 
 def some_requests(model, chance, most):
@@ -253,6 +269,38 @@ def many(program, folder, most):
                 yield f"of {most} requests each", found, wanted
 
 
+def is_explained(heard, is_there, is_left):
+    """Whether some order of the clients' requests, in which each client's own are in their order, explains all answers, and
+    whether the instance is there behind the last."""
+    for number, each in enumerate(heard):
+        if each:
+            (kind, found), *later = each
+            answer, then = answer_to(kind, is_there)
+            if answer == found and is_explained([*heard[:number], later, *heard[number + 1 :]], then, is_left):
+                return True
+    return not any(heard) and is_there == is_left
+
+
+def asks_all(serving, instance, kinds):
+    """What a client hears that asks all this about an instance at once."""
+    with serving.connection() as client:
+        client.sendall(b"".join(asks(kind, instance) for kind in kinds))
+        return list(zip(kinds, heard_replies(client, len(kinds))))
+
+
+def one_instance(program, folder):
+    """Clients that ask about one instance at the same time have the answers of one order."""
+    chance = random.Random("one instance")
+    with Serving(program, new_database(folder), "--per-connection", "1000") as serving, ThreadPoolExecutor(len(ASKED)) as pool:
+        for instance in map("one-{}".format, range(ROUNDS)):
+            kinds = [chance.choices(["make", "delete", "fetch"], k=number) for number in ASKED]
+            heard_of_each = list(pool.map(partial(asks_all, serving, instance), kinds))
+            [last] = [answer for _, answer in asks_all(serving, instance, ["fetch"])]
+            counts = [len(each) for each in heard_of_each]
+            found = counts, is_explained(heard_of_each, False, last == (200, FETCHED))
+            yield f"all about {instance}, {heard_of_each}", found, (list(ASKED), True)
+
+
 class Maker:
     """Makes instances over a connection that is kept until it breaks, each until it is answered."""
 
@@ -307,6 +355,7 @@ def tries(program):
     with tempfile.TemporaryDirectory() as folder:
         for most in EACH:
             yield from many(program, folder, most)
+        yield from one_instance(program, folder)
         yield from kills(program, folder)
         yield from timed(program, folder, Watch())
 

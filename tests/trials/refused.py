@@ -7,7 +7,7 @@ The program runs with `refuse.c` loaded before the C library. Each growth of eac
 conversations is refused in turn, over a program that was just started, until a run meets none. The request
 is answered 500 and every row of the database is as before, or it is answered as it should be; and then it,
 and the rest of the conversation, goes as it should. The same over a program that goes on, with a further
-request behind each one: behind a 500 that isn't answered and does nothing. What takes no memory takes none.
+request behind each one: behind a 500 that isn't answered and does nothing. What needs no memory is always answered.
 
 All that is with clients that are taken one after the other. Two conversations are tried with many at the same time, too.
 There room for the bytes of a client is lacking as memory is refused, and is waited for.
@@ -253,7 +253,7 @@ NOT_THE_BACKEND = request("GET", "/backend/v1/orders").replace(b"YmFja2VuZDp3b3J
 NOT_FOUND = reply(404, "{}")
 VERSION_REPLY = reply(412, '{"description":"This broker speaks version 2 of the API."}')
 
-# What takes no memory.
+# What needs no memory.
 PLAIN = [
     (request("GET", "/v1/catalog"), NOT_FOUND),
     (request("GET", "v2/catalog"), NOT_FOUND),
@@ -272,15 +272,20 @@ PLAIN = [
 ]
 
 
-def takes_none(machine):
-    """Counts the growths of connections that take no memory."""
+def needs_none(machine):
+    """Refuses each growth of connections whose requests need no memory, as that of the room of their bytes. Each is
+    answered."""
+    count = 0
     with machine.serving() as served:
         for sent, expected in PLAIN:
-            found, _ = served.refusing(sent, 1)
-            growths, _ = machine.growths()
-            if (found, growths) != (expected, 0):
-                raise Wrong(f"{sent!r:.100}: {found!r:.300}, {growths} growths")
-    return f"{len(PLAIN)} connections took no memory"
+            growth, refused = 0, True
+            while refused:
+                growth += 1
+                found, refused = served.refusing(sent, growth)
+                if found != expected:
+                    raise Wrong(f"{sent!r:.100}: {found!r:.300}, growth {growth}")
+            count += growth - 1
+    return f"{len(PLAIN)} connections, {count} growths refused, and each was answered"
 
 
 CREATED = request("PUT", I + LATER, ASYNC)
@@ -432,7 +437,7 @@ def trials():
     yield "an identity", partial(each_refused, conversation=PUT_TWICE[:1], lines=IDENTITY, echo=IDENTITY)
     for name, conversation in CONVERSATIONS.items():
         yield f"{name}, before another", partial(each_before_another, conversation=conversation)
-    yield "no memory", takes_none
+    yield "no memory", needs_none
     yield "seven requests", partial(acts_once, connections=SEVEN)
     yield "three requests", partial(acts_once, connections=THREE)
     yield "seven requests beside another instance", once_beside_another

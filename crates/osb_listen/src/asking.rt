@@ -69,9 +69,9 @@ impl Asking {
         piece: &mut [u8],
         lines: &mut LineRoom,
     ) -> Readiness {
-        let mut found = self.received.take_in(&self.peer, rooms, piece, lines);
+        let mut found = self.received.take_in(&mut self.peer, rooms, piece, lines);
         if found == Readiness::NotYet && self.received.is_full() {
-            found = self.received.take_in(&self.peer, rooms, piece, lines);
+            found = self.received.take_in(&mut self.peer, rooms, piece, lines);
         }
         self.lacks_room = found == Readiness::NoRoom;
         found

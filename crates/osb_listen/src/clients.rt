@@ -3,7 +3,6 @@
 use crate::asking::Asking;
 use crate::client::{Client, Kind, Then};
 use crate::door::{Arrival, DOOR, Door};
-use crate::ending::{LINGER_BYTES, LINGER_MILLISECONDS};
 use crate::listen::ListenOptions;
 use crate::peer::Peer;
 use crate::places::{Places, earlier};
@@ -23,6 +22,11 @@ const PIECE: usize = 65_536;
 
 /// How long a client keeps its place, or its room, although another one wants it.
 const GRACE_MILLISECONDS: u64 = 1000;
+
+/// How long a client that may be sending still is read from, and how many of its bytes are read.
+const LINGER_MILLISECONDS: u64 = 300;
+
+const LINGER_BYTES: usize = 1_048_576;
 
 /// Clients that are connected at the same time. No call on one of them waits.
 #[derive(Drop)]
@@ -108,13 +112,18 @@ impl<'a> Clients<'a> {
         self.places.alarm()
     }
 
-    /// Goes on with whom there is news of.
-    pub(crate) fn hear(&mut self, token: Token) {
+    /// Goes on with whom there is news of. That of one who is served, or that no more comes, is noted
+    /// until it is waited for news again.
+    pub(crate) fn hear(&mut self, token: Token, has_ended: bool) {
         if token == DOOR {
             self.door.hear();
             return;
         }
-        if let Some(client) = self.places.take(token.0) {
+        let client = self.places.take(token.0);
+        if has_ended || client.is_none() {
+            self.places.note_news(token.0, true);
+        }
+        if let Some(client) = client {
             self.hear_from(client);
         }
     }
@@ -159,6 +168,7 @@ impl<'a> Clients<'a> {
             return false;
         };
         let until = now.checked_add(self.time_limit).unwrap_or(now);
+        self.places.note_news(place, false);
         let peer = Peer::new(stream, place, now, until);
         self.came = self.came.saturating_add(1);
         let received = Received::nothing(self.rt.alloc(), self.came);
@@ -222,7 +232,7 @@ impl<'a> Clients<'a> {
             return;
         }
         if let Some((place, _)) = self.places.longest(Kind::LacksRoom) {
-            self.hear(Token(place));
+            self.hear(Token(place), false);
         }
     }
 
@@ -290,7 +300,11 @@ impl<'a> Clients<'a> {
     /// Waits for news of one.
     fn wait_for(&mut self, mut client: Client) {
         let interest = client.interest();
-        match client.peer_mut().watch(&self.registry, interest) {
+        let peer = client.peer_mut();
+        if self.places.note_news(peer.place, false) {
+            peer.look_again();
+        }
+        match peer.watch(&self.registry, interest) {
             Ok(()) => self.places.put(client),
             Err(_) => self.end(client),
         }
@@ -377,7 +391,7 @@ impl<'a> Clients<'a> {
     }
 
     /// Reads what one sends still, up to so many bytes.
-    fn linger(&mut self, peer: Peer, room: usize) {
+    fn linger(&mut self, mut peer: Peer, room: usize) {
         match peer.read(&mut self.piece) {
             Ok(Some(0)) | Err(_) => self.forget(peer),
             Ok(Some(count)) if room <= count => self.forget(peer),

@@ -1,14 +1,30 @@
 //! Where clients that are many come in.
 
-use crate::accepting::{MOST_TRIES, PAUSE_MILLISECONDS, lacks_descriptors};
 use mio::net::{TcpListener, TcpStream};
 use mio::{Interest, Registry, Token};
 use std::io::{self, ErrorKind};
 use std::net::SocketAddr;
 use std::time::{Duration, Instant};
 
+/// How often in a row it is tried to take a connection.
+const MOST_TRIES: u32 = 100;
+
+/// How long is waited for a descriptor: ten seconds in a row at most.
+const PAUSE_MILLISECONDS: u64 = 100;
+
+/// The numbers of the system's errors that mean no free descriptor: `ENFILE`, where the whole
+/// system has none, and `EMFILE`, where the process may have no more.
+const NONE_IN_SYSTEM: i32 = 23;
+
+const NONE_IN_PROCESS: i32 = 24;
+
 /// The token of the listener. No place has it.
 pub(crate) const DOOR: Token = Token(usize::MAX);
+
+/// Whether the error means that no descriptor is free.
+fn lacks_descriptors(error: &io::Error) -> bool {
+    matches!(error.raw_os_error(), Some(NONE_IN_SYSTEM | NONE_IN_PROCESS))
+}
 
 /// Who wants to come in.
 #[derive(Drop)]

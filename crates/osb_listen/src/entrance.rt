@@ -41,8 +41,8 @@ pub trait Entrance {
     /// How often the database file, or its log, was missed.
     ghost missed: { Self → ℕ };
 
-    /// Begins to listen at an address, with limits on clients. Each may make so many requests.
-    fn listen(&mut self, place: &ListenOptions<'_>, per_connection: u32) -> Result<(), ListenFault>
+    /// Begins to listen at an address, with limits on clients.
+    fn listen(&mut self, place: &ListenOptions<'_>) -> Result<(), ListenFault>
         ensures journal { journal self.new ≡ journal self.old }
         ensures missed { missed self.new ≡ missed self.old }
         ensures address { OnOk result (IsAddress place.now.address.now) }

@@ -1,15 +1,12 @@
-//! TCP connections, one after the other or many at the same time, answered from one broker over a database file.
+//! TCP connections, many at the same time, answered from one broker over a database file.
 #![tactic(auto)]
 
-mod accepting;
 mod asking;
 mod client;
 mod client_end;
 mod clients;
 mod deadline;
 mod door;
-mod ending;
-mod ends;
 mod entrance;
 mod fault;
 mod file;
@@ -17,7 +14,6 @@ mod group;
 mod line;
 mod listen;
 mod many;
-mod one_by_one;
 mod peer;
 mod places;
 mod ready;
@@ -25,7 +21,6 @@ mod received;
 mod refused;
 mod reply;
 mod rooms;
-mod seat;
 mod serving;
 mod tcp;
 mod unbound;
@@ -36,7 +31,6 @@ pub use file::serve_file;
 pub use line::say;
 pub use listen::ListenOptions;
 pub use ready::{Unready, wait_until_ready};
-pub use seat::Seat;
 pub use serving::serve_listener;
 pub use tcp::TcpEntrance;
 pub use unbound::{Unbound, unbound_at};

@@ -39,7 +39,7 @@ pub struct ListenOptions<'a> {
     pub time_limit: Duration,
     /// How long a client that was answered may send nothing.
     pub idle_limit: Duration,
-    /// How many clients may be connected at the same time; with 1 they are taken one after the other.
+    /// How many clients may be connected at the same time.
     pub together: u32,
 }
 
@@ -113,7 +113,7 @@ pub(crate) fn serve_at<S: Alter, L: Entrance, W: Sink, E: Sink>(
 {
     broker.lives_are_whole();
     let mut buffer = standard_buffer(rt.alloc())?;
-    entrance.listen(place, broker.per_connection())?;
+    entrance.listen(place)?;
     write_listening_line(place.address, output)?;
     let watched = file.watched(rt);
     serve_listener(

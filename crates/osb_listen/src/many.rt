@@ -60,7 +60,7 @@ impl<'a> ManyClients<'a> {
     /// Goes on with all the news. The moment after that.
     fn attend(&mut self) -> io::Result<Instant> {
         for event in &self.events {
-            self.clients.hear(event.token());
+            self.clients.hear(event.token(), event.is_read_closed());
         }
         let now = Instant::now(self.rt)?;
         self.clients.end_late(now);

@@ -17,8 +17,10 @@ pub struct Peer {
     pub(crate) since: Instant,
     /// When its time is over.
     pub(crate) until: Instant,
-    /// Whether it was looked for news of it.
-    is_watched: bool,
+    /// Of what news is reported.
+    watched: Option<Interest>,
+    /// Whether all that lay there was read, so that there is news of whatever comes.
+    is_drained: bool,
 }
 
 /// Whether the call would have waited.
@@ -33,19 +35,27 @@ impl Peer {
             place,
             since,
             until,
-            is_watched: false,
+            watched: None,
+            is_drained: false,
         }
     }
 
     /// Reads what lies there: nothing where nothing does, and no byte where the client has ended.
-    pub(crate) fn read(&self, buf: &mut [u8]) -> io::Result<Option<usize>>
+    pub(crate) fn read(&mut self, buf: &mut [u8]) -> io::Result<Option<usize>>
         ensures { IfOk result (λ read. IfSome read (λ n. n ≤ length buf.new)) }
     {
-        match (&mut &self.stream).read(buf) {
+        let read = (&mut &self.stream).read(buf);
+        self.is_drained = !matches!(read, Ok(n) if n == buf.len());
+        match read {
             Ok(n) => Ok(Some(n)),
             Err(error) if is_later(&error) => Ok(None),
             Err(error) => Err(error),
         }
+    }
+
+    /// Has what lies there be news, although it may have been reported.
+    pub(crate) fn look_again(&mut self) {
+        self.is_drained = false;
     }
 
     /// Writes what is taken at once: nothing where nothing is.
@@ -77,10 +87,13 @@ impl Peer {
     /// Has news of it reported under the number of its place, also of what lies there already.
     pub(crate) fn watch(&mut self, registry: &Registry, interest: Interest) -> io::Result<()> {
         let token = Token(self.place);
-        if self.is_watched {
-            return registry.reregister(&mut self.stream, token, interest);
+        let before = self.watched.replace(interest);
+        if before.is_none() {
+            return registry.register(&mut self.stream, token, interest);
         }
-        self.is_watched = true;
-        registry.register(&mut self.stream, token, interest)
+        if self.is_drained && interest == Interest::READABLE && before == Some(interest) {
+            return Ok(());
+        }
+        registry.reregister(&mut self.stream, token, interest)
     }
 }

@@ -2,6 +2,7 @@
 
 use crate::client::{Client, Kind};
 use std::alloc::{AllocError, Global};
+use std::mem;
 use std::time::Instant;
 
 /// The earlier of two moments.
@@ -18,6 +19,8 @@ pub(crate) fn earlier(one: Option<Instant>, other: Option<Instant>) -> Option<In
 #[derive(Drop)]
 pub(crate) struct Places {
     clients: Vec<Option<Client>>,
+    /// Of whom there was news while nobody waited for it.
+    news: Vec<bool>,
     /// The numbers of the free places.
     free: Vec<usize>,
     /// The next moment at which somebody's time may be over.
@@ -28,13 +31,16 @@ impl Places {
     /// So many places, which are free.
     pub(crate) fn new(alloc: Global, count: usize) -> Result<Places, AllocError> {
         let mut clients = Vec::with_capacity(alloc, count)?;
+        let mut news = Vec::with_capacity(alloc, count)?;
         let mut free = Vec::with_capacity(alloc, count)?;
         for place in 0..count {
             clients.push(None)?;
+            news.push(false)?;
             free.push(place)?;
         }
         Ok(Places {
             clients,
+            news,
             free,
             alarm: None,
         })
@@ -64,6 +70,14 @@ impl Places {
         self.wake_by(client.peer().until);
         if let Some(at) = self.clients.get_mut(place) {
             *at = Some(client);
+        }
+    }
+
+    /// Notes whether there is news that nobody has looked at of the one at a place. Whether there was some before.
+    pub(crate) fn note_news(&mut self, place: usize, is_there: bool) -> bool {
+        match self.news.get_mut(place) {
+            Some(noted) => mem::replace(noted, is_there),
+            None => false,
         }
     }
 

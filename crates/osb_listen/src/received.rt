@@ -132,7 +132,7 @@ impl Received {
     }
 
     /// Takes in what lies there. Whether anything did.
-    fn take_piece(&mut self, peer: &Peer, piece: &mut [u8]) -> io::Result<bool> {
+    fn take_piece(&mut self, peer: &mut Peer, piece: &mut [u8]) -> io::Result<bool> {
         let free = self.bytes.capacity().saturating_sub(self.bytes.len());
         let free = free.min(piece.len());
         let Some(count) = peer.read(&mut piece[..free])? else {
@@ -147,7 +147,7 @@ impl Received {
     /// served as one whose read failed, or if it was idle as one who ended. One who sent nothing has no room.
     pub(crate) fn take_in(
         &mut self,
-        peer: &Peer,
+        peer: &mut Peer,
         rooms: &mut Rooms,
         piece: &mut [u8],
         lines: &mut LineRoom,

@@ -4,7 +4,7 @@
 use osb_cli::{HostFiles, run, words_unread};
 use osb_file::AtPath;
 use osb_frames::{Counted, Sink};
-use osb_listen::{Seat, TcpEntrance};
+use osb_listen::TcpEntrance;
 use sqlite::{Start, Unknown};
 use std::io;
 use std::process::ExitCode;
@@ -24,8 +24,7 @@ fn run_over<S: Start, W: Sink, E: Sink>(
     errors: &mut E,
 ) -> u8 {
     let files = HostFiles::new(rt);
-    let seat = Seat::empty();
-    let mut entrance = TcpEntrance::new(rt, &seat);
+    let mut entrance = TcpEntrance::new(rt);
     let mut input = Counted::new(rt.stdin());
     let (status, _) = run(
         rt,

@@ -142,11 +142,7 @@ impl<'a> Entrance for Queue<'a> {
 
     ghost missed = { λ _. 0 };
 
-    fn listen(
-        &mut self,
-        place: &ListenOptions<'_>,
-        _per_connection: u32,
-    ) -> Result<(), ListenFault> {
+    fn listen(&mut self, place: &ListenOptions<'_>) -> Result<(), ListenFault> {
         match place.address.parse::<SocketAddr>() {
             Ok(_) => Ok(()),
             Err(_) => Err(ListenFault::CannotListen),
