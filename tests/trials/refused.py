@@ -179,13 +179,13 @@ def each_refused(machine, conversation, first_alone=False, lines="", echo="", wa
     return told(count, failed)
 
 
-TWO_REQUESTS = ("--per-connection", "2")
+MANY_REQUESTS = ("--per-connection", "1000")
 
 
 def both(served, first, second, growth=0):
-    """How many of the two requests of a connection were answered before a 500; and whether a growth was
+    """How many of the two requests of a kept connection were answered before a 500; and whether a growth was
     refused."""
-    sent = request(*first[:3]) + request(*second[:3])
+    sent = request(*first[:3]) + request(*second[:3], CLOSE)
     found, refused = served.refusing(sent, growth)
     opened = reply(*first[3:], closes=False)
     possible = [REFUSED_REPLY, opened + REFUSED_REPLY, opened + reply(*second[3:])]
@@ -201,7 +201,7 @@ def twice_refused(machine):
     refused = True
     while refused:
         growth += 1
-        with machine.serving(*TWO_REQUESTS) as served:
+        with machine.serving(*MANY_REQUESTS) as served:
             answered, refused = both(served, first, second, growth)
             rows = rows_of(served.files())
             if rows != (ROWS_OF_I if answered else NO_ROWS):
@@ -236,7 +236,7 @@ def each_before_another(machine, conversation):
     for place, asked in enumerate(conversation):
         growth, refused = 0, True
         while refused:
-            with machine.serving(*TWO_REQUESTS) as served:
+            with machine.serving(*MANY_REQUESTS) as served:
                 go(served, conversation[:place], CLOSE)
                 growth, more, refused = refused_before(served, asked, growth + 1)
                 failed += more

@@ -200,9 +200,7 @@ fn together_option<'a>(alloc: Global) -> Arg<'a>
     Arg::new(alloc, "together")
         .long("together")
         .value_name("N")
-        .help(
-            "How many clients are connected at the same time, 1 to 1024; without it 1024, or 1 with more than one request of a connection",
-        )
+        .help("How many clients are connected at the same time, 1 to 1024; without it 1024")
         .value_parser(value_parser!(u32).range(1..=1024))
 }
 
