@@ -5,7 +5,7 @@ that keep these connections. Prints a table of docs/MEASUREMENTS.md.
 usage: measure/kept.py [--rounds N] [--seconds S] [--folder F] [--clients N,..] [--kinds K,..] PROGRAM
 
 In each round all are measured one after the other, each over a new database in the folder. Clients keep their connections
-to the proxy, which are plain ones here. Of all rounds the median stands in the table, with the least and the most.
+to the proxy, which are plain ones here. The table has the median of all rounds, the least and the most.
 """
 
 import argparse

@@ -9,8 +9,8 @@ usage: measure/measure.py [--rounds N] [--seconds S] [--folder F] [--kinds K,..]
 In each round all servers are measured one after the other, each over a new database in the folder,
 and starts over a database that the same program made. A cell is how many requests a connection has, and how many
 clients there are. Without instances starts aren't measured (`--instances ''`).
-A ratio is that of the last program to another server in the same round; of all rounds the median
-stands in the tables, with the least and the most. The server in C needs libsqlite3 and its header.
+A ratio is that of the last program to another server in the same round; the tables
+have the median of all rounds, the least and the most. The server in C needs libsqlite3 and its header.
 """
 
 import argparse
